@@ -1,0 +1,12 @@
+pub mod Information
+pub mod Bindings
+pub mod Actions
+pub mod Yielding
+pub mod Acting
+pub mod Steps
+pub mod Performances
+pub mod Need
+pub mod Labels
+pub mod Trees
+pub mod Numbering
+pub mod Meaning

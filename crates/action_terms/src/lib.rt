@@ -1,0 +1,5 @@
+//! Actions: their nodes, their information, and what an action may do. The meaning of an action
+//! stands in `specs/`, as definitions alone; the code here makes graphs of nodes.
+#![tactic(auto)]
+
+pub mod kinds;
