@@ -1,0 +1,6 @@
+pub mod Bytes
+pub mod Arithmetic
+pub mod Table
+pub mod Encode
+pub mod Machine
+pub mod Images
