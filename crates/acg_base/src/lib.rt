@@ -2,6 +2,7 @@
 #![tactic(auto)]
 
 mod capacity;
+mod decimal;
 mod folder_store;
 mod limits;
 mod list_sink;
@@ -15,6 +16,7 @@ mod store;
 mod words;
 
 pub use capacity::Capacity;
+pub use decimal::{decimal_into, read_decimal, unsigned_into};
 pub use folder_store::FolderStore;
 pub use limits::{
     LIMIT_ACTION, LIMIT_DESCRIPTION, LIMIT_IMAGE, LIMIT_INPUT, LIMIT_LEXEMES, LIMIT_NODES,
