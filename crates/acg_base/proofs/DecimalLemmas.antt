@@ -26,11 +26,12 @@ decimal_within-spare : (more less number : ℕ) → number < more → number < l
 decimal_within-spare zero less number h k = absurd (omega arith)
 decimal_within-spare (suc more) zero number h k = absurd (omega arith)
 decimal_within-spare (suc more) (suc less) number h k =
-    elim (nat_lt number 10) as (λ t. nat_lt number 10 ≡ t → decimal_within (suc more) number ≡ decimal_within (suc less) number)
-    [ true ↦ λ e. let small : number < 10 = search rules in rw (decimal_within-digit more number small, decimal_within-digit less number small) refl
-    | false ↦ λ e. let large : 10 ≤ number = search rules in
-        let same : decimal_within more (number / 10) ≡ decimal_within less (number / 10) = decimal_within-spare more less (number / 10) (omega arith) (omega arith) in
-        rw (decimal_within-step more number large, decimal_within-step less number large, same) refl ] refl
+    elim (nat_lt number 10) as (λ t. nat_lt number 10 ≡ t → decimal_within (suc more) number ≡ decimal_within (suc less) number) [
+      | true ↦ λ e. let small : number < 10 = search rules in rw (decimal_within-digit more number small, decimal_within-digit less number small) refl
+      | false ↦ λ e. let large : 10 ≤ number = search rules in
+          let same : decimal_within more (number / 10) ≡ decimal_within less (number / 10) = decimal_within-spare more less (number / 10) (omega arith) (omega arith) in
+          rw (decimal_within-step more number large, decimal_within-step less number large, same) refl
+    ] refl
 
 -- the recursion of the decimal: a number below ten is its one digit
 pub unsigned_decimal_of-digit : (number : ℕ) → number < 10 → unsigned_decimal_of number ≡ (48 + number) ∷ []

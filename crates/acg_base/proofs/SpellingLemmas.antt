@@ -19,10 +19,11 @@ pub record Spells (bytes : List ℕ) (number : ℕ) : Type 0 where
 
 spelled_number-some : (bytes : List ℕ) (number : ℕ) → spelled_number bytes ≡ Some number → Spells bytes number
 spelled_number-some bytes number h =
-    elim (nat_lt 0 (length bytes)) as (λ t. nat_lt 0 (length bytes) ≡ t → cond (t && all_ascii_digits bytes) (Some (number_of bytes)) None ≡ Some number → Spells bytes number)
-    [ false ↦ λ e k. cc
-    | true ↦ λ e k. elim (all_ascii_digits bytes) as (λ t. all_ascii_digits bytes ≡ t → cond t (Some (number_of bytes)) None ≡ Some number → Spells bytes number)
-        [ false ↦ λ d j. cc | true ↦ λ d j. record { some = search rules; digits = d; value = cc } ] refl k ] refl h
+    elim (nat_lt 0 (length bytes)) as (λ t. nat_lt 0 (length bytes) ≡ t → cond (t && all_ascii_digits bytes) (Some (number_of bytes)) None ≡ Some number → Spells bytes number) [
+      | false ↦ λ e k. cc
+      | true ↦ λ e k. elim (all_ascii_digits bytes) as (λ t. all_ascii_digits bytes ≡ t → cond t (Some (number_of bytes)) None ≡ Some number → Spells bytes number)
+          [ false ↦ λ d j. cc | true ↦ λ d j. record { some = search rules; digits = d; value = cc } ] refl k
+    ] refl h
 
 fits-minus : (number : ℕ) → number ≤ 2 ^ 63 → fits_i64 (neg_ℤ (pos number)) ≡ true
 fits-minus zero h = refl
@@ -58,17 +59,19 @@ some-of false x y h = cc
 -- bytes that spell an integer of 64 signed bits behind a minus
 pub spelled_i64-minus : (bytes : List ℕ) (integer : ℤ) → spelled_i64 (45 ∷ bytes) ≡ Some integer → (number : ℕ) × Spells bytes number × (number ≤ 2 ^ 63)
 spelled_i64-minus bytes integer h =
-    elim (spelled_number bytes) as (λ o. spelled_number bytes ≡ o → option_and_then (λ z. cond (fits_i64 z) (Some z) None) (option_map (λ n. neg_ℤ (pos n)) o) ≡ Some integer → (number : ℕ) × Spells bytes number × (number ≤ 2 ^ 63))
-    [ None ↦ λ e k. cc
-    | Some number ↦ λ e k. (number, spelled_number-some bytes number e, fits-minus-bound number ((some-of (fits_i64 (neg_ℤ (pos number))) (neg_ℤ (pos number)) integer k).0)) ] refl h
+    elim (spelled_number bytes) as (λ o. spelled_number bytes ≡ o → option_and_then (λ z. cond (fits_i64 z) (Some z) None) (option_map (λ n. neg_ℤ (pos n)) o) ≡ Some integer → (number : ℕ) × Spells bytes number × (number ≤ 2 ^ 63)) [
+      | None ↦ λ e k. cc
+      | Some number ↦ λ e k. (number, spelled_number-some bytes number e, fits-minus-bound number ((some-of (fits_i64 (neg_ℤ (pos number))) (neg_ℤ (pos number)) integer k).0))
+    ] refl h
 
 -- bytes that spell one with no minus
 pub spelled_i64-plain : (byte : ℕ) (bytes : List ℕ) (integer : ℤ) → eqb byte 45 ≡ false → spelled_i64 (byte ∷ bytes) ≡ Some integer → (number : ℕ) × Spells (byte ∷ bytes) number × (number < 2 ^ 63)
 spelled_i64-plain byte bytes integer apart h =
     let h2 : option_and_then (λ z. cond (fits_i64 z) (Some z) None) (option_map pos (spelled_number (byte ∷ bytes))) ≡ Some integer = rw apart at h in
-    elim (spelled_number (byte ∷ bytes)) as (λ o. spelled_number (byte ∷ bytes) ≡ o → option_and_then (λ z. cond (fits_i64 z) (Some z) None) (option_map pos o) ≡ Some integer → (number : ℕ) × Spells (byte ∷ bytes) number × (number < 2 ^ 63))
-    [ None ↦ λ e k. cc
-    | Some number ↦ λ e k. (number, spelled_number-some (byte ∷ bytes) number e, (let test : nat_lt number (2 ^ 63) ≡ true = (some-of (fits_i64 (pos number)) (pos number) integer k).0 in search rules)) ] refl h2
+    elim (spelled_number (byte ∷ bytes)) as (λ o. spelled_number (byte ∷ bytes) ≡ o → option_and_then (λ z. cond (fits_i64 z) (Some z) None) (option_map pos o) ≡ Some integer → (number : ℕ) × Spells (byte ∷ bytes) number × (number < 2 ^ 63)) [
+      | None ↦ λ e k. cc
+      | Some number ↦ λ e k. (number, spelled_number-some (byte ∷ bytes) number e, (let test : nat_lt number (2 ^ 63) ≡ true = (some-of (fits_i64 (pos number)) (pos number) integer k).0 in search rules))
+    ] refl h2
 
 pub spelled_i64-minus_of : (bytes : List ℕ) → all_ascii_digits bytes ≡ true → 0 < length bytes → number_of bytes ≤ 2 ^ 63 → spelled_i64 (45 ∷ bytes) ≡ Some (neg_ℤ (pos (number_of bytes)))
 spelled_i64-minus_of bytes digits some fits = rw (spelled_number-digits bytes some digits, fits-minus (number_of bytes) fits) refl

@@ -23,7 +23,7 @@ abbrev pub after_write : SinkState → List ℕ → SinkState
 after_write sink piece = record sink {
   bytes = if is_to_fail sink then sink.bytes else sink.bytes ++ take (sink.room - length sink.bytes) piece;
   writes = counted sink.writes;
-  faults = if write_fails sink piece then counted sink.faults else sink.faults
+  faults = if write_fails sink piece then counted sink.faults else sink.faults;
 }
 
 -- an empty sink at its start

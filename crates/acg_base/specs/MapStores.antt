@@ -49,7 +49,7 @@ write_fails store = is_listed store.failing_writes store.writes
 abbrev pub after_read : MapState → List ℕ → MapState
 after_read store name = record store {
   reads = counted store.reads;
-  failed_reads = if read_fails store name then counted store.failed_reads else store.failed_reads
+  failed_reads = if read_fails store name then counted store.failed_reads else store.failed_reads;
 }
 
 -- the store after a write that leaves these files: the call is counted, and its fault
@@ -57,7 +57,7 @@ abbrev pub after_write : MapState → List File → MapState
 after_write store files = record store {
   files = files;
   writes = counted store.writes;
-  failed_writes = if write_fails store then counted store.failed_writes else store.failed_writes
+  failed_writes = if write_fails store then counted store.failed_writes else store.failed_writes;
 }
 
 -- a store of these files at its start, with the numbers of the reads and writes that are to fail
@@ -69,7 +69,7 @@ fresh files reads writes = record {
   reads = 0;
   writes = 0;
   failed_reads = 0;
-  failed_writes = 0
+  failed_writes = 0;
 }
 
 -- the place of the first file of that name

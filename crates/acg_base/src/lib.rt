@@ -31,3 +31,8 @@ pub use sink::{Sink, SinkError};
 pub use status::Status;
 pub use store::{Store, StoreError};
 pub use words::Words;
+
+#[cfg(test)]
+mod callers;
+#[cfg(test)]
+mod tests;

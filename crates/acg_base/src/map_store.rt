@@ -32,13 +32,13 @@ impl Model for MapStore {
     ghost Value = { MapState };
 
     ghost view = { λ store. record {
-        files = map plain_file store.files.items;
-        failing_reads = store.failing_reads.items;
-        failing_writes = store.failing_writes.items;
-        reads = store.reads;
-        writes = store.writes;
-        failed_reads = store.failed_reads;
-        failed_writes = store.failed_writes
+      files = map plain_file store.files.items;
+      failing_reads = store.failing_reads.items;
+      failing_writes = store.failing_writes.items;
+      reads = store.reads;
+      writes = store.writes;
+      failed_reads = store.failed_reads;
+      failed_writes = store.failed_writes;
     } };
 }
 
