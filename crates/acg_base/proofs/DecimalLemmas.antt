@@ -1,11 +1,10 @@
 -- The decimal of a number: its recursion, its length, and that its digits spell the number.
-use Rattle.std.proofs.Common.{◌≡◌, ℕ, zero, suc, ◌+◌, ◌-◌, ◌*◌, ◌/◌, ◌%◌, ◌^◌, ◌<◌, ◌≤◌, Bool, true, false, cond, ◌&&◌, eqb, List, [], ◌∷◌, ◌++◌, length, Some, None, Option, refl, sym, ap, ◌∙◌, arith, rules, length-append, lit≤, lit<, nat_lt, ℤ, pos, negsuc}
+use Rattle.std.proofs.Common.{◌≡◌, ℕ, zero, suc, ◌+◌, ◌/◌, ◌%◌, ◌^◌, ◌<◌, ◌≤◌, true, false, eqb, List, [], ◌∷◌, ◌++◌, length, Some, refl, ap, ◌∙◌, arith, rules, length-append, lit<, nat_lt, pos}
 use Rattle.std.specs.Fmt.{decimal}
-use Rattle.std.specs.Option.{option_map, option_and_then}
 use Rattle.std.specs.Str.{all_ascii_digits}
 use Rattle.std.proofs.lemmas.Fmt.{AppendsLastDigit, decimal_from_appends, length-decimal-le_succ, length-decimal-le, decimal_nonempty, digits_decimal, digits_value-decimal}
 use Rattle.std.proofs.lemmas.Str.Parse.{IsNumeralModel, numerals_by_weight, tells_all_ascii_digits}
-use Rattle.acg_base.specs.Decimals.{decimal_within, unsigned_decimal_of, decimal_of, number_of, spelled_number, spelled_integer, spelled_i64, fits_i64}
+use Rattle.acg_base.specs.Decimals.{decimal_within, unsigned_decimal_of, number_of, spelled_number, spelled_integer}
 
 decimal_within-digit : (places number : ℕ) → number < 10 → decimal_within (suc places) number ≡ (48 + number) ∷ []
 unfolding decimal_within

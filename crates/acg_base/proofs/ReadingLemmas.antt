@@ -1,5 +1,5 @@
 -- `parse` reads exactly the integers that bytes spell with no plus.
-use Rattle.std.proofs.Common.{◌≡◌, ◌≢◌, ℕ, zero, suc, ◌<◌, ◌≤◌, ◌^◌, Bool, true, false, eqb, List, [], ◌∷◌, length, get_or, Some, None, Option, Ok, Err, Result, refl, sym, ap, ◌∙◌, arith, rules, nat_lt, ℤ, pos, neg_ℤ, w64}
+use Rattle.std.proofs.Common.{◌≡◌, ◌≢◌, ℕ, zero, suc, ◌<◌, ◌≤◌, ◌^◌, true, false, eqb, List, [], ◌∷◌, length, get_or, Some, None, Ok, Err, Result, refl, sym, ap, ◌∙◌, arith, rules, ℤ, pos, neg_ℤ, w64}
 use Rattle.std.specs.Result.{result_ok, OkIff}
 use Rattle.std.specs.Str.{all_ascii_digits, IsUtf8, IsAscii}
 use Rattle.std.specs.Str.Parse.{ParsesSigned}
@@ -7,9 +7,9 @@ use Rattle.std.proofs.lemmas.Str.{IsUtf8-from_ascii}
 use Rattle.std.proofs.lemmas.Str.Ascii.{IsAscii-nil}
 use Rattle.std.proofs.lemmas.Fmt.{IsAscii-from_digits}
 use Rattle.std.proofs.lemmas.Str.Parse.{parse_signed_minus, parse_signed_plain}
-use Rattle.acg_base.specs.Decimals.{number_of, spelled_number, spelled_i64, fits_i64}
+use Rattle.acg_base.specs.Decimals.{number_of, spelled_i64}
 use Rattle.acg_base.proofs.DecimalLemmas.{spelling}
-use Rattle.acg_base.proofs.SpellingLemmas.{Spells, spelled_i64-minus, spelled_i64-plain, spelled_i64-minus_of, spelled_i64-plain_of}
+use Rattle.acg_base.proofs.SpellingLemmas.{spelled_i64-minus, spelled_i64-plain, spelled_i64-minus_of, spelled_i64-plain_of}
 
 -- nothing is spelled where a spelled integer would be absurd
 spells_nothing : (bytes : List ℕ) → ((integer : ℤ) → spelled_i64 bytes ≡ Some integer → ⊥) → None ≡ spelled_i64 bytes

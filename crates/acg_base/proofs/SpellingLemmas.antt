@@ -1,15 +1,10 @@
 -- What bytes spell: the decimal of an integer spells it, and `parse` reads exactly what is spelled.
-use Rattle.std.proofs.Common.{◌≡◌, ◌≢◌, ℕ, zero, suc, ◌+◌, ◌-◌, ◌*◌, ◌^◌, ◌<◌, ◌≤◌, ◌≤ℤ◌, ◌<ℤ◌, Bool, true, false, cond, ◌&&◌, eqb, List, [], ◌∷◌, length, get_or, Some, None, Option, Ok, Err, Result, refl, sym, ap, ◌∙◌, subst, arith, rules, nat_lt, ℤ, pos, negsuc, neg_ℤ, w64, FitsSigned}
+use Rattle.std.proofs.Common.{◌≡◌, ℕ, zero, suc, ◌^◌, ◌<◌, ◌≤◌, ◌≤ℤ◌, ◌<ℤ◌, Bool, true, false, cond, ◌&&◌, eqb, List, ◌∷◌, length, Some, None, refl, arith, rules, nat_lt, ℤ, pos, negsuc, neg_ℤ, w64, FitsSigned}
 use Rattle.std.specs.Prelude.{nat_abs}
 use Rattle.std.specs.Option.{option_map, option_and_then}
-use Rattle.std.specs.Result.{result_ok, OkIff}
-use Rattle.std.specs.Str.{all_ascii_digits, IsUtf8}
-use Rattle.std.specs.Str.Parse.{ParsesSigned}
-use Rattle.std.proofs.lemmas.Str.{IsUtf8-from_ascii}
-use Rattle.std.proofs.lemmas.Fmt.{IsAscii-from_digits}
-use Rattle.std.proofs.lemmas.Str.Parse.{IsNumeralModel, parse_signed_minus, parse_signed_plain}
-use Rattle.acg_base.specs.Decimals.{unsigned_decimal_of, decimal_of, number_of, spelled_number, spelled_integer, spelled_i64, fits_i64}
-use Rattle.acg_base.proofs.DecimalLemmas.{spelling, spelled_number-digits, spelled_integer-digits, spelled_number-unsigned_decimal_of, spelled_integer-unsigned_decimal_of}
+use Rattle.std.specs.Str.{all_ascii_digits}
+use Rattle.acg_base.specs.Decimals.{unsigned_decimal_of, decimal_of, number_of, spelled_number, spelled_i64, fits_i64}
+use Rattle.acg_base.proofs.DecimalLemmas.{spelled_number-digits, spelled_integer-digits, spelled_number-unsigned_decimal_of, spelled_integer-unsigned_decimal_of}
 
 -- one digit or more, and the number that they spell
 pub record Spells (bytes : List ℕ) (number : ℕ) : Type 0 where

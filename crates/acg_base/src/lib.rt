@@ -1,6 +1,7 @@
 //! What every crate of the compiler generator stands on: words, names, limits and statuses, decimals, stores and sinks.
 #![tactic(auto)]
 
+mod call_numbers;
 mod capacity;
 mod decimal;
 mod folder_store;

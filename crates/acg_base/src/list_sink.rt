@@ -2,7 +2,7 @@
 
 ghost use Rattle.std.specs.Prelude.{◌≡◌, IfOk};
 
-use crate::map_store::is_listed;
+use crate::call_numbers::is_listed;
 use crate::memory::Memory;
 use crate::sink::{Sink, SinkError};
 use std::alloc::Global;

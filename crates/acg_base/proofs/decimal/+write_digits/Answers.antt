@@ -1,4 +1,4 @@
-use Rattle.std.proofs.Common.{◌≡◌, ◌+◌, ◌/◌, ◌%◌, ◌<◌, ◌≤◌, [], ◌∷◌, ◌++◌, length, take, sym, ap, ◌∙◌, arith, append_assoc}
+use Rattle.std.proofs.Common.{◌+◌, ◌/◌, ◌%◌, ◌<◌, [], ◌∷◌, ◌++◌, length, take, sym, ap, ◌∙◌, arith, append_assoc}
 use Rattle.std.proofs.lemmas.List.{take_more_set}
 use Rattle.acg_base.specs.Decimals.{unsigned_decimal_of}
 use Rattle.acg_base.proofs.DecimalLemmas.{unsigned_decimal_of-digit, unsigned_decimal_of-step, length-unsigned_decimal_of-digit, length-unsigned_decimal_of-step}

@@ -1,4 +1,4 @@
-use Rattle.std.proofs.Common.{◌≡◌, ◌≢◌, get_or, sym, ap, ◌∙◌, rules}
+use Rattle.std.proofs.Common.{◌≢◌, get_or, sym, ap, ◌∙◌, rules}
 use Rattle.acg_base.specs.Decimals.{spelled_i64}
 use Rattle.acg_base.proofs.ReadingLemmas.{spelled_i64-from_parse, spelled_i64-no_text, no_plus}
 use Rattle.acg_base.proofs.decimal.read_decimal.Goals as goal
