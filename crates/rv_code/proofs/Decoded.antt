@@ -66,9 +66,10 @@ op-back op w h e =
 i-whole : (w : ℕ) (c : Code) → w < 2 ^ 32 → has_fields w (fixed_code c) ≡ true → (has_bits 12 (i_immediate w) ≡ true) × (i_word (bits_of_integer 12 (i_immediate w)) (field w 19 15) c (field w 11 7) ≡ w)
 i-whole w c h e =
     let k = code-of w c e in
-    let b : field w 31 20 < 2 ^ 12 = omega arith in
-    (has_bits-integer 12 (field w 31 20) (omega arith) b,
-      ap (λ x. i_word x (field w 19 15) c (field w 11 7)) (bits_of_integer-integer 12 (field w 31 20) b) ∙ i_word-whole w c h k.funct3 k.opcode)
+    let b : field w 31 20 < 2 ^ 12 = omega arith in (
+      has_bits-integer 12 (field w 31 20) (omega arith) b,
+      ap (λ x. i_word x (field w 19 15) c (field w 11 7)) (bits_of_integer-integer 12 (field w 31 20) b) ∙ i_word-whole w c h k.funct3 k.opcode,
+    )
 
 op_imm-back : (op : OpImmOp) → WritesBack (op_imm_row op)
 unfolding WritesBack

@@ -1,5 +1,5 @@
 -- The word of an instruction that has one is decoded to that instruction.
-use Rattle.std.proofs.Common.{◌≡◌, ℕ, ◌^◌, ◌<◌, Bool, true, false, ◌&&◌, Some, None, ℤ, refl, ap, subst, arith, eq-eqb, ltb-true, nat_lt, cond}
+use Rattle.std.proofs.Common.{◌≡◌, ℕ, ◌^◌, ◌<◌, Bool, true, false, ◌&&◌, Option, Some, None, IfSome, ℤ, refl, sym, ap, subst, arith, eq-eqb, ltb-true, nat_lt, cond}
 use Rattle.rv_code.specs.declared.instruction.Inst.{Inst}
 use Rattle.rv_code.specs.declared.instruction.Inst.TheVariants.{Op, OpImm, Shift, Load, Store, Branch, Upper, Jal, Jalr, Fence, Ecall, Ebreak}
 use Rattle.rv_code.specs.declared.instruction.OpOp.{OpOp}
@@ -149,3 +149,7 @@ pub encode-below : (i : Inst) (w : ℕ) → encode i ≡ Some w → w < 2 ^ 32
 encode-below i w e =
     let s = encoded (is_encodable i) (word_of i) w e in
     subst (λ v. v < 2 ^ 32) s.1 (word_of-below i s.0)
+
+pub decoded-encode : (i : Inst) (r : Option ℕ) → r ≡ encode i → IfSome r (λ w. decode w ≡ Some i)
+decoded-encode i None e = tt
+decoded-encode i (Some w) e = decode-encode i w (sym e)
