@@ -5,3 +5,4 @@ pub mod Rows
 pub mod Codes
 pub mod Words
 pub mod Decoded
+pub mod Search

@@ -19,14 +19,14 @@ and-parts : (a b : Bool) → a && b ≡ true → (a ≡ true) × (b ≡ true)
 and-parts true b e = (refl, e)
 and-parts false b e = absurd (cc)
 
-both : (a b : Bool) → a ≡ true → b ≡ true → a && b ≡ true
+pub both : (a b : Bool) → a ≡ true → b ≡ true → a && b ≡ true
 both a b p q = rw (p, q) refl
 
-found : (w : ℕ) (r : Row) (i : Inst) → IsRow r → fits w r ≡ true → r.instruction w ≡ i → decode w ≡ Some i
+pub found : (w : ℕ) (r : Row) (i : Inst) → IsRow r → fits w r ≡ true → r.instruction w ≡ i → decode w ≡ Some i
 unfolding decode row
 found w r i h p e = rw (first-fit-at w h.place r h.is_there p) (ap Some e)
 
-code-fits : (w : ℕ) (c : Code) → field w 14 12 ≡ c.funct3 → field w 6 0 ≡ c.opcode → has_fields w (fixed_code c) ≡ true
+pub code-fits : (w : ℕ) (c : Code) → field w 14 12 ≡ c.funct3 → field w 6 0 ≡ c.opcode → has_fields w (fixed_code c) ≡ true
 code-fits w c p q = both _ _ (eq-eqb _ _ p) (both _ _ (eq-eqb _ _ q) refl)
 
 -- ---- an instruction is read from the fields of its format
