@@ -6,3 +6,4 @@ pub mod Codes
 pub mod Words
 pub mod Decoded
 pub mod Search
+pub mod Found

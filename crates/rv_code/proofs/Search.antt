@@ -27,7 +27,7 @@ use Rattle.rv_code.proofs.Decoded.{HasCode, HasFullCode, op-code-of, shift-code-
 -- ---- every row is found
 
 -- the way by opcodes comes to what the row makes of a word
-IsFound : Row → Type 0
+unfoldable pub IsFound : Row → Type 0
 IsFound r = (w : ℕ) → w < 2 ^ 32 → fits w r ≡ true → search (field w 6 0) w ≡ Some (r.instruction w)
 
 op-search : (op : OpOp) (w : ℕ) → HasFullCode w 5 (op_code op) → search (field w 6 0) w ≡ Some (Op op (field w 11 7) (field w 19 15) (field w 24 20))
@@ -169,8 +169,8 @@ mapped : {X : Type 0} (f : X → Row) (xs : List X) → ((x : X) → IsFound (f 
 mapped f xs h = All-map IsFound f xs (λ k d l. h (get_or xs k d))
 
 -- rows that are found; a record, so that the lists are known from it
-record EachFound (rows : List Row) : Type 0 where
-  each : All IsFound rows
+pub record EachFound (rows : List Row) : Type 0 where
+  pub each : All IsFound rows
 
 together : {xs ys : List Row} → EachFound xs → EachFound ys → EachFound (xs ++ ys)
 together {xs} {ys} h k = record { each = All-append IsFound xs ys h.each k.each }
@@ -184,7 +184,7 @@ singles-found =
         (jal-found, (jalr-found, (fence-found, (word-found ecall_word Ecall (omega arith) refl, (word-found ebreak_word Ebreak (omega arith) refl, tt)))));
     }
 
-all-found : EachFound table
+pub all-found : EachFound table
 all-found =
     let upper : EachFound (map upper_row every_upper) = record { each = mapped upper_row every_upper upper-found } in
     let branch : EachFound (map branch_row every_branch) = record { each = mapped branch_row every_branch branch-found } in
