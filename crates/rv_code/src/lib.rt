@@ -2,6 +2,7 @@
 #![tactic(auto)]
 
 pub mod cause;
+pub mod decoding;
 pub mod encoding;
 pub mod instruction;
 
