@@ -194,6 +194,7 @@ together : {xs ys : List Row} → EachWritesBack xs → EachWritesBack ys → Ea
 together {xs} {ys} h k = record { each = All-append WritesBack xs ys h.each k.each }
 
 all-write-back : EachWritesBack table
+unfolding table
 all-write-back =
     let upper : EachWritesBack (map upper_row every_upper) = record { each = mapped upper_row every_upper upper-back } in
     let branch : EachWritesBack (map branch_row every_branch) = record { each = mapped branch_row every_branch branch-back } in

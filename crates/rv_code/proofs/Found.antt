@@ -1,27 +1,25 @@
 -- What the way by opcodes finds is what the table says.
-use Rattle.std.proofs.Common.{◌≡◌, ℕ, ◌+◌, ◌-◌, ◌*◌, ◌/◌, ◌%◌, ◌<◌, ◌^◌, Bool, true, false, ◌&&◌, Option, Some, None, List, [], ◌∷◌, ◌++◌, map, refl, sym, ap, ◌∙◌, subst, arith, cond, eq-eqb, eqb-true, nat_eq, get_or}
+use Rattle.std.proofs.Common.{◌≡◌, ℕ, ◌+◌, ◌<◌, ◌^◌, Bool, true, false, Option, Some, None, IfSome, IsNone, is_some, IsTrue, ◌↔◌, [], ◌∷◌, refl, sym, ap, ◌∙◌, subst, arith, cond, eq-eqb, eqb-true, nat_eq}
 use Rattle.std.specs.Prelude.{option_map}
 use Rattle.rv_code.specs.declared.instruction.Inst.{Inst}
-use Rattle.rv_code.specs.declared.instruction.Inst.TheVariants.{Op, OpImm, Shift, Load, Store, Branch, Upper, Jal, Jalr, Fence, Ecall, Ebreak}
+use Rattle.rv_code.specs.declared.instruction.Inst.TheVariants.{Op, OpImm, Shift, Upper, Jal, Jalr, Fence, Ecall, Ebreak}
 use Rattle.rv_code.specs.declared.instruction.OpOp.{OpOp}
-use Rattle.rv_code.specs.declared.instruction.OpOp.TheVariants.{Add, Sub, Sll, Slt, Sltu, Xor, Srl, Sra, Or, And, Addw, Subw, Sllw, Srlw, Sraw, Mul, Mulh, Mulhsu, Mulhu, Div, Divu, Rem, Remu, Mulw, Divw, Divuw, Remw, Remuw}
 use Rattle.rv_code.specs.declared.instruction.OpImmOp.{OpImmOp}
-use Rattle.rv_code.specs.declared.instruction.OpImmOp.TheVariants.{Addi, Slti, Sltiu, Xori, Ori, Andi, Addiw}
+use Rattle.rv_code.specs.declared.instruction.OpImmOp.TheVariants.{Addiw}
 use Rattle.rv_code.specs.declared.instruction.ShiftOp.{ShiftOp}
-use Rattle.rv_code.specs.declared.instruction.ShiftOp.TheVariants.{Slli, Srli, Srai, Slliw, Srliw, Sraiw}
 use Rattle.rv_code.specs.declared.instruction.LoadOp.{LoadOp}
-use Rattle.rv_code.specs.declared.instruction.LoadOp.TheVariants.{Lb, Lh, Lw, Ld, Lbu, Lhu, Lwu}
 use Rattle.rv_code.specs.declared.instruction.StoreOp.{StoreOp}
-use Rattle.rv_code.specs.declared.instruction.StoreOp.TheVariants.{Sb, Sh, Sw, Sd}
 use Rattle.rv_code.specs.declared.instruction.BranchOp.{BranchOp}
-use Rattle.rv_code.specs.declared.instruction.BranchOp.TheVariants.{Beq, Bne, Blt, Bge, Bltu, Bgeu}
 use Rattle.rv_code.specs.declared.instruction.UpperOp.{UpperOp}
 use Rattle.rv_code.specs.declared.instruction.UpperOp.TheVariants.{Lui, Auipc}
-use Rattle.rv_code.specs.Table.{Row, Code, FullCode, code, full_code, field, has_fields, fits, fixed_code, op_code, op_imm_code, shift_code, amount_bits, load_code, store_code, branch_code, jalr_code, fence_code, upper_opcode, jal_opcode, ecall_word, ebreak_word, op_row, op_imm_row, shift_row, load_row, store_row, branch_row, upper_row, i_row, jal_row, jalr_row, fence_row, word_row, every_upper, every_branch, every_load, every_store, every_op_imm, every_shift, every_op, single_rows, fixed_field, u_immediate, i_immediate, j_immediate, table, row, decode, first_fit}
+use Rattle.rv_code.specs.Table.{Row, Code, FullCode, code, full_code, field, has_fields, fits, fixed_code, op_code, op_imm_code, shift_code, amount_bits, load_code, store_code, branch_code, jalr_code, fence_code, upper_opcode, jal_opcode, ecall_word, ebreak_word, op_row, op_imm_row, shift_row, load_row, store_row, branch_row, upper_row, jal_row, jalr_row, fence_row, word_row, fixed_field, u_immediate, i_immediate, j_immediate, table, row, decode, first_fit}
 use Rattle.rv_code.specs.Search.{search, base_op_of, other_op_of, product_op_of, op_of, base_word_op_of, other_word_op_of, product_word_op_of, word_op_of, base_shift_of, other_shift_of, shift_of, base_word_shift_of, other_word_shift_of, word_shift_of, op_imm_of, load_of, store_of, branch_of}
 use Rattle.rv_code.specs.Search.{is_shift, op_at, word_op_at, shift_at, word_shift_at, op_imm_at, immediate_at, word_immediate_at, load_at, store_at, branch_at, jalr_at, fence_at, system_at}
-use Rattle.rv_code.proofs.Rows.{first-fit-holds}
-use Rattle.rv_code.proofs.Codes.{IsRow, op_row-there, op_imm_row-there, shift_row-there, load_row-there, store_row-there, branch_row-there, upper_row-there}
+use Rattle.std.specs.List.{All, count_by}
+use Rattle.rv_code.specs.Encode.{encode}
+use Rattle.rv_code.proofs.Rows.{first-fit-holds, first-fit-none, all-first-fit}
+use Rattle.rv_code.proofs.Decoded.{encode-decode}
+use Rattle.rv_code.proofs.Codes.{op_row-there, op_imm_row-there, shift_row-there, load_row-there, store_row-there, branch_row-there, upper_row-there, jal_row-there, jalr_row-there, fence_row-there, ecall_row-there, ebreak_row-there}
 use Rattle.rv_code.proofs.Words.{found, both, code-fits}
 use Rattle.rv_code.proofs.Search.{IsFound, all-found}
 
@@ -189,23 +187,23 @@ upper-at : (op : UpperOp) (w : ℕ) (i : Inst) → upper_opcode op ≡ field w 6
 upper-at op w i o e = found w (upper_row op) i (upper_row-there op) (both _ _ (eq-eqb _ _ (sym o)) refl) (cc)
 
 jal-at : (w : ℕ) (i : Inst) → jal_opcode ≡ field w 6 0 → Some (Jal (field w 11 7) (j_immediate w)) ≡ Some i → decode w ≡ Some i
-jal-at w i o e = found w jal_row i (record { place = 60; is_there = refl }) (both _ _ (eq-eqb _ _ (sym o)) refl) (cc)
+jal-at w i o e = found w jal_row i jal_row-there (both _ _ (eq-eqb _ _ (sym o)) refl) (cc)
 
 jalr-at : (w : ℕ) (i : Inst) → 0b1100111 ≡ field w 6 0 → jalr_at w ≡ Some i → decode w ≡ Some i
 jalr-at w i o =
     chosen-by (decode w ≡ Some i) (field w 14 12) 0b000 (Some (Jalr (field w 11 7) (field w 19 15) (i_immediate w))) None (Some i)
-    (λ n h. found w jalr_row i (record { place = 61; is_there = refl }) (code-fits w jalr_code (sym n) (sym o)) (cc)) (λ h. absurd (cc))
+    (λ n h. found w jalr_row i jalr_row-there (code-fits w jalr_code (sym n) (sym o)) (cc)) (λ h. absurd (cc))
 
 fence-at : (w : ℕ) (i : Inst) → 0b0001111 ≡ field w 6 0 → fence_at w ≡ Some i → decode w ≡ Some i
 fence-at w i o =
     chosen-by (decode w ≡ Some i) (field w 14 12) 0b000 (Some (Fence (field w 11 7) (field w 19 15) (i_immediate w))) None (Some i)
-    (λ n h. found w fence_row i (record { place = 62; is_there = refl }) (code-fits w fence_code (sym n) (sym o)) (cc)) (λ h. absurd (cc))
+    (λ n h. found w fence_row i fence_row-there (code-fits w fence_code (sym n) (sym o)) (cc)) (λ h. absurd (cc))
 
 ecall-decoded : decode ecall_word ≡ Some Ecall
-ecall-decoded = found ecall_word (word_row ecall_word Ecall) Ecall (record { place = 63; is_there = refl }) refl refl
+ecall-decoded = found ecall_word (word_row ecall_word Ecall) Ecall ecall_row-there refl refl
 
 ebreak-decoded : decode ebreak_word ≡ Some Ebreak
-ebreak-decoded = found ebreak_word (word_row ebreak_word Ebreak) Ebreak (record { place = 64; is_there = refl }) refl refl
+ebreak-decoded = found ebreak_word (word_row ebreak_word Ebreak) Ebreak ebreak_row-there refl refl
 
 system-at : (w : ℕ) (i : Inst) → system_at w ≡ Some i → decode w ≡ Some i
 system-at w i =
@@ -252,3 +250,25 @@ same-answers (Some x) b f g = sym (f x refl)
 
 pub search-decode : (w : ℕ) → w < 2 ^ 32 → search (field w 6 0) w ≡ decode w
 search-decode w h = same-answers _ _ (found-decoded w) (λ i e. decoded-found w i h e)
+
+-- ---- what the contract of `decode` says
+
+mapped-none : {A B : Type 0} (f : A → B) (o : Option A) → IsNone (option_map f o) → o ≡ None
+mapped-none f None e = refl
+mapped-none f (Some x) e = absurd (cc)
+
+-- no instruction exactly where the word fits no row
+pub decode-none : (w : ℕ) → IsNone (decode w) ↔ (count_by (fits w) table ≡ 0)
+unfolding decode row
+decode-none w =
+    let n = first-fit-none w in
+    (λ e. n.0 (mapped-none _ (first_fit w table) e), λ e. ap (λ r. is_some (option_map (λ x. x.instruction w) r)) (n.1 e))
+
+-- the instruction of each row that the word fits
+pub decode-row : (w : ℕ) → All (λ r. IsTrue (fits w r) → decode w ≡ Some (r.instruction w)) table
+unfolding decode row
+decode-row w k d h p = ap (option_map (λ r. r.instruction w)) (all-first-fit w k d h p)
+
+pub encoded-decode : (w : ℕ) (r : Option Inst) → w < 2 ^ 32 → r ≡ decode w → IfSome r (λ i. encode i ≡ Some w)
+encoded-decode w None h e = tt
+encoded-decode w (Some i) h e = encode-decode w i h (sym e)

@@ -7,3 +7,5 @@ pub mod Words
 pub mod Decoded
 pub mod Search
 pub mod Found
+pub mod ByteLaws
+pub mod Bounds

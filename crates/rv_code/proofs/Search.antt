@@ -1,10 +1,9 @@
 -- The way by opcodes comes to the row of the table.
-use Rattle.std.proofs.Common.{◌≡◌, ℕ, ◌+◌, ◌-◌, ◌*◌, ◌/◌, ◌%◌, ◌<◌, ◌^◌, Bool, true, false, ◌&&◌, Option, Some, None, List, [], ◌∷◌, ◌++◌, map, refl, sym, ap, ◌∙◌, subst, arith, cond, eq-eqb, eqb-true, nat_eq, get_or}
+use Rattle.std.proofs.Common.{◌≡◌, ℕ, ◌+◌, ◌<◌, ◌^◌, true, ◌&&◌, Some, List, ◌++◌, map, refl, subst, arith, eqb-true, nat_eq, get_or}
 use Rattle.std.specs.List.{All}
-use Rattle.std.specs.Prelude.{option_map}
 use Rattle.std.proofs.lemmas.List.Elements.{All-append, All-map, All-from_recursion}
 use Rattle.rv_code.specs.declared.instruction.Inst.{Inst}
-use Rattle.rv_code.specs.declared.instruction.Inst.TheVariants.{Op, OpImm, Shift, Load, Store, Branch, Upper, Jal, Jalr, Fence, Ecall, Ebreak}
+use Rattle.rv_code.specs.declared.instruction.Inst.TheVariants.{Op, Shift, Ecall, Ebreak}
 use Rattle.rv_code.specs.declared.instruction.OpOp.{OpOp}
 use Rattle.rv_code.specs.declared.instruction.OpOp.TheVariants.{Add, Sub, Sll, Slt, Sltu, Xor, Srl, Sra, Or, And, Addw, Subw, Sllw, Srlw, Sraw, Mul, Mulh, Mulhsu, Mulhu, Div, Divu, Rem, Remu, Mulw, Divw, Divuw, Remw, Remuw}
 use Rattle.rv_code.specs.declared.instruction.OpImmOp.{OpImmOp}
@@ -19,9 +18,8 @@ use Rattle.rv_code.specs.declared.instruction.BranchOp.{BranchOp}
 use Rattle.rv_code.specs.declared.instruction.BranchOp.TheVariants.{Beq, Bne, Blt, Bge, Bltu, Bgeu}
 use Rattle.rv_code.specs.declared.instruction.UpperOp.{UpperOp}
 use Rattle.rv_code.specs.declared.instruction.UpperOp.TheVariants.{Lui, Auipc}
-use Rattle.rv_code.specs.Table.{Row, Code, FullCode, code, full_code, field, has_fields, fits, fixed_code, op_code, op_imm_code, shift_code, amount_bits, load_code, store_code, branch_code, jalr_code, fence_code, upper_opcode, jal_opcode, ecall_word, ebreak_word, op_row, op_imm_row, shift_row, load_row, store_row, branch_row, upper_row, i_row, jal_row, jalr_row, fence_row, word_row, every_upper, every_branch, every_load, every_store, every_op_imm, every_shift, every_op, single_rows, table, row, decode, first_fit}
-use Rattle.rv_code.specs.Search.{search, base_op_of, other_op_of, product_op_of, op_of, base_word_op_of, other_word_op_of, product_word_op_of, word_op_of, base_shift_of, other_shift_of, shift_of, base_word_shift_of, other_word_shift_of, word_shift_of, op_imm_of, load_of, store_of, branch_of}
-use Rattle.rv_code.proofs.Rows.{first-fit-holds}
+use Rattle.rv_code.specs.Table.{Row, field, fits, op_code, op_imm_code, shift_code, amount_bits, load_code, store_code, branch_code, jalr_code, fence_code, upper_opcode, jal_opcode, ecall_word, ebreak_word, op_row, op_imm_row, shift_row, load_row, store_row, branch_row, upper_row, jal_row, jalr_row, fence_row, word_row, every_upper, every_branch, every_load, every_store, every_op_imm, every_shift, every_op, single_rows, table}
+use Rattle.rv_code.specs.Search.{search}
 use Rattle.rv_code.proofs.Decoded.{HasCode, HasFullCode, op-code-of, shift-code-of, code-of, and-parts}
 
 -- ---- every row is found
@@ -185,6 +183,7 @@ singles-found =
     }
 
 pub all-found : EachFound table
+unfolding table
 all-found =
     let upper : EachFound (map upper_row every_upper) = record { each = mapped upper_row every_upper upper-found } in
     let branch : EachFound (map branch_row every_branch) = record { each = mapped branch_row every_branch branch-found } in

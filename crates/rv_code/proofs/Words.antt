@@ -13,7 +13,7 @@ use Rattle.rv_code.specs.Encode.{word_of, encode, is_encodable, is_in_format, ha
 use Rattle.rv_code.proofs.Integers.{integer_of_bits-bits, bits_of_integer-below, bits_of_integer-even, bits_of_integer-pages}
 use Rattle.rv_code.proofs.Fields.{HasRFields, HasIFields, HasSFields, HasBFields, HasUFields, HasJFields, HasShiftFields, shift_word-fields-5, shift_word-fields-6, r_word-fields, i_word-fields, s_word-fields, b_word-fields, u_word-fields, j_word-fields}
 use Rattle.rv_code.proofs.Rows.{first-fit-at}
-use Rattle.rv_code.proofs.Codes.{IsRow, FitsCode, op_row-there, op_imm_row-there, shift_row-there, load_row-there, store_row-there, branch_row-there, upper_row-there, op_code-fits, op_imm_code-fits, load_code-fits, store_code-fits, branch_code-fits, upper_opcode-fits}
+use Rattle.rv_code.proofs.Codes.{IsRow, FitsCode, op_row-there, op_imm_row-there, shift_row-there, load_row-there, store_row-there, branch_row-there, upper_row-there, jal_row-there, jalr_row-there, fence_row-there, ecall_row-there, ebreak_row-there, op_code-fits, op_imm_code-fits, load_code-fits, store_code-fits, branch_code-fits, upper_opcode-fits}
 
 and-parts : (a b : Bool) → a && b ≡ true → (a ≡ true) × (b ≡ true)
 and-parts true b e = (refl, e)
@@ -59,7 +59,7 @@ upper-read op rd imm w b f =
 
 jal-read : (rd : ℕ) (imm : ℤ) (w : ℕ) → has_bits 21 imm ≡ true → HasJFields w (bits_of_integer 21 imm) rd jal_opcode → decode w ≡ Some (Jal rd imm)
 jal-read rd imm w b f =
-    found w jal_row (Jal rd imm) (record { place = 60; is_there = refl }) (both _ _ (eq-eqb _ _ f.opcode_is) refl)
+    found w jal_row (Jal rd imm) jal_row-there (both _ _ (eq-eqb _ _ f.opcode_is) refl)
     (rw (f.rd_is, f.imm_is, integer_of_bits-bits 21 imm (omega arith) b) refl)
 
 -- ---- the word of an instruction has these fields
@@ -121,10 +121,10 @@ word-reads i e = let p = and-parts (has_registers i) (is_in_format i) e in by-ki
         let m = and-parts (has_bits 21 imm) (is_multiple 2 imm) b in
         let f = j_word-fields (bits_of_integer 21 imm) rd jal_opcode (bits_of_integer-below 21 imm (omega arith) m.0) (bits_of_integer-even 21 imm (omega arith) m.0 m.1) (ltb-true _ _ r) (omega arith) in
         record { decodes = jal-read rd imm _ m.0 f; below = f.below }
-    by-kind (Jalr rd rs1 imm) r b = let x = i-word-reads Jalr jalr_code rd rs1 imm (record { place = 61; is_there = refl }) (record { funct3 = omega arith; opcode = omega arith }) r b in record { decodes = x.0; below = x.1 }
-    by-kind (Fence rd rs1 imm) r b = let x = i-word-reads Fence fence_code rd rs1 imm (record { place = 62; is_there = refl }) (record { funct3 = omega arith; opcode = omega arith }) r b in record { decodes = x.0; below = x.1 }
-    by-kind Ecall r b = record { decodes = found ecall_word (word_row ecall_word Ecall) Ecall (record { place = 63; is_there = refl }) refl refl; below = omega arith }
-    by-kind Ebreak r b = record { decodes = found ebreak_word (word_row ebreak_word Ebreak) Ebreak (record { place = 64; is_there = refl }) refl refl; below = omega arith }
+    by-kind (Jalr rd rs1 imm) r b = let x = i-word-reads Jalr jalr_code rd rs1 imm jalr_row-there (record { funct3 = omega arith; opcode = omega arith }) r b in record { decodes = x.0; below = x.1 }
+    by-kind (Fence rd rs1 imm) r b = let x = i-word-reads Fence fence_code rd rs1 imm fence_row-there (record { funct3 = omega arith; opcode = omega arith }) r b in record { decodes = x.0; below = x.1 }
+    by-kind Ecall r b = record { decodes = found ecall_word (word_row ecall_word Ecall) Ecall ecall_row-there refl refl; below = omega arith }
+    by-kind Ebreak r b = record { decodes = found ebreak_word (word_row ebreak_word Ebreak) Ebreak ebreak_row-there refl refl; below = omega arith }
 
 pub decode-word_of : (i : Inst) → is_encodable i ≡ true → decode (word_of i) ≡ Some i
 decode-word_of i e = (word-reads i e).decodes

@@ -1,7 +1,7 @@
 //! The instructions of words.
 
-ghost use Rattle.std.specs.Prelude.{◌≡◌, ℕ, ◌+◌, ◌*◌, ◌^◌, ◌<◌, ◌≤◌, ◌↔◌, Some, None, IfSome, IsNone, IfNone};
-ghost use Rattle.std.specs.List.{count_by};
+ghost use Rattle.std.specs.Prelude.{◌≡◌, ℕ, ◌+◌, ◌*◌, ◌^◌, ◌<◌, ◌≤◌, ◌↔◌, Some, None, IfSome, IsNone, IsTrue};
+ghost use Rattle.std.specs.List.{All, count_by};
 ghost use Rattle.rv_code.specs.Table.{field, rd_field, rs1_field, rs2_field, integer_of_bits, i_immediate, s_immediate, b_immediate, u_immediate, j_immediate, table, fits, row, decode};
 ghost use Rattle.rv_code.specs.Encode.{encode};
 ghost use Rattle.rv_code.specs.Search.{base_op_of, other_op_of, product_op_of, op_of, base_word_op_of, other_word_op_of, product_word_op_of, word_op_of, shift_of, word_shift_of, op_imm_of, load_of, store_of, branch_of, funct3_field, op_at, word_op_at, shift_at, word_shift_at, op_imm_at, immediate_at, word_immediate_at, load_at, store_at, branch_at, jalr_at, fence_at, system_at, search};
@@ -492,4 +492,19 @@ fn found(word: u32) -> Option<Inst>
         0b1110011 => system_at(word),
         _ => None,
     }
+}
+
+/// The instruction of the row that a word fits, by the instruction table of the RISC-V unprivileged manual (RV64I
+/// with M). `None` where it fits no row.
+pub fn decode(word: u32) -> Option<Inst>
+    ensures is { result ≡ decode word }
+
+    // The word fits at most one row of the table, and `decode` answers where it fits one, and what that row says.
+    ensures one_row { count_by (fits word) table ≤ 1 }
+    ensures none { IsNone result ↔ (count_by (fits word) table ≡ 0) }
+    ensures row { All (λ row. IsTrue (fits word row) → result ≡ Some (row.instruction word)) table }
+
+    ensures encoded { IfSome result (λ inst. encode inst ≡ Some word) }
+{
+    found(word)
 }

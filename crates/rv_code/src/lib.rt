@@ -7,5 +7,6 @@ pub mod encoding;
 pub mod instruction;
 
 pub use cause::Cause;
+pub use decoding::decode;
 pub use encoding::encode;
 pub use instruction::{BranchOp, Inst, LoadOp, OpImmOp, OpOp, Reg, ShiftOp, StoreOp, UpperOp};
