@@ -1,0 +1,7 @@
+pub mod Bytes
+pub mod Registers
+pub mod WordBytes
+pub mod Places
+pub mod Outputs
+pub mod Stretches
+pub mod Moments

@@ -1,0 +1,3 @@
+pub mod Conventions
+pub mod DataWords
+pub mod WordMachine
