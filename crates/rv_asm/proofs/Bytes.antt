@@ -1,9 +1,8 @@
 -- Bytes and numbers.
-use Rattle.std.proofs.Common.{◌≡◌, ℕ, zero, suc, ◌+◌, ◌-◌, ◌*◌, ◌/◌, ◌%◌, ◌^◌, ◌<◌, ◌≤◌, List, [], ◌∷◌, ◌++◌, length, get_or, take, drop, set, refl, sym, ap, ◌∙◌, subst, arith, append_assoc, length-append, take_at, drop_at, drop-drop, take-append-drop, All}
+use Rattle.std.proofs.Common.{◌≡◌, ℕ, zero, suc, ◌+◌, ◌*◌, ◌/◌, ◌%◌, ◌^◌, ◌<◌, List, [], ◌∷◌, length, refl, sym, ap, ◌∙◌, arith, All}
 use Rattle.std.proofs.lemmas.Nat.{mod-pow-add, pow-add}
-use Rattle.std.proofs.lemmas.List.{take-append-le, drop-append-le, length-drop, length-take-le}
-use Rattle.std.proofs.lemmas.List.Elements.{All-head, All-tail, All-nil, All-cons, All-append, All-drop}
-use Rattle.rv_code.specs.Bytes.{number_of, bytes_of, put_at}
+use Rattle.std.proofs.lemmas.List.Elements.{All-head, All-tail, All-nil, All-cons}
+use Rattle.rv_code.specs.Bytes.{number_of, bytes_of}
 
 pub number-bytes : (k n : ℕ) → number_of (bytes_of k n) ≡ n % 2 ^ (8 * k)
 unfolding number_of bytes_of

@@ -1,4 +1,5 @@
 pub mod Bytes
+pub mod Bounds
 pub mod Registers
 pub mod WordBytes
 pub mod Places

@@ -4,10 +4,10 @@
 -- From each related state the machine either makes a stretch to a related state, or exits. Then at every moment
 -- either it has exited as a configuration says, or its output is that of a configuration at whose count of steps the
 -- pace holds.
-use Rattle.std.proofs.Common.{◌≡◌, ℕ, zero, suc, ◌+◌, ◌-◌, ◌*◌, ◌<◌, ◌≤◌, List, refl, sym, ap, ◌∙◌, subst, arith, ◌⊎◌, ⊎_elim, inl, inr}
+use Rattle.std.proofs.Common.{◌≡◌, ℕ, zero, suc, ◌+◌, ◌-◌, ◌*◌, ◌<◌, ◌≤◌, List, sym, ap, ◌∙◌, subst, arith, ◌⊎◌, ⊎_elim, inl, inr}
 use Rattle.std.proofs.lemmas.Bool.{cases_lt}
 use Rattle.rv_code.specs.declared.instruction.Inst.{Inst}
-use Rattle.rv_asm.specs.WordMachine.{WordState, WordStep, Goes, Exits, run_words, go_on}
+use Rattle.rv_asm.specs.WordMachine.{WordState, Goes, Exits, run_words, go_on}
 use Rattle.rv_asm.proofs.Stretches.{run_words-add, then-ends, quiet-moment, Between}
 
 -- a meaning that code follows: its configurations, with the steps done and the output of each, the instructions that a
