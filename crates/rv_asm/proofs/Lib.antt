@@ -6,3 +6,7 @@ pub mod Places
 pub mod Outputs
 pub mod Stretches
 pub mod Moments
+pub mod BridgeSteps
+pub mod BridgeInstructions
+pub mod BridgeExits
+pub mod Bridge
