@@ -10,3 +10,6 @@ pub mod BridgeSteps
 pub mod BridgeInstructions
 pub mod BridgeExits
 pub mod Bridge
+pub mod Constants
+pub mod Copies
+pub mod Calls

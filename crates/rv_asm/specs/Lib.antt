@@ -1,3 +1,4 @@
 pub mod Conventions
 pub mod DataWords
 pub mod WordMachine
+pub mod Pieces
