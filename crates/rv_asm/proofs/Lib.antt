@@ -10,6 +10,8 @@ pub mod BridgeSteps
 pub mod BridgeInstructions
 pub mod BridgeExits
 pub mod Bridge
+pub mod Encodings
 pub mod Constants
 pub mod Copies
 pub mod Calls
+pub mod Messages

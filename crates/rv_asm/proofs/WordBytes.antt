@@ -1,5 +1,5 @@
 -- The bytes of words: a word, or the front of one, is read and written among them.
-use Rattle.std.proofs.Common.{◌≡◌, ℕ, zero, suc, ◌+◌, ◌*◌, ◌<◌, ◌≤◌, ◌^◌, min, List, [], ◌∷◌, ◌++◌, length, get_or, take, drop, set, replicate, refl, sym, ap, ◌∙◌, subst, arith, append_assoc, length-append, take_at, drop_at, drop-drop, All}
+use Rattle.std.proofs.Common.{◌≡◌, ℕ, zero, suc, ◌+◌, ◌*◌, ◌<◌, ◌≤◌, ◌^◌, min, List, [], ◌∷◌, ◌++◌, length, get_or, take, drop, set, replicate, refl, sym, ap, ◌∙◌, subst, arith, append_assoc, append-nil, length-append, take_at, drop_at, drop-drop, All}
 use Rattle.std.proofs.lemmas.List.{replicate-append-replicate, drop-append-le, length-drop, length-take}
 use Rattle.std.proofs.lemmas.List.Elements.{All-append, All-drop, All-take}
 use Rattle.rv_code.specs.Bytes.{number_of, bytes_of, put_at}
@@ -10,6 +10,11 @@ pub length-word_bytes : (ws : List ℕ) → length (word_bytes ws) ≡ 8 * lengt
 unfolding word_bytes
 length-word_bytes [] = refl
 length-word_bytes (w ∷ ws) = length-append (bytes_of 8 w) (word_bytes ws) ∙ omega (arith, length-bytes 8 w, length-word_bytes ws)
+
+pub word_bytes-append : (ws : List ℕ) (w : ℕ) → word_bytes (ws ++ (w ∷ [])) ≡ word_bytes ws ++ bytes_of 8 w
+unfolding word_bytes
+word_bytes-append [] w = append-nil (bytes_of 8 w)
+word_bytes-append (v ∷ ws) w = ap (λ l. bytes_of 8 v ++ l) (word_bytes-append ws w) ∙ sym (append_assoc (bytes_of 8 v) (word_bytes ws) (bytes_of 8 w))
 
 drop-word_bytes : (i w : ℕ) (ws : List ℕ) → drop (8 * suc i) (word_bytes (w ∷ ws)) ≡ drop (8 * i) (word_bytes ws)
 unfolding word_bytes
