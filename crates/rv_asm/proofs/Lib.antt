@@ -10,6 +10,7 @@ pub mod BridgeSteps
 pub mod BridgeInstructions
 pub mod BridgeExits
 pub mod Bridge
+pub mod Follows
 pub mod Encodings
 pub mod Constants
 pub mod Copies

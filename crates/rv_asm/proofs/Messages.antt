@@ -1,20 +1,22 @@
 -- The program that sends messages does so at every moment, on the machine of the table: an instance of the theorem for
 -- every number of instructions, and of the bridge.
-use Rattle.std.proofs.Common.{◌≡◌, ℕ, ◌+◌, ◌*◌, ◌%◌, ◌^◌, ◌<◌, ◌≤◌, true, List, [], ◌∷◌, ◌++◌, length, take, refl, sym, ap, ◌∙◌, subst, arith, ◌⊎◌, ⊎_elim, inl, inr, All, length-set, length-append, append_assoc, append-nil, take_at}
+use Rattle.std.proofs.Common.{◌≡◌, ℕ, ◌+◌, ◌*◌, ◌%◌, ◌^◌, ◌<◌, ◌≤◌, true, List, [], ◌∷◌, ◌++◌, length, take, refl, sym, ap, ◌∙◌, subst, arith, ◌⊎◌, inl, inr, All, length-set, length-append, append_assoc, append-nil, take_at}
 use Rattle.std.proofs.lemmas.List.Elements.{All-head, All-tail, All-nil, All-cons, All-append}
 use Rattle.std.proofs.lemmas.List.{length-replicate}
 use Rattle.rv_code.specs.Bytes.{bytes_of}
-use Rattle.rv_code.specs.Machine.{run, loaded}
+use Rattle.rv_code.specs.Machine.{Outcome, Ran, Exited, Trapped, run, loaded}
 use Rattle.rv_code.specs.declared.instruction.Inst.{Inst}
-use Rattle.rv_asm.specs.Conventions.{IsImage, code_address, region_address, region_words, compiled_segments}
+use Rattle.rv_asm.specs.Conventions.{code_address, region_address, region_words, compiled_segments}
 use Rattle.rv_code.specs.Encode.{is_encodable}
+use Rattle.rv_asm.specs.Meanings.{Meaning, IsShown}
 use Rattle.rv_asm.specs.Messages.{messages_code, messages_program, IsMoment, SendsMessages}
 use Rattle.rv_asm.specs.Pieces.{load_constant, send_word}
-use Rattle.rv_asm.specs.WordMachine.{WordState, IsBounded, put, Has, word_bytes, machine_state, start_state}
-use Rattle.rv_asm.proofs.Bridge.{run-goes, run-exits, machine_state-start, IsBounded-start, IsImage-compiled, compiled-below}
+use Rattle.rv_asm.specs.WordMachine.{WordState, put, Has, word_bytes, start_state}
+use Rattle.rv_asm.proofs.Bridge.{compiled-below}
 use Rattle.rv_asm.proofs.Calls.{CanSend, after_send, send_word-runs, send_word-between, before_exit, before_exit-runs, exit-stops, send_word-encodable, exit_with-encodable}
 use Rattle.rv_asm.proofs.Constants.{load_constant-runs, length-load_constant, load_constant-encodable}
-use Rattle.rv_asm.proofs.Moments.{Meaning, Advances, Stops, Running, Over, output-advance, quiet-stop, moments-entry}
+use Rattle.rv_asm.proofs.Moments.{Advances, Stops, output-advance, quiet-stop}
+use Rattle.rv_asm.proofs.Follows.{CodeFollows, follows-compiled}
 use Rattle.rv_asm.proofs.Places.{Has-front, Has-back, Has-whole}
 use Rattle.rv_asm.proofs.Stretches.{then-runs, quiet-then-between}
 use Rattle.rv_asm.proofs.WordBytes.{word_bytes-append}
@@ -98,42 +100,45 @@ module _ (ms : List ℕ) where
         by_rest sent [] a r = inr (last state sent a r)
         by_rest sent (m ∷ rest) a r = inl (next state sent m rest a r)
 
-    -- what a moment of the machine of words shows on the machine of the table
-    module _ (count : ℕ) (image : IsImage base code count) (entry : WordState) (bounded : IsBounded count entry) where
-      running : (n : ℕ) → Running base code meaning IsAt n entry n → IsMoment ms n (run n (machine_state base code entry))
-      running n r =
-          let sent = r.shown.sent in
-          let l : length sent ≤ length ms = omega (arith, ap length r.reached, length-append sent r.shown.rest) in
-          let front : sent ≡ take (length sent) ms = sym (take_at sent r.shown.rest (length sent) refl) ∙ ap (take (length sent)) r.reached in
-          let goes = (run-goes base code count image n entry r.now bounded r.runs).0 in
-          subst (IsMoment ms n) (sym goes) (length sent, l, r.output ∙ ap word_bytes front, r.pace)
+-- what the meaning shows is what the program promises
+moment-shown : (ms : List ℕ) (n : ℕ) (o : Outcome) → IsShown (meaning ms) n o → IsMoment ms n o
+moment-shown ms n (Ran s) h =
+    let sent = h.0.sent in
+    let l : length sent ≤ length ms = omega (arith, ap length h.1, length-append sent h.0.rest) in
+    let front : sent ≡ take (length sent) ms = sym (take_at sent h.0.rest (length sent) refl) ∙ ap (take (length sent)) h.1 in
+    (length sent, l, h.2 ∙ ap word_bytes front, h.3)
+moment-shown ms n (Exited code output) h =
+    let sent = h.0.sent in
+    let all : sent ≡ ms = sym (append-nil sent) ∙ ap (λ r. sent ++ r) (sym h.3.0) ∙ h.1 in
+    (h.3.1, h.2 ∙ ap word_bytes all)
+moment-shown ms n (Trapped cause) h = h
 
-      over : (n : ℕ) → Over base code meaning IsAt entry n → IsMoment ms n (run n (machine_state base code entry))
-      over n o =
-          let all : o.last.sent ≡ ms = sym (append-nil o.last.sent) ∙ ap (λ r. o.last.sent ++ r) (sym o.ends.0) ∙ o.reached in
-          let exits = run-exits base code count image n entry o.exit (word_bytes o.last.sent) bounded o.runs in
-          subst (IsMoment ms n) (sym exits) (o.ends.1, ap word_bytes all)
-
--- from its start the program sends the messages
-pub messages-sent : (ms : List ℕ) (base count : ℕ) (input : List ℕ) → IsImage base (messages_program base ms) count → base < 2 ^ 32 → 0 < count → All (λ w. w < 2 ^ 64) ms → All (λ b. b < 256) input → SendsMessages ms (machine_state base (messages_program base ms) (start_state count input))
-messages-sent ms base count input image below some words bytes n =
+-- the program's code follows the meaning
+code-follows : (ms : List ℕ) (base count : ℕ) (input : List ℕ) → base % 8 ≡ 0 → base < 2 ^ 32 → 0 < count → AllWords ms → CodeFollows base (messages_program base ms) count input (meaning ms)
+code-follows ms base count input aligned below some words =
     let code = messages_program base ms in
     let entry = start_state count input in
-    let bounded = IsBounded-start count input bytes in
     let load = load_constant 3 base in
-    let has = Has-whole code in
     let state : WordState = record entry { pc = 65536 + 4 * length load; registers = put entry.registers 3 base } in
-    let first = load_constant-runs base code 3 base entry (omega arith) (omega arith) (Has-front code 65536 load (messages_code ms) has) in
-    let c : Progress = record { sent = []; rest = ms } in
-    let at : IsAt ms base code image.aligned below state c = record {
-      region = refl;
-      some = omega (arith, length-replicate {A = ℕ} count 0);
-      here = Has-back code 65536 load (messages_code ms) has;
+    record {
+      IsAt = IsAt ms base code aligned below;
+      turn = turn ms base code aligned below;
+      first = length load;
+      state = state;
+      initial = record { sent = []; rest = ms };
+      runs = load_constant-runs base code 3 base entry (omega arith) (omega arith) (Has-front code 65536 load (messages_code ms) (Has-whole code));
+      quiet = refl;
       output = no-bytes;
-      words = words;
-    } in
-    let m = moments-entry base code (meaning ms) (IsAt ms base code image.aligned below) (turn ms base code image.aligned below) n (length load) entry state c first refl no-bytes at refl (omega (arith, length-load_constant 3 base)) in
-    ⊎_elim (λ r. running ms base code image.aligned below count image entry bounded n r) (λ o. over ms base code image.aligned below count image entry bounded n o) m
+      related = record {
+        region = refl;
+        some = omega (arith, length-replicate {A = ℕ} count 0);
+        here = Has-back code 65536 load (messages_code ms) (Has-whole code);
+        output = no-bytes;
+        words = words;
+      };
+      reached = refl;
+      paid = omega (arith, length-load_constant 3 base);
+    }
 
 -- ---- as a compiled program
 
@@ -146,14 +151,15 @@ messages_code-encodable (m ∷ ms) h =
 
 -- the loaded program sends the messages, where its region stands at `base`
 pub messages-compiled : (ms : List ℕ) (base stack units : ℕ) (input : List ℕ) → region_address (4 * length (messages_program base ms)) ≡ base → 4 * length (messages_program base ms) < 1073741824 → stack ≤ 16777216 → units ≤ 4194304 → All (λ w. w < 2 ^ 64) ms → All (λ b. b < 256) input → SendsMessages ms (loaded code_address (compiled_segments (messages_program base ms) stack units) input)
-messages-compiled ms base stack units input e few s u words bytes =
+messages-compiled ms base stack units input e few s u words bytes n =
     let code = messages_program base ms in
     let count = region_words stack units in
     let top = compiled-below (4 * length code) stack units few s u in
     let encodable = All-append (λ i. is_encodable i ≡ true) (load_constant 3 base) (messages_code ms) (load_constant-encodable 3 base (omega arith) (omega (arith, e, top))) (messages_code-encodable ms words) in
-    let image = subst (λ b. IsImage b code count) e (IsImage-compiled code stack units encodable (omega (arith, top))) in
-    let start = subst (λ b. machine_state b code (start_state count input) ≡ loaded code_address (compiled_segments code stack units) input) e (machine_state-start code stack units input) in
-    subst (SendsMessages ms) start (messages-sent ms base count input image (omega (arith, e, top)) (omega arith) words bytes)
+    let aligned : base % 8 ≡ 0 = omega (arith, e) in
+    let follows = code-follows ms base count input aligned (omega (arith, e, top)) (omega arith) words in
+    let there = subst (λ b. CodeFollows b code count input (meaning ms)) (sym e) follows in
+    moment-shown ms n (run n (loaded code_address (compiled_segments code stack units) input)) (follows-compiled code stack units input (meaning ms) encodable (omega (arith, top)) bytes there n)
 
 -- two messages, 5 and -7, and no input
 two-messages : SendsMessages (5 ∷ 18446744073709551609 ∷ []) (loaded 65536 (compiled_segments (messages_program 69632 (5 ∷ 18446744073709551609 ∷ [])) 1 1) [])

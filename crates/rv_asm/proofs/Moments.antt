@@ -7,22 +7,9 @@
 use Rattle.std.proofs.Common.{◌≡◌, ℕ, zero, suc, ◌+◌, ◌-◌, ◌*◌, ◌<◌, ◌≤◌, List, sym, ap, ◌∙◌, subst, arith, ◌⊎◌, ⊎_elim, inl, inr}
 use Rattle.std.proofs.lemmas.Bool.{cases_lt}
 use Rattle.rv_code.specs.declared.instruction.Inst.{Inst}
+use Rattle.rv_asm.specs.Meanings.{Meaning}
 use Rattle.rv_asm.specs.WordMachine.{WordState, Goes, Exits, run_words, go_on}
 use Rattle.rv_asm.proofs.Stretches.{run_words-add, then-ends, quiet-moment, Between}
-
--- a meaning that code follows: its configurations, with the steps done and the output of each, the instructions that a
--- configuration still owes, which configurations come in a performance, which of them end with an exit code, and the
--- pace: so many instructions a step, and so many before the first
-pub record Meaning : Type 1 where
-  pub Configuration : Type 0
-  pub steps : Configuration → ℕ
-  pub output : Configuration → List ℕ
-  pub pending : Configuration → ℕ
-  pub IsReached : Configuration → Type 0
-  pub EndsWith : Configuration → ℕ → Type 0
-  pub factor : ℕ
-  pub start : ℕ
-  pub ample : start ≤ factor
 
 module _ (base : ℕ) (code : List Inst) (m : Meaning) where
   -- j instructions behind configuration c the output is that of a configuration that is reached, at the pace

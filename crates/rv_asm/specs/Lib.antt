@@ -1,5 +1,6 @@
 pub mod Conventions
 pub mod DataWords
 pub mod WordMachine
+pub mod Meanings
 pub mod Pieces
 pub mod Messages
