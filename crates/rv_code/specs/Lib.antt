@@ -1,0 +1,5 @@
+pub mod Bytes
+pub mod Arithmetic
+pub mod Table
+pub mod Encode
+pub mod Machine

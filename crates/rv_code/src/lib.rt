@@ -1,0 +1,8 @@
+//! The instructions of RV64IM, their words of 32 bits, and the definition of the machine that runs them.
+#![tactic(auto)]
+
+pub mod cause;
+pub mod instruction;
+
+pub use cause::Cause;
+pub use instruction::{BranchOp, Inst, LoadOp, OpImmOp, OpOp, Reg, ShiftOp, StoreOp, UpperOp};
