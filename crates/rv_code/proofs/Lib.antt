@@ -1,1 +1,6 @@
 mod Examples
+pub mod Integers
+pub mod Fields
+pub mod Rows
+pub mod Codes
+pub mod Words

@@ -3,3 +3,4 @@ pub mod Arithmetic
 pub mod Table
 pub mod Encode
 pub mod Machine
+pub mod Images

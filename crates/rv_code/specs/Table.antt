@@ -219,26 +219,22 @@ shift_row op =
     }
 
 -- imm[11:0] rs1 funct3 rd opcode
+abbrev pub i_row : Code → (ℕ → ℕ → ℤ → Inst) → Row
+i_row c make =
+    record { fixed = fixed_code c; instruction = λ word. make (rd_field word) (rs1_field word) (i_immediate word) }
+
 abbrev pub op_imm_row : OpImmOp → Row
-op_imm_row op =
-    record {
-      fixed = fixed_code (op_imm_code op);
-      instruction = λ word. OpImm op (rd_field word) (rs1_field word) (i_immediate word);
-    }
+op_imm_row op = i_row (op_imm_code op) (OpImm op)
 
 abbrev pub load_row : LoadOp → Row
-load_row op =
-    record {
-      fixed = fixed_code (load_code op);
-      instruction = λ word. Load op (rd_field word) (rs1_field word) (i_immediate word);
-    }
+load_row op = i_row (load_code op) (Load op)
 
 abbrev pub jalr_row : Row
-jalr_row = record { fixed = fixed_code jalr_code; instruction = λ word. Jalr (rd_field word) (rs1_field word) (i_immediate word) }
+jalr_row = i_row jalr_code Jalr
 
--- its fields are all other bits
+-- its fields are all bits that the row leaves free
 abbrev pub fence_row : Row
-fence_row = record { fixed = fixed_code fence_code; instruction = λ word. Fence (rd_field word) (rs1_field word) (i_immediate word) }
+fence_row = i_row fence_code Fence
 
 -- imm[11:5] rs2 rs1 funct3 imm[4:0] opcode
 abbrev pub store_row : StoreOp → Row

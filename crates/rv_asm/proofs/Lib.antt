@@ -1,0 +1,15 @@
+pub mod Bytes
+pub mod Bounds
+pub mod Registers
+pub mod WordBytes
+pub mod Places
+pub mod Outputs
+pub mod Stretches
+pub mod Moments
+pub mod BridgeSteps
+pub mod BridgeInstructions
+pub mod BridgeExits
+pub mod Bridge
+pub mod Constants
+pub mod Copies
+pub mod Calls

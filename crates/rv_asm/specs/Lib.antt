@@ -1,0 +1,4 @@
+pub mod Conventions
+pub mod DataWords
+pub mod WordMachine
+pub mod Pieces
