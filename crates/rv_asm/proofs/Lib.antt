@@ -13,3 +13,6 @@ pub mod Bridge
 pub mod Constants
 pub mod Copies
 pub mod Calls
+pub mod Distances
+pub mod Labels
+pub mod LabelsKept

@@ -2,3 +2,4 @@ pub mod Conventions
 pub mod DataWords
 pub mod WordMachine
 pub mod Pieces
+pub mod Assembly
