@@ -16,3 +16,6 @@ pub mod Constants
 pub mod Copies
 pub mod Calls
 pub mod Messages
+pub mod Distances
+pub mod Labels
+pub mod LabelsKept

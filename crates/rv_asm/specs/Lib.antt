@@ -4,3 +4,4 @@ pub mod WordMachine
 pub mod Meanings
 pub mod Pieces
 pub mod Messages
+pub mod Assembly

@@ -1,5 +1,5 @@
 -- The numbers of each instruction fit their fields, and its row stands in the table.
-use Rattle.std.proofs.Common.{◌≡◌, ℕ, ◌+◌, ◌<◌, ◌≤◌, ◌^◌, Some, refl, arith, lit<}
+use Rattle.std.proofs.Common.{◌≡◌, ℕ, ◌<◌, Some, refl, lit<}
 use Rattle.std.specs.Prelude.{slice_get}
 use Rattle.rv_code.specs.declared.instruction.OpOp.{OpOp}
 use Rattle.rv_code.specs.declared.instruction.OpOp.TheVariants.{Add, Sub, Sll, Slt, Sltu, Xor, Srl, Sra, Or, And, Addw, Subw, Sllw, Srlw, Sraw, Mul, Mulh, Mulhsu, Mulhu, Div, Divu, Rem, Remu, Mulw, Divw, Divuw, Remw, Remuw}
@@ -32,34 +32,34 @@ pub record FitsFullCode (c : FullCode) : Type 0 where
   pub opcode : c.opcode < 128
 
 pub op_row-there : (op : OpOp) → IsRow (op_row op)
-op_row-there Add = record { place = 34; is_there = refl }
-op_row-there Sub = record { place = 35; is_there = refl }
-op_row-there Sll = record { place = 36; is_there = refl }
-op_row-there Slt = record { place = 37; is_there = refl }
-op_row-there Sltu = record { place = 38; is_there = refl }
-op_row-there Xor = record { place = 39; is_there = refl }
-op_row-there Srl = record { place = 40; is_there = refl }
-op_row-there Sra = record { place = 41; is_there = refl }
-op_row-there Or = record { place = 42; is_there = refl }
-op_row-there And = record { place = 43; is_there = refl }
-op_row-there Addw = record { place = 44; is_there = refl }
-op_row-there Subw = record { place = 45; is_there = refl }
-op_row-there Sllw = record { place = 46; is_there = refl }
-op_row-there Srlw = record { place = 47; is_there = refl }
-op_row-there Sraw = record { place = 48; is_there = refl }
-op_row-there Mul = record { place = 49; is_there = refl }
-op_row-there Mulh = record { place = 50; is_there = refl }
-op_row-there Mulhsu = record { place = 51; is_there = refl }
-op_row-there Mulhu = record { place = 52; is_there = refl }
-op_row-there Div = record { place = 53; is_there = refl }
-op_row-there Divu = record { place = 54; is_there = refl }
-op_row-there Rem = record { place = 55; is_there = refl }
-op_row-there Remu = record { place = 56; is_there = refl }
-op_row-there Mulw = record { place = 57; is_there = refl }
-op_row-there Divw = record { place = 58; is_there = refl }
-op_row-there Divuw = record { place = 59; is_there = refl }
-op_row-there Remw = record { place = 60; is_there = refl }
-op_row-there Remuw = record { place = 61; is_there = refl }
+op_row-there Add = record { place = 32; is_there = refl }
+op_row-there Sub = record { place = 33; is_there = refl }
+op_row-there Sll = record { place = 34; is_there = refl }
+op_row-there Slt = record { place = 35; is_there = refl }
+op_row-there Sltu = record { place = 36; is_there = refl }
+op_row-there Xor = record { place = 37; is_there = refl }
+op_row-there Srl = record { place = 38; is_there = refl }
+op_row-there Sra = record { place = 39; is_there = refl }
+op_row-there Or = record { place = 40; is_there = refl }
+op_row-there And = record { place = 41; is_there = refl }
+op_row-there Addw = record { place = 42; is_there = refl }
+op_row-there Subw = record { place = 43; is_there = refl }
+op_row-there Sllw = record { place = 44; is_there = refl }
+op_row-there Srlw = record { place = 45; is_there = refl }
+op_row-there Sraw = record { place = 46; is_there = refl }
+op_row-there Mul = record { place = 47; is_there = refl }
+op_row-there Mulh = record { place = 48; is_there = refl }
+op_row-there Mulhsu = record { place = 49; is_there = refl }
+op_row-there Mulhu = record { place = 50; is_there = refl }
+op_row-there Div = record { place = 51; is_there = refl }
+op_row-there Divu = record { place = 52; is_there = refl }
+op_row-there Rem = record { place = 53; is_there = refl }
+op_row-there Remu = record { place = 54; is_there = refl }
+op_row-there Mulw = record { place = 55; is_there = refl }
+op_row-there Divw = record { place = 56; is_there = refl }
+op_row-there Divuw = record { place = 57; is_there = refl }
+op_row-there Remw = record { place = 58; is_there = refl }
+op_row-there Remuw = record { place = 59; is_there = refl }
 
 pub op_code-fits : (op : OpOp) → FitsFullCode (op_code op)
 op_code-fits Add = record { upper = lit< tt; funct3 = lit< tt; opcode = lit< tt }
@@ -92,13 +92,13 @@ op_code-fits Remw = record { upper = lit< tt; funct3 = lit< tt; opcode = lit< tt
 op_code-fits Remuw = record { upper = lit< tt; funct3 = lit< tt; opcode = lit< tt }
 
 pub op_imm_row-there : (op : OpImmOp) → IsRow (op_imm_row op)
-op_imm_row-there Addi = record { place = 21; is_there = refl }
-op_imm_row-there Slti = record { place = 22; is_there = refl }
-op_imm_row-there Sltiu = record { place = 23; is_there = refl }
-op_imm_row-there Xori = record { place = 24; is_there = refl }
-op_imm_row-there Ori = record { place = 25; is_there = refl }
-op_imm_row-there Andi = record { place = 26; is_there = refl }
-op_imm_row-there Addiw = record { place = 27; is_there = refl }
+op_imm_row-there Addi = record { place = 19; is_there = refl }
+op_imm_row-there Slti = record { place = 20; is_there = refl }
+op_imm_row-there Sltiu = record { place = 21; is_there = refl }
+op_imm_row-there Xori = record { place = 22; is_there = refl }
+op_imm_row-there Ori = record { place = 23; is_there = refl }
+op_imm_row-there Andi = record { place = 24; is_there = refl }
+op_imm_row-there Addiw = record { place = 25; is_there = refl }
 
 pub op_imm_code-fits : (op : OpImmOp) → FitsCode (op_imm_code op)
 op_imm_code-fits Addi = record { funct3 = lit< tt; opcode = lit< tt }
@@ -110,12 +110,12 @@ op_imm_code-fits Andi = record { funct3 = lit< tt; opcode = lit< tt }
 op_imm_code-fits Addiw = record { funct3 = lit< tt; opcode = lit< tt }
 
 pub shift_row-there : (op : ShiftOp) → IsRow (shift_row op)
-shift_row-there Slli = record { place = 28; is_there = refl }
-shift_row-there Srli = record { place = 29; is_there = refl }
-shift_row-there Srai = record { place = 30; is_there = refl }
-shift_row-there Slliw = record { place = 31; is_there = refl }
-shift_row-there Srliw = record { place = 32; is_there = refl }
-shift_row-there Sraiw = record { place = 33; is_there = refl }
+shift_row-there Slli = record { place = 26; is_there = refl }
+shift_row-there Srli = record { place = 27; is_there = refl }
+shift_row-there Srai = record { place = 28; is_there = refl }
+shift_row-there Slliw = record { place = 29; is_there = refl }
+shift_row-there Srliw = record { place = 30; is_there = refl }
+shift_row-there Sraiw = record { place = 31; is_there = refl }
 
 pub shift_code-fits : (op : ShiftOp) → FitsFullCode (shift_code op)
 shift_code-fits Slli = record { upper = lit< tt; funct3 = lit< tt; opcode = lit< tt }
@@ -126,13 +126,13 @@ shift_code-fits Srliw = record { upper = lit< tt; funct3 = lit< tt; opcode = lit
 shift_code-fits Sraiw = record { upper = lit< tt; funct3 = lit< tt; opcode = lit< tt }
 
 pub load_row-there : (op : LoadOp) → IsRow (load_row op)
-load_row-there Lb = record { place = 10; is_there = refl }
-load_row-there Lh = record { place = 11; is_there = refl }
-load_row-there Lw = record { place = 12; is_there = refl }
-load_row-there Ld = record { place = 13; is_there = refl }
-load_row-there Lbu = record { place = 14; is_there = refl }
-load_row-there Lhu = record { place = 15; is_there = refl }
-load_row-there Lwu = record { place = 16; is_there = refl }
+load_row-there Lb = record { place = 8; is_there = refl }
+load_row-there Lh = record { place = 9; is_there = refl }
+load_row-there Lw = record { place = 10; is_there = refl }
+load_row-there Ld = record { place = 11; is_there = refl }
+load_row-there Lbu = record { place = 12; is_there = refl }
+load_row-there Lhu = record { place = 13; is_there = refl }
+load_row-there Lwu = record { place = 14; is_there = refl }
 
 pub load_code-fits : (op : LoadOp) → FitsCode (load_code op)
 load_code-fits Lb = record { funct3 = lit< tt; opcode = lit< tt }
@@ -144,10 +144,10 @@ load_code-fits Lhu = record { funct3 = lit< tt; opcode = lit< tt }
 load_code-fits Lwu = record { funct3 = lit< tt; opcode = lit< tt }
 
 pub store_row-there : (op : StoreOp) → IsRow (store_row op)
-store_row-there Sb = record { place = 17; is_there = refl }
-store_row-there Sh = record { place = 18; is_there = refl }
-store_row-there Sw = record { place = 19; is_there = refl }
-store_row-there Sd = record { place = 20; is_there = refl }
+store_row-there Sb = record { place = 15; is_there = refl }
+store_row-there Sh = record { place = 16; is_there = refl }
+store_row-there Sw = record { place = 17; is_there = refl }
+store_row-there Sd = record { place = 18; is_there = refl }
 
 pub store_code-fits : (op : StoreOp) → FitsCode (store_code op)
 store_code-fits Sb = record { funct3 = lit< tt; opcode = lit< tt }
@@ -156,12 +156,12 @@ store_code-fits Sw = record { funct3 = lit< tt; opcode = lit< tt }
 store_code-fits Sd = record { funct3 = lit< tt; opcode = lit< tt }
 
 pub branch_row-there : (op : BranchOp) → IsRow (branch_row op)
-branch_row-there Beq = record { place = 4; is_there = refl }
-branch_row-there Bne = record { place = 5; is_there = refl }
-branch_row-there Blt = record { place = 6; is_there = refl }
-branch_row-there Bge = record { place = 7; is_there = refl }
-branch_row-there Bltu = record { place = 8; is_there = refl }
-branch_row-there Bgeu = record { place = 9; is_there = refl }
+branch_row-there Beq = record { place = 2; is_there = refl }
+branch_row-there Bne = record { place = 3; is_there = refl }
+branch_row-there Blt = record { place = 4; is_there = refl }
+branch_row-there Bge = record { place = 5; is_there = refl }
+branch_row-there Bltu = record { place = 6; is_there = refl }
+branch_row-there Bgeu = record { place = 7; is_there = refl }
 
 pub branch_code-fits : (op : BranchOp) → FitsCode (branch_code op)
 branch_code-fits Beq = record { funct3 = lit< tt; opcode = lit< tt }

@@ -1,6 +1,6 @@
 -- What is put into the fields of a word is read from them, and the fields of a word are the whole of it.
-use Rattle.std.proofs.Common.{◌≡◌, ℕ, ◌+◌, ◌-◌, ◌*◌, ◌/◌, ◌%◌, ◌^◌, ◌<◌, List, [], ◌∷◌, arith, refl}
-use Rattle.rv_code.specs.Table.{field, Code, FullCode}
+use Rattle.std.proofs.Common.{◌≡◌, ℕ, ◌+◌, ◌-◌, ◌*◌, ◌%◌, ◌^◌, ◌<◌, [], ◌∷◌, arith}
+use Rattle.rv_code.specs.Table.{field, Code}
 use Rattle.rv_code.specs.Encode.{joined, i_word, s_word, b_word, u_word, j_word}
 
 -- funct7 rs2 rs1 funct3 rd opcode
@@ -20,8 +20,8 @@ pub r_word-fields : (upper rs2 rs1 funct3 rd opcode : ℕ) → upper < 128 → r
 r_word-fields upper rs2 rs1 funct3 rd opcode a b c d e f =
     record { upper_is = omega arith; rs2_is = omega arith; rs1_is = omega arith; funct3_is = omega arith; rd_is = omega arith; opcode_is = omega arith; below = omega arith }
 
-pub r_word-whole : (w : ℕ) → w < 2 ^ 32 → r_word (field w 31 25) (field w 24 20) (field w 19 15) (field w 14 12) (field w 11 7) (field w 6 0) ≡ w
-r_word-whole w h = omega arith
+pub r_word-whole : (w upper funct3 opcode : ℕ) → w < 2 ^ 32 → field w 31 25 ≡ upper → field w 14 12 ≡ funct3 → field w 6 0 ≡ opcode → r_word upper (field w 24 20) (field w 19 15) funct3 (field w 11 7) opcode ≡ w
+r_word-whole w upper funct3 opcode h u f o = omega arith
 
 pub record HasIFields (w imm rs1 funct3 rd opcode : ℕ) : Type 0 where
   pub imm_is : field w 31 20 ≡ imm
@@ -121,8 +121,8 @@ pub shift_word-fields-6 : (upper amount rs1 funct3 rd opcode : ℕ) → upper < 
 shift_word-fields-6 upper amount rs1 funct3 rd opcode a b c d e f =
     record { upper_is = omega arith; amount_is = omega arith; rs1_is = omega arith; funct3_is = omega arith; rd_is = omega arith; opcode_is = omega arith; below = omega arith }
 
-pub shift_word-whole-5 : (w : ℕ) → w < 2 ^ 32 → shift_word 5 (field w 31 25) (field w 24 20) (field w 19 15) (field w 14 12) (field w 11 7) (field w 6 0) ≡ w
-shift_word-whole-5 w h = omega arith
+pub shift_word-whole-5 : (w upper funct3 opcode : ℕ) → w < 2 ^ 32 → field w 31 25 ≡ upper → field w 14 12 ≡ funct3 → field w 6 0 ≡ opcode → shift_word 5 upper (field w 24 20) (field w 19 15) funct3 (field w 11 7) opcode ≡ w
+shift_word-whole-5 w upper funct3 opcode h u f o = omega arith
 
-pub shift_word-whole-6 : (w : ℕ) → w < 2 ^ 32 → shift_word 6 (field w 31 26) (field w 25 20) (field w 19 15) (field w 14 12) (field w 11 7) (field w 6 0) ≡ w
-shift_word-whole-6 w h = omega arith
+pub shift_word-whole-6 : (w upper funct3 opcode : ℕ) → w < 2 ^ 32 → field w 31 26 ≡ upper → field w 14 12 ≡ funct3 → field w 6 0 ≡ opcode → shift_word 6 upper (field w 25 20) (field w 19 15) funct3 (field w 11 7) opcode ≡ w
+shift_word-whole-6 w upper funct3 opcode h u f o = omega arith

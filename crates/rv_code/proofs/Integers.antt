@@ -1,5 +1,5 @@
 -- Integers and their bits.
-use Rattle.std.proofs.Common.{◌≡◌, ℕ, zero, suc, ◌+◌, ◌-◌, ◌*◌, ◌%◌, ◌^◌, ◌<◌, ◌≤◌, Bool, true, false, ◌&&◌, ℤ, pos, negsuc, refl, ap, ◌∙◌, arith, if◌then◌else◌, ltb-true, lt-ltb, le-ltb, eqb-true, eq-eqb, nat_lt, nat_eq, unsigned_abs}
+use Rattle.std.proofs.Common.{◌≡◌, ℕ, zero, suc, ◌-◌, ◌*◌, ◌%◌, ◌^◌, ◌<◌, ◌≤◌, true, false, ℤ, pos, negsuc, refl, ap, arith, ltb-true, le-ltb, eqb-true, nat_lt}
 use Rattle.std.proofs.Math.Nat.{pow-succ'}
 use Rattle.rv_code.specs.Table.{integer_of_bits}
 use Rattle.rv_code.specs.Encode.{bits_of_integer, has_bits, is_multiple}

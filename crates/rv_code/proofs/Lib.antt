@@ -4,3 +4,4 @@ pub mod Fields
 pub mod Rows
 pub mod Codes
 pub mod Words
+pub mod Decoded

@@ -1,5 +1,5 @@
 -- A word fits at most one row of the table.
-use Rattle.std.proofs.Common.{◌≡◌, ℕ, zero, suc, ◌+◌, ◌<◌, ◌≤◌, Bool, true, false, cond, not, ◌&&◌, ◌||◌, List, [], ◌∷◌, Option, Some, None, refl, sym, ap, ◌∙◌, subst, arith, ◌⊎◌, inl, inr, nat_eq, if◌then◌else◌, eqb-true, eq-eqb}
+use Rattle.std.proofs.Common.{◌≡◌, ℕ, zero, suc, ◌+◌, ◌≤◌, Bool, true, false, cond, not, ◌&&◌, ◌||◌, List, [], ◌∷◌, Some, refl, sym, ap, ◌∙◌, subst, arith, ◌⊎◌, inl, inr, nat_eq, eqb-true, eq-eqb}
 use Rattle.std.specs.Prelude.{slice_get}
 use Rattle.std.specs.List.{All, count_by}
 use Rattle.std.proofs.lemmas.List.Elements.{All-head, All-tail}
@@ -102,8 +102,9 @@ first-fit-at-of w (s ∷ rows) zero r e g p =
 first-fit-at-of w (s ∷ rows) (suc i) r e g p =
     let a = and-true (is_apart_from s rows) (are_all_apart rows) e in
     elim (true-or-false (fits w s)) [
-      inl q ↦ absurd (apart-get s rows i a.0 q g)
-    | inr q ↦ rw q (first-fit-at-of w rows i r a.1 g p) ]
+      | inl q ↦ absurd (apart-get s rows i a.0 q g)
+      | inr q ↦ rw q (first-fit-at-of w rows i r a.1 g p)
+    ]
   where
     apart-get : (s : Row) (rows : List Row) (i : ℕ) → is_apart_from s rows ≡ true → fits w s ≡ true → slice_get rows i ≡ Some r → ⊥
     apart-get s [] i e q g = cc
@@ -122,5 +123,6 @@ pub first-fit-holds : (P : Row → Type 0) (w : ℕ) (rows : List Row) (r : Row)
 first-fit-holds P w [] r h e = absurd (cc)
 first-fit-holds P w (s ∷ rows) r h e =
     elim (true-or-false (fits w s)) [
-      inl p ↦ (let x : s ≡ r = (let u = rw p at e in cc) in (subst P x (All-head P s rows h), ap (fits w) (sym x) ∙ p))
-    | inr p ↦ first-fit-holds P w rows r (All-tail P s rows h) (rw p at e) ]
+      | inl p ↦ (let x : s ≡ r = (let u = rw p at e in cc) in (subst P x (All-head P s rows h), ap (fits w) (sym x) ∙ p))
+      | inr p ↦ first-fit-holds P w rows r (All-tail P s rows h) (rw p at e)
+    ]

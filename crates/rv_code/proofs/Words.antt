@@ -1,21 +1,19 @@
 -- The word of an instruction that has one is decoded to that instruction.
-use Rattle.std.proofs.Common.{◌≡◌, ℕ, ◌+◌, ◌-◌, ◌*◌, ◌/◌, ◌%◌, ◌^◌, ◌<◌, ◌≤◌, Bool, true, false, ◌&&◌, [], ◌∷◌, Some, None, ℤ, refl, sym, ap, subst, ◌∙◌, arith, eq-eqb, ltb-true, nat_lt, cond, if◌then◌else◌}
+use Rattle.std.proofs.Common.{◌≡◌, ℕ, ◌^◌, ◌<◌, Bool, true, false, ◌&&◌, Option, Some, None, IfSome, ℤ, refl, sym, ap, subst, arith, eq-eqb, ltb-true, nat_lt, cond}
 use Rattle.rv_code.specs.declared.instruction.Inst.{Inst}
 use Rattle.rv_code.specs.declared.instruction.Inst.TheVariants.{Op, OpImm, Shift, Load, Store, Branch, Upper, Jal, Jalr, Fence, Ecall, Ebreak}
 use Rattle.rv_code.specs.declared.instruction.OpOp.{OpOp}
-use Rattle.rv_code.specs.declared.instruction.OpImmOp.{OpImmOp}
 use Rattle.rv_code.specs.declared.instruction.ShiftOp.{ShiftOp}
 use Rattle.rv_code.specs.declared.instruction.ShiftOp.TheVariants.{Slli, Srli, Srai, Slliw, Srliw, Sraiw}
-use Rattle.rv_code.specs.declared.instruction.LoadOp.{LoadOp}
 use Rattle.rv_code.specs.declared.instruction.StoreOp.{StoreOp}
 use Rattle.rv_code.specs.declared.instruction.BranchOp.{BranchOp}
 use Rattle.rv_code.specs.declared.instruction.UpperOp.{UpperOp}
-use Rattle.rv_code.specs.Table.{Row, Code, FullCode, field, has_fields, fits, fixed_code, op_code, op_imm_code, shift_code, amount_bits, load_code, store_code, branch_code, jalr_code, fence_code, upper_opcode, jal_opcode, ecall_word, ebreak_word, op_row, op_imm_row, shift_row, load_row, store_row, branch_row, upper_row, i_row, jal_row, jalr_row, fence_row, word_row, table, row, decode}
-use Rattle.rv_code.specs.Encode.{word_of, encode, is_encodable, is_in_format, has_registers, bits_of_integer, has_bits, is_multiple, joined, i_word, s_word, b_word, u_word, j_word}
+use Rattle.rv_code.specs.Table.{Row, Code, field, has_fields, fits, fixed_code, op_code, op_imm_code, shift_code, amount_bits, load_code, store_code, branch_code, jalr_code, fence_code, upper_opcode, jal_opcode, ecall_word, ebreak_word, op_row, shift_row, store_row, branch_row, upper_row, i_row, jal_row, word_row, row, decode}
+use Rattle.rv_code.specs.Encode.{word_of, encode, is_encodable, is_in_format, has_registers, bits_of_integer, has_bits, is_multiple, i_word}
 use Rattle.rv_code.proofs.Integers.{integer_of_bits-bits, bits_of_integer-below, bits_of_integer-even, bits_of_integer-pages}
-use Rattle.rv_code.proofs.Fields.{HasRFields, HasIFields, HasSFields, HasBFields, HasUFields, HasJFields, HasShiftFields, shift_word-fields-5, shift_word-fields-6, r_word, r_word-fields, i_word-fields, s_word-fields, b_word-fields, u_word-fields, j_word-fields}
+use Rattle.rv_code.proofs.Fields.{HasRFields, HasIFields, HasSFields, HasBFields, HasUFields, HasJFields, HasShiftFields, shift_word-fields-5, shift_word-fields-6, r_word-fields, i_word-fields, s_word-fields, b_word-fields, u_word-fields, j_word-fields}
 use Rattle.rv_code.proofs.Rows.{first-fit-at}
-use Rattle.rv_code.proofs.Codes.{IsRow, FitsCode, op_row-there, op_imm_row-there, shift_row-there, load_row-there, store_row-there, branch_row-there, upper_row-there, op_code-fits, op_imm_code-fits, shift_code-fits, load_code-fits, store_code-fits, branch_code-fits, upper_opcode-fits}
+use Rattle.rv_code.proofs.Codes.{IsRow, FitsCode, op_row-there, op_imm_row-there, shift_row-there, load_row-there, store_row-there, branch_row-there, upper_row-there, op_code-fits, op_imm_code-fits, load_code-fits, store_code-fits, branch_code-fits, upper_opcode-fits}
 
 and-parts : (a b : Bool) → a && b ≡ true → (a ≡ true) × (b ≡ true)
 and-parts true b e = (refl, e)
@@ -61,7 +59,7 @@ upper-read op rd imm w b f =
 
 jal-read : (rd : ℕ) (imm : ℤ) (w : ℕ) → has_bits 21 imm ≡ true → HasJFields w (bits_of_integer 21 imm) rd jal_opcode → decode w ≡ Some (Jal rd imm)
 jal-read rd imm w b f =
-    found w jal_row (Jal rd imm) (record { place = 2; is_there = refl }) (both _ _ (eq-eqb _ _ f.opcode_is) refl)
+    found w jal_row (Jal rd imm) (record { place = 60; is_there = refl }) (both _ _ (eq-eqb _ _ f.opcode_is) refl)
     (rw (f.rd_is, f.imm_is, integer_of_bits-bits 21 imm (omega arith) b) refl)
 
 -- ---- the word of an instruction has these fields
@@ -123,7 +121,7 @@ word-reads i e = let p = and-parts (has_registers i) (is_in_format i) e in by-ki
         let m = and-parts (has_bits 21 imm) (is_multiple 2 imm) b in
         let f = j_word-fields (bits_of_integer 21 imm) rd jal_opcode (bits_of_integer-below 21 imm (omega arith) m.0) (bits_of_integer-even 21 imm (omega arith) m.0 m.1) (ltb-true _ _ r) (omega arith) in
         record { decodes = jal-read rd imm _ m.0 f; below = f.below }
-    by-kind (Jalr rd rs1 imm) r b = let x = i-word-reads Jalr jalr_code rd rs1 imm (record { place = 3; is_there = refl }) (record { funct3 = omega arith; opcode = omega arith }) r b in record { decodes = x.0; below = x.1 }
+    by-kind (Jalr rd rs1 imm) r b = let x = i-word-reads Jalr jalr_code rd rs1 imm (record { place = 61; is_there = refl }) (record { funct3 = omega arith; opcode = omega arith }) r b in record { decodes = x.0; below = x.1 }
     by-kind (Fence rd rs1 imm) r b = let x = i-word-reads Fence fence_code rd rs1 imm (record { place = 62; is_there = refl }) (record { funct3 = omega arith; opcode = omega arith }) r b in record { decodes = x.0; below = x.1 }
     by-kind Ecall r b = record { decodes = found ecall_word (word_row ecall_word Ecall) Ecall (record { place = 63; is_there = refl }) refl refl; below = omega arith }
     by-kind Ebreak r b = record { decodes = found ebreak_word (word_row ebreak_word Ebreak) Ebreak (record { place = 64; is_there = refl }) refl refl; below = omega arith }
@@ -151,3 +149,7 @@ pub encode-below : (i : Inst) (w : ℕ) → encode i ≡ Some w → w < 2 ^ 32
 encode-below i w e =
     let s = encoded (is_encodable i) (word_of i) w e in
     subst (λ v. v < 2 ^ 32) s.1 (word_of-below i s.0)
+
+pub decoded-encode : (i : Inst) (r : Option ℕ) → r ≡ encode i → IfSome r (λ w. decode w ≡ Some i)
+decoded-encode i None e = tt
+decoded-encode i (Some w) e = decode-encode i w (sym e)

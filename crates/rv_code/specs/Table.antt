@@ -266,20 +266,43 @@ abbrev pub word_row : ℕ → Inst → Row
 word_row word inst =
     record { fixed = fixed_field 31 7 (field word 31 7) ∷ fixed_field 6 0 (field word 6 0) ∷ []; instruction = λ _. inst }
 
+-- ---- the table
+
+abbrev pub every_upper : List UpperOp
+every_upper = Lui ∷ Auipc ∷ []
+
+abbrev pub every_branch : List BranchOp
+every_branch = Beq ∷ Bne ∷ Blt ∷ Bge ∷ Bltu ∷ Bgeu ∷ []
+
+abbrev pub every_load : List LoadOp
+every_load = Lb ∷ Lh ∷ Lw ∷ Ld ∷ Lbu ∷ Lhu ∷ Lwu ∷ []
+
+abbrev pub every_store : List StoreOp
+every_store = Sb ∷ Sh ∷ Sw ∷ Sd ∷ []
+
+abbrev pub every_op_imm : List OpImmOp
+every_op_imm = Addi ∷ Slti ∷ Sltiu ∷ Xori ∷ Ori ∷ Andi ∷ Addiw ∷ []
+
+abbrev pub every_shift : List ShiftOp
+every_shift = Slli ∷ Srli ∷ Srai ∷ Slliw ∷ Srliw ∷ Sraiw ∷ []
+
+abbrev pub every_op : List OpOp
+every_op = Add ∷ Sub ∷ Sll ∷ Slt ∷ Sltu ∷ Xor ∷ Srl ∷ Sra ∷ Or ∷ And ∷ Addw ∷ Subw ∷ Sllw ∷ Srlw ∷ Sraw ∷ Mul ∷ Mulh ∷ Mulhsu ∷ Mulhu ∷ Div ∷ Divu ∷ Rem ∷ Remu ∷ Mulw ∷ Divw ∷ Divuw ∷ Remw ∷ Remuw ∷ []
+
+abbrev pub single_rows : List Row
+single_rows = jal_row ∷ jalr_row ∷ fence_row ∷ word_row ecall_word Ecall ∷ word_row ebreak_word Ebreak ∷ []
+
+-- all rows
 abbrev pub table : List Row
 table =
-    map upper_row (Lui ∷ Auipc ∷ [])
-    ++ (jal_row ∷ jalr_row ∷ [])
-    ++ map branch_row (Beq ∷ Bne ∷ Blt ∷ Bge ∷ Bltu ∷ Bgeu ∷ [])
-    ++ map load_row (Lb ∷ Lh ∷ Lw ∷ Ld ∷ Lbu ∷ Lhu ∷ Lwu ∷ [])
-    ++ map store_row (Sb ∷ Sh ∷ Sw ∷ Sd ∷ [])
-    ++ map op_imm_row (Addi ∷ Slti ∷ Sltiu ∷ Xori ∷ Ori ∷ Andi ∷ Addiw ∷ [])
-    ++ map shift_row (Slli ∷ Srli ∷ Srai ∷ Slliw ∷ Srliw ∷ Sraiw ∷ [])
-    ++ map op_row (Add ∷ Sub ∷ Sll ∷ Slt ∷ Sltu ∷ Xor ∷ Srl ∷ Sra ∷ Or ∷ And ∷ [])
-    ++ map op_row (Addw ∷ Subw ∷ Sllw ∷ Srlw ∷ Sraw ∷ [])
-    ++ map op_row (Mul ∷ Mulh ∷ Mulhsu ∷ Mulhu ∷ Div ∷ Divu ∷ Rem ∷ Remu ∷ [])
-    ++ map op_row (Mulw ∷ Divw ∷ Divuw ∷ Remw ∷ Remuw ∷ [])
-    ++ (fence_row ∷ word_row ecall_word Ecall ∷ word_row ebreak_word Ebreak ∷ [])
+    map upper_row every_upper
+    ++ map branch_row every_branch
+    ++ map load_row every_load
+    ++ map store_row every_store
+    ++ map op_imm_row every_op_imm
+    ++ map shift_row every_shift
+    ++ map op_row every_op
+    ++ single_rows
 
 -- ---- the row of a word
 

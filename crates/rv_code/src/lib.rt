@@ -2,7 +2,9 @@
 #![tactic(auto)]
 
 pub mod cause;
+pub mod encoding;
 pub mod instruction;
 
 pub use cause::Cause;
+pub use encoding::encode;
 pub use instruction::{BranchOp, Inst, LoadOp, OpImmOp, OpOp, Reg, ShiftOp, StoreOp, UpperOp};
