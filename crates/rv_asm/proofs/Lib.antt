@@ -19,3 +19,4 @@ pub mod Messages
 pub mod Distances
 pub mod Labels
 pub mod LabelsKept
+mod Examples
