@@ -54,7 +54,9 @@ module _ (base : ℕ) (code : List Inst) (register place : ℕ) (c : WordState) 
     send_word-between = quiet-then-between base code 5 1 c before_call after_send before_call-runs refl (one-between base code before_call after_send call-runs)
 
 -- what a send leaves in a register: registers 10, 11, 12 and 17 alone are changed
-pub after_send-others : (base : ℕ) (code : List Inst) (register place k : ℕ) (c : WordState) → k ≢ 10 → k ≢ 11 → k ≢ 12 → k ≢ 17 → (after_send base code register place c).registers k ≡ c.registers k
+pub after_send-others :
+    (base : ℕ) (code : List Inst) (register place k : ℕ) (c : WordState) → k ≢ 10 → k ≢ 11 → k ≢ 12 → k ≢ 17 →
+    (after_send base code register place c).registers k ≡ c.registers k
 after_send-others base code register place k c a b d e =
     let r0 = c.registers in
     let r1 = put r0 11 (base + 8 * place) in

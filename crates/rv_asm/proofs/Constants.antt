@@ -31,7 +31,10 @@ abbrev with_value : WordState → (d v instructions : ℕ) → WordState
 with_value c d v instructions = record c { pc = c.pc + 4 * instructions; registers = put c.registers (suc d) v }
 
 module _ (base : ℕ) (code : List Inst) where
-  last-two : (c : WordState) (d n : ℕ) → get c.registers (suc d) ≡ wrap (high_part n) → Has code c.pc (Shift Slli (suc d) (suc d) 12 ∷ OpImm Addi (suc d) (suc d) (low_part n) ∷ []) → run_words base code 2 c ≡ Goes (record c { pc = c.pc + 4 + 4; registers = put c.registers (suc d) (wrap n) })
+  last-two :
+      (c : WordState) (d n : ℕ) → get c.registers (suc d) ≡ wrap (high_part n) →
+      Has code c.pc (Shift Slli (suc d) (suc d) 12 ∷ OpImm Addi (suc d) (suc d) (low_part n) ∷ []) →
+      run_words base code 2 c ≡ Goes (record c { pc = c.pc + 4 + 4; registers = put c.registers (suc d) (wrap n) })
   last-two c d n g h =
       let v = wrap (get c.registers (suc d) * 2 ^ 12) in
       let x = unsigned (low_part n) in
@@ -39,14 +42,18 @@ module _ (base : ℕ) (code : List Inst) where
       ap (λ y. wrap (y + x)) (get-put_same c.registers d v) ∙ ap (λ y. wrap (wrap (y * 2 ^ 12) + x)) g ∙ next-value n in
       rw (h.0, h.1.0) (ap (λ r. Goes (record c { pc = c.pc + 4 + 4; registers = r })) (ap (put (put c.registers (suc d) v) (suc d)) e ∙ put-put c.registers (suc d) v (wrap n)))
 
-  first-two : (c : WordState) (d n : ℕ) → n < 2 ^ 30 → Has code c.pc (load_parts 0 (suc d) n) → run_words base code 2 c ≡ Goes (record c { pc = c.pc + 4 + 4; registers = put c.registers (suc d) (wrap n) })
+  first-two :
+      (c : WordState) (d n : ℕ) → n < 2 ^ 30 → Has code c.pc (load_parts 0 (suc d) n) →
+      run_words base code 2 c ≡ Goes (record c { pc = c.pc + 4 + 4; registers = put c.registers (suc d) (wrap n) })
   first-two c d n b h =
       let v = high_part n * 4096 in
       let x = unsigned (low_part n) in
       let e : wrap (get (put c.registers (suc d) v) (suc d) + x) ≡ wrap n = ap (λ y. wrap (y + x)) (get-put_same c.registers d v) ∙ first-value n b in
       rw (h.0, h.1.0) (ap (λ r. Goes (record c { pc = c.pc + 4 + 4; registers = r })) (ap (put (put c.registers (suc d) v) (suc d)) e ∙ put-put c.registers (suc d) v (wrap n)))
 
-  load_parts-runs : (k d n : ℕ) (c : WordState) → n ≤ 2 ^ (28 + 12 * k) → Has code c.pc (load_parts k (suc d) n) → run_words base code (2 * k + 2) c ≡ Goes (with_value c d (wrap n) (2 * k + 2))
+  load_parts-runs :
+      (k d n : ℕ) (c : WordState) → n ≤ 2 ^ (28 + 12 * k) → Has code c.pc (load_parts k (suc d) n) →
+      run_words base code (2 * k + 2) c ≡ Goes (with_value c d (wrap n) (2 * k + 2))
   load_parts-runs zero d n c b h =
       first-two c d n (omega arith) h ∙ ap (λ p. Goes (record c { pc = p; registers = put c.registers (suc d) (wrap n) })) (omega arith)
   load_parts-runs (suc k) d n c b h =
@@ -72,7 +79,10 @@ parts_of-cases value P a b c d =
     if-cases P (leb value (2 ^ 28)) 0 _ (λ e. a (leb-true _ _ e))
     (λ _. if-cases P (leb value (2 ^ 40)) 1 _ (λ e. b (leb-true _ _ e)) (λ _. if-cases P (leb value (2 ^ 52)) 2 3 (λ e. c (leb-true _ _ e)) (λ _. d)))
 
-load_constant-cases : (rd value : ℕ) (P : List Inst → Type 0) → (value < 2048 → P (OpImm Addi rd 0 (pos value) ∷ [])) → (2 ^ 64 - 2048 ≤ value → P (OpImm Addi rd 0 (negsuc (2 ^ 64 - 1 - value)) ∷ [])) → P (load_parts (parts_of value) rd value) → P (load_constant rd value)
+load_constant-cases :
+    (rd value : ℕ) (P : List Inst → Type 0) → (value < 2048 → P (OpImm Addi rd 0 (pos value) ∷ [])) →
+    (2 ^ 64 - 2048 ≤ value → P (OpImm Addi rd 0 (negsuc (2 ^ 64 - 1 - value)) ∷ [])) → P (load_parts (parts_of value) rd value) →
+    P (load_constant rd value)
 load_constant-cases rd value P a b c =
     if-cases P (ltb value 2048) _ _ (λ e. a (ltb-true _ _ e))
     (λ _. if-cases P (leb (2 ^ 64 - 2048) value) _ _ (λ e. b (leb-true _ _ e)) (λ _. c))

@@ -25,7 +25,9 @@ pub record AreEncodings (words : List ℕ) (code : List Inst) : Type 0 where
   pub bytes : instruction_bytes words ≡ code_bytes code
   pub size : length words ≡ length code
 
-encodings-cons : (w : ℕ) (words : List ℕ) (i : Inst) (code : List Inst) → encode i ≡ Some w → AreEncodings words code → AreEncodings (w ∷ words) (i ∷ code)
+encodings-cons :
+    (w : ℕ) (words : List ℕ) (i : Inst) (code : List Inst) → encode i ≡ Some w → AreEncodings words code →
+    AreEncodings (w ∷ words) (i ∷ code)
 unfolding instruction_bytes code_bytes
 encodings-cons w words i code e a =
     let s = if-some (is_encodable i) (word_of i) w e in

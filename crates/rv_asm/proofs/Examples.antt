@@ -82,12 +82,32 @@ abbrev IsAtRound : WordState → Round → Type 0
 IsAtRound state c = (state.pc ≡ place_of c) × (state.output ≡ [])
 
 round : (state : WordState) (c : Round) → IsAtRound state c → Advances 69632 looping rounds IsAtRound state c
-round state Before a =
-    let to = record state { pc = 65540 } in
-    quiet-advance 69632 looping rounds IsAtRound state to Before (Behind 0) 1 (omega arith) (rw a.0 refl) refl a.1 (refl, a.1) tt (omega arith)
-round state (Behind k) a =
-    let to = record state { registers = put state.registers 5 ((state.registers 5 + 1) % 2 ^ 64) } in
-    quiet-advance 69632 looping rounds IsAtRound state to (Behind k) (Behind (suc k)) 2 (omega arith) (rw a.0 refl) refl a.1 (a.0, a.1) tt (omega arith)
+round state Before a = quiet-advance 69632 looping rounds IsAtRound state Before
+    (record {
+      count = 1;
+      to = record state { pc = 65540 };
+      next = Behind 0;
+      some = omega arith;
+      runs = rw a.0 refl;
+      quiet = refl;
+      output = a.1;
+      related = (refl, a.1);
+      reached = tt;
+      paid = omega arith;
+    })
+round state (Behind k) a = quiet-advance 69632 looping rounds IsAtRound state (Behind k)
+    (record {
+      count = 2;
+      to = record state { registers = put state.registers 5 ((state.registers 5 + 1) % 2 ^ 64) };
+      next = Behind (suc k);
+      some = omega arith;
+      runs = rw a.0 refl;
+      quiet = refl;
+      output = a.1;
+      related = (a.0, a.1);
+      reached = tt;
+      paid = omega arith;
+    })
 
 -- it runs for ever, on the machine of the table
 rounds-follow : Follows rounds (loaded 65536 (compiled_segments looping 1 1) [])

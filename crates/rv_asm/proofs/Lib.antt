@@ -3,6 +3,8 @@ pub mod Bounds
 pub mod Registers
 pub mod WordBytes
 pub mod Places
+pub mod Regions
+pub mod Words
 pub mod Outputs
 pub mod Stretches
 pub mod Moments

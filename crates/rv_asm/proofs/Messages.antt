@@ -12,11 +12,11 @@ use Rattle.rv_asm.specs.Meanings.{Meaning, IsShown}
 use Rattle.rv_asm.specs.Messages.{messages_code, messages_program, IsMoment, SendsMessages}
 use Rattle.rv_asm.specs.Pieces.{load_constant, send_word}
 use Rattle.rv_asm.specs.WordMachine.{WordState, put, Has, word_bytes, start_state}
-use Rattle.rv_asm.proofs.Bridge.{compiled-below}
+use Rattle.rv_asm.proofs.Regions.{compiled-below}
 use Rattle.rv_asm.proofs.Calls.{CanSend, after_send, send_word-runs, send_word-between, before_exit, before_exit-runs, exit-stops, send_word-encodable, exit_with-encodable}
 use Rattle.rv_asm.proofs.Constants.{load_constant-runs, length-load_constant, load_constant-encodable}
-use Rattle.rv_asm.proofs.Moments.{Advances, Stops, output-advance, quiet-stop}
-use Rattle.rv_asm.proofs.Follows.{CodeFollows, follows-compiled}
+use Rattle.rv_asm.proofs.Moments.{Advances, Stops, CodeFollows, sending-advance, quiet-stop}
+use Rattle.rv_asm.proofs.Follows.{follows-compiled}
 use Rattle.rv_asm.proofs.Places.{Has-front, Has-back, Has-whole}
 use Rattle.rv_asm.proofs.Stretches.{then-runs, quiet-then-between}
 use Rattle.rv_asm.proofs.WordBytes.{word_bytes-append}
@@ -56,13 +56,31 @@ module _ (ms : List ℕ) where
       output : state.output ≡ word_bytes c.sent
       words : AllWords c.rest
 
-    last : (state : WordState) (sent : List ℕ) → IsAt state (record { sent = sent; rest = [] }) → sent ++ [] ≡ ms → Stops base code meaning IsAt state (record { sent = sent; rest = [] })
+    last :
+        (state : WordState) (sent : List ℕ) → IsAt state (record { sent = sent; rest = [] }) → sent ++ [] ≡ ms →
+        Stops base code meaning IsAt state (record { sent = sent; rest = [] })
     last state sent a r =
         let c : Progress = record { sent = sent; rest = [] } in
         let few : 0 < 256 = omega arith in
-        quiet-stop base code meaning IsAt state (before_exit base code 0 state) c c 2 0 (before_exit-runs base code 0 state few a.here) refl a.output (exit-stops base code 0 state few a.here) r (refl, refl) (omega arith)
+        quiet-stop base code meaning IsAt state c
+        (record {
+          count = 2;
+          to = before_exit base code 0 state;
+          last = c;
+          exit = 0;
+          runs = before_exit-runs base code 0 state few a.here;
+          quiet = refl;
+          output = a.output;
+          exits = exit-stops base code 0 state few a.here;
+          reached = r;
+          ends = (refl, refl);
+          paid = omega arith;
+        })
 
-    next : (state : WordState) (sent : List ℕ) (m : ℕ) (rest : List ℕ) → IsAt state (record { sent = sent; rest = m ∷ rest }) → sent ++ (m ∷ rest) ≡ ms → Advances base code meaning IsAt state (record { sent = sent; rest = m ∷ rest })
+    next :
+        (state : WordState) (sent : List ℕ) (m : ℕ) (rest : List ℕ) → IsAt state (record { sent = sent; rest = m ∷ rest }) →
+        sent ++ (m ∷ rest) ≡ ms →
+        Advances base code meaning IsAt state (record { sent = sent; rest = m ∷ rest })
     next state sent m rest a r =
         let c : Progress = record { sent = sent; rest = m ∷ rest } in
         let d : Progress = record { sent = sent ++ (m ∷ []); rest = rest } in
@@ -88,15 +106,31 @@ module _ (ms : List ℕ) where
           output = out;
           words = All-tail (λ w. w < 2 ^ 64) m rest a.words;
         } in
-        output-advance base code meaning IsAt state to c d (n + 6) (omega arith)
-        (then-runs base code n 6 state loaded to r1 (send_word-runs base code 10 0 loaded can h3))
-        (quiet-then-between base code n 6 state loaded to r1 refl (send_word-between base code 10 0 loaded can h3))
-        a.output out at r (append_assoc sent (m ∷ []) rest ∙ r) (omega (arith, few)) (omega (arith, few, length-append sent (m ∷ [])))
+        sending-advance base code meaning IsAt state c
+        (record {
+          count = n + 6;
+          to = to;
+          next = d;
+          some = omega arith;
+          runs = then-runs base code n 6 state loaded to r1 (send_word-runs base code 10 0 loaded can h3);
+          between = quiet-then-between base code n 6 state loaded to r1 refl (send_word-between base code 10 0 loaded can h3);
+          before = a.output;
+          output = out;
+          related = at;
+          started = r;
+          reached = append_assoc sent (m ∷ []) rest ∙ r;
+          short = omega (arith, few);
+          paid = omega (arith, few, length-append sent (m ∷ []));
+        })
 
-    turn : (state : WordState) (c : Progress) → IsAt state c → c.sent ++ c.rest ≡ ms → Advances base code meaning IsAt state c ⊎ Stops base code meaning IsAt state c
+    turn :
+        (state : WordState) (c : Progress) → IsAt state c → c.sent ++ c.rest ≡ ms →
+        Advances base code meaning IsAt state c ⊎ Stops base code meaning IsAt state c
     turn state c a r = by_rest c.sent c.rest a r
       where
-        by_rest : (sent rest : List ℕ) → IsAt state (record { sent = sent; rest = rest }) → sent ++ rest ≡ ms → Advances base code meaning IsAt state (record { sent = sent; rest = rest }) ⊎ Stops base code meaning IsAt state (record { sent = sent; rest = rest })
+        by_rest :
+            (sent rest : List ℕ) → IsAt state (record { sent = sent; rest = rest }) → sent ++ rest ≡ ms →
+            Advances base code meaning IsAt state (record { sent = sent; rest = rest }) ⊎ Stops base code meaning IsAt state (record { sent = sent; rest = rest })
         by_rest sent [] a r = inr (last state sent a r)
         by_rest sent (m ∷ rest) a r = inl (next state sent m rest a r)
 
@@ -114,7 +148,9 @@ moment-shown ms n (Exited code output) h =
 moment-shown ms n (Trapped cause) h = h
 
 -- the program's code follows the meaning
-code-follows : (ms : List ℕ) (base count : ℕ) (input : List ℕ) → base % 8 ≡ 0 → base < 2 ^ 32 → 0 < count → AllWords ms → CodeFollows base (messages_program base ms) count input (meaning ms)
+code-follows :
+    (ms : List ℕ) (base count : ℕ) (input : List ℕ) → base % 8 ≡ 0 → base < 2 ^ 32 → 0 < count → AllWords ms →
+    CodeFollows base (messages_program base ms) (meaning ms) (start_state count input)
 code-follows ms base count input aligned below some words =
     let code = messages_program base ms in
     let entry = start_state count input in
@@ -150,7 +186,15 @@ messages_code-encodable (m ∷ ms) h =
     (All-append e (send_word 10 0) (messages_code ms) (send_word-encodable 10 0 (omega arith) (omega arith)) (messages_code-encodable ms (All-tail (λ w. w < 2 ^ 64) m ms h)))
 
 -- the loaded program sends the messages, where its region stands at `base`
-pub messages-compiled : (ms : List ℕ) (base stack units : ℕ) (input : List ℕ) → region_address (4 * length (messages_program base ms)) ≡ base → 4 * length (messages_program base ms) < 1073741824 → stack ≤ 16777216 → units ≤ 4194304 → All (λ w. w < 2 ^ 64) ms → All (λ b. b < 256) input → SendsMessages ms (loaded code_address (compiled_segments (messages_program base ms) stack units) input)
+pub messages-compiled :
+    (ms : List ℕ) (base stack units : ℕ) (input : List ℕ) →
+    region_address (4 * length (messages_program base ms)) ≡ base →
+    4 * length (messages_program base ms) < 1073741824 →
+    stack ≤ 16777216 →
+    units ≤ 4194304 →
+    All (λ w. w < 2 ^ 64) ms →
+    All (λ b. b < 256) input →
+    SendsMessages ms (loaded code_address (compiled_segments (messages_program base ms) stack units) input)
 messages-compiled ms base stack units input e few s u words bytes n =
     let code = messages_program base ms in
     let count = region_words stack units in
@@ -158,7 +202,7 @@ messages-compiled ms base stack units input e few s u words bytes n =
     let encodable = All-append (λ i. is_encodable i ≡ true) (load_constant 3 base) (messages_code ms) (load_constant-encodable 3 base (omega arith) (omega (arith, e, top))) (messages_code-encodable ms words) in
     let aligned : base % 8 ≡ 0 = omega (arith, e) in
     let follows = code-follows ms base count input aligned (omega (arith, e, top)) (omega arith) words in
-    let there = subst (λ b. CodeFollows b code count input (meaning ms)) (sym e) follows in
+    let there = subst (λ b. CodeFollows b code (meaning ms) (start_state count input)) (sym e) follows in
     moment-shown ms n (run n (loaded code_address (compiled_segments code stack units) input)) (follows-compiled code stack units input (meaning ms) encodable (omega (arith, top)) bytes there n)
 
 -- two messages, 5 and -7, and no input

@@ -58,7 +58,9 @@ small-front : (old : ℕ) (bs : List ℕ) → All (λ b. b < 256) bs → All (λ
 small-front old bs s = All-append (λ b. b < 256) bs _ s (All-drop (λ b. b < 256) (0 + length bs) (bytes_of 8 old) (bytes-small 8 old))
 
 -- at most eight bytes written to the front of a word
-put_at-front : (ws : List ℕ) (i : ℕ) (bs : List ℕ) → i < length ws → length bs ≤ 8 → All (λ b. b < 256) bs → put_at (word_bytes ws) (8 * i) bs ≡ word_bytes (set ws i (with_front (get_or ws i 0) bs))
+put_at-front :
+    (ws : List ℕ) (i : ℕ) (bs : List ℕ) → i < length ws → length bs ≤ 8 → All (λ b. b < 256) bs →
+    put_at (word_bytes ws) (8 * i) bs ≡ word_bytes (set ws i (with_front (get_or ws i 0) bs))
 unfolding word_bytes
 put_at-front [] i bs h l s = absurd (omega arith)
 put_at-front (w ∷ ws) zero bs h l s =
@@ -71,7 +73,9 @@ put_at-front (w ∷ ws) (suc i) bs h l s =
     ∙ ap (λ t. bytes_of 8 w ++ t) (put_at-front ws i bs (omega arith) l s)
 
 -- what a call that receives writes
-pub put_at-received : (ws : List ℕ) (i n : ℕ) (input : List ℕ) → i < length ws → n ≤ 8 → All (λ b. b < 256) input → put_at (word_bytes ws) (8 * i) (take n input) ≡ word_bytes (set ws i (with_front (get_or ws i 0) (take n input)))
+pub put_at-received :
+    (ws : List ℕ) (i n : ℕ) (input : List ℕ) → i < length ws → n ≤ 8 → All (λ b. b < 256) input →
+    put_at (word_bytes ws) (8 * i) (take n input) ≡ word_bytes (set ws i (with_front (get_or ws i 0) (take n input)))
 put_at-received ws i n input h l s =
     put_at-front ws i (take n input) h (omega (arith, length-take n input)) (All-take (λ b. b < 256) n input s)
 
