@@ -7,7 +7,7 @@ use Rattle.rv_code.specs.declared.instruction.Inst.{Inst}
 use Rattle.rv_code.specs.declared.instruction.Inst.TheVariants.{Op, OpImm, Shift, Load, Store, Branch, Upper, Jal, Jalr, Fence, Ecall, Ebreak}
 use Rattle.rv_code.specs.declared.instruction.LoadOp.TheVariants.{Lb, Lh, Lw, Ld, Lbu, Lhu, Lwu}
 use Rattle.rv_code.specs.declared.instruction.StoreOp.TheVariants.{Sb, Sh, Sw, Sd}
-use Rattle.rv_asm.proofs.Bounds.{operation-below, immediate_operation-below, shift_operation-below, upper_value-below}
+use Rattle.rv_code.proofs.Bounds.{operation-below, immediate_operation-below, shift_operation-below, upper_value-below}
 use Rattle.rv_asm.specs.Conventions.{IsImage}
 use Rattle.rv_asm.specs.WordMachine.{WordState, Goes, IsBounded, get, act, jumps, machine_state}
 use Rattle.rv_asm.proofs.Registers.{get-below, register-register_list}

@@ -1,5 +1,3 @@
-pub mod Bytes
-pub mod Bounds
 pub mod Registers
 pub mod WordBytes
 pub mod Places

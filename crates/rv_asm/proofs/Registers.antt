@@ -2,7 +2,7 @@
 use Rattle.std.proofs.Common.{◌≡◌, ◌≢◌, ℕ, zero, suc, ◌+◌, ◌<◌, ◌≤◌, ◌^◌, Bool, true, false, cond, ◌∷◌, get_or, set, refl, ap, ap₂, ◌∙◌, arith, eqb, eq-eqb, ne_eqb}
 use mathlib.Core.Path.{fun_ext}
 use Rattle.rv_code.specs.Machine.{register, with_register}
-use Rattle.rv_asm.proofs.Bounds.{if-below}
+use Rattle.rv_code.proofs.Bounds.{if-below}
 use Rattle.rv_asm.specs.WordMachine.{get, put, registers_from, register_list}
 
 -- the register that was written
