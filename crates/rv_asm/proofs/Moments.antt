@@ -1,9 +1,5 @@
--- What the machine shows after every number of instructions, where it follows the configurations of a meaning.
---
--- A configuration has a count of steps, an output, and a credit of instructions that it still owes ("pending").
--- From each related state the machine either makes a stretch to a related state, or exits. Then at every moment
--- either it has exited as a configuration says, or its output is that of a configuration at whose count of steps the
--- pace holds.
+-- What the machine shows after every number of instructions, where its code follows a meaning: the theorem for every number
+-- of instructions, and what makes the stretches that it asks for. Nothing here knows of actions.
 use Rattle.std.proofs.Common.{◌≡◌, ℕ, zero, suc, ◌+◌, ◌-◌, ◌*◌, ◌<◌, ◌≤◌, List, sym, ap, ◌∙◌, subst, arith, ◌⊎◌, ⊎_elim, inl, inr}
 use Rattle.std.proofs.lemmas.Bool.{cases_lt}
 use Rattle.rv_code.specs.declared.instruction.Inst.{Inst}
