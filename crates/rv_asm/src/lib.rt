@@ -1,0 +1,11 @@
+//! An assembler for compiled code.
+#![tactic(auto)]
+
+pub mod asm;
+mod assemble;
+mod far;
+pub mod item;
+mod resolve;
+
+pub use asm::{Asm, Code};
+pub use item::{Item, Label};
