@@ -40,7 +40,6 @@ exit-first false true r j k w o x y g h e = absurd (g k o e)
 exit-first false false true j k w o x y g h e = absurd (h k o e)
 exit-first false false false j k w o x y g h e = absurd (cc)
 
-
 module _ (base : ℕ) (code : List Inst) where
   pub execute-exits : (c : WordState) (i : Inst) (k : ℕ) (o : List ℕ) → act base i c ≡ Exits k o → execute i (machine_state base code c) ≡ Exited k o
   execute-exits c (Op p rd a b) k o e = absurd (cc)

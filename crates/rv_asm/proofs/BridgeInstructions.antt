@@ -12,7 +12,6 @@ use Rattle.rv_asm.specs.Conventions.{IsImage}
 use Rattle.rv_asm.specs.WordMachine.{WordState, Goes, IsBounded, get, act, jumps, machine_state}
 use Rattle.rv_asm.proofs.Registers.{get-below, register-register_list}
 use Rattle.rv_asm.proofs.Places.{and-true}
-
 use Rattle.rv_asm.proofs.BridgeSteps.{sets-does, jumps-does, loads-does, stores-does, calls-does}
 
 unsigned-below : (k : ℕ) (z : ℤ) → has_bits k z ≡ true → 2 ^ (k - 1) ≤ 2 ^ 32 → unsigned z < 2 ^ 64

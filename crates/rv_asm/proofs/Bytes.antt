@@ -39,4 +39,3 @@ number-below (b ∷ bs) h =
     let r = number-below bs (All-tail (λ x. x < 256) b bs h) in
     let e : 8 * length (b ∷ bs) ≡ 8 * length bs + 8 = omega arith in
     rw (e, pow-add 2 (8 * length bs) 8) (omega arith)
-

@@ -16,3 +16,4 @@ pub mod Calls
 pub mod Distances
 pub mod Labels
 pub mod LabelsKept
+pub mod LabelsArrive

@@ -168,11 +168,11 @@ module _ (base : ℕ) (code : List Inst) (m : Meaning) where
       related = r;
       reached = h';
       moments = λ j lt.
-      let b = between j (omega arith) in
-      ⊎_elim
-      (λ p. record { now = b.0; runs = b.1; shown = c; reached = h; output = p ∙ o; pace = omega arith })
-      (λ p. shows-next state c next count j b.0 b.1 h' (p ∙ o') (omega arith) (omega (arith, m.ample)))
-      b.2;
+          let b = between j (omega arith) in
+          ⊎_elim
+          (λ p. record { now = b.0; runs = b.1; shown = c; reached = h; output = p ∙ o; pace = omega arith })
+          (λ p. shows-next state c next count j b.0 b.1 h' (p ∙ o') (omega arith) (omega (arith, m.ample)))
+          b.2;
       paid = paid;
     }
 

@@ -3,3 +3,4 @@ pub mod DataWords
 pub mod WordMachine
 pub mod Pieces
 pub mod Assembly
+pub mod Arrivals
