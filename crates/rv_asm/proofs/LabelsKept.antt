@@ -8,7 +8,8 @@ use Rattle.rv_asm.specs.Assembly.{is_placed, is_mark, are_placed_once, open_labe
 
 -- ---- placed labels
 
-placed-push : (items : List Item) (x : Item) (l : ℕ) → is_mark x ≡ false → is_placed (items ++ x ∷ []) l ≡ is_placed items l
+-- what is no mark places nothing
+pub placed-push : (items : List Item) (x : Item) (l : ℕ) → is_mark x ≡ false → is_placed (items ++ x ∷ []) l ≡ is_placed items l
 placed-push [] (Plain i) l h = refl
 placed-push [] (Mark k) l h = absurd (cc)
 placed-push [] (Jump k) l h = refl
