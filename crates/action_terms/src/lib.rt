@@ -2,4 +2,8 @@
 //! stands in `specs/`, as definitions alone; the code here makes graphs of nodes.
 #![tactic(auto)]
 
+pub mod builder;
+pub mod graph;
 pub mod kinds;
+mod places;
+pub mod pushed;
