@@ -17,7 +17,7 @@ wanted_on-append stack p = ap places_in (reverse-append stack (p ∷ []))
 
 -- the first place is taken from the last ones, and those that are left go back
 pub wanted_on-taken : (stack left back : List Places) (last : Places) (n : ℕ) → suc n ≡ last.more → stack ≡ left ++ last ∷ [] → back ≡ left ++ (record { place = last.place; more = n }) ∷ []
-  → wanted_on stack ≡ wanted_by last.place ∷ wanted_on back
+    → wanted_on stack ≡ wanted_by last.place ∷ wanted_on back
 wanted_on-taken stack left back last n more old new =
     ap wanted_on old ∙ wanted_on-append left last
     ∙ ap (λ m. copies (suc m) (wanted_by last.place) ++ wanted_on left) (sym more)

@@ -13,3 +13,4 @@ pub mod Meaning
 pub mod Nodes
 pub mod Places
 pub mod Pushed
+pub mod Entries

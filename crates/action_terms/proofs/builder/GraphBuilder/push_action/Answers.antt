@@ -7,4 +7,4 @@ invariant_of-self-2 c =
     let s = c.self.inside in
     let less : length s.pushed.items < 65536 = length_below s.pushed c.len.result 65536 c.len.ensures c.if-len-ge-NODE_LIMIT.false in
     keeps-action s.pushed.items c.push.new.self.items _ s.expected c.reserve.new.self c.follow.new.self s.actions s.yielders c.self.invariant less
-      c.in_ok-push.ensures.items c.in_ok-reserve.ensures.same c.follow.ensures
+    c.in_ok-push.ensures.items c.in_ok-reserve.ensures.same c.follow.ensures
