@@ -1,3 +1,4 @@
 pub mod PlacesLemmas
 pub mod Whole
 pub mod BuilderLemmas
+pub mod RootsLemmas

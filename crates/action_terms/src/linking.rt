@@ -42,6 +42,7 @@ fn take_root(roots: &mut VecDeque<u32>, taken: &mut Vec<u32, &Bump>) -> Result<(
 }
 
 // takes so many roots, and places them in the arena
+#[tactic(auto, using(crate::proofs::RootsLemmas::taking))]
 fn take_roots<'a>(
     arena: &'a Bump,
     roots: &mut VecDeque<u32>,
@@ -74,6 +75,7 @@ fn take_operand<'a>(
 }
 
 // takes the operands of an action node
+#[tactic(auto, using(crate::proofs::RootsLemmas::operands))]
 fn take_operands<'a>(
     arena: &'a Bump,
     roots: &mut VecDeque<u32>,
