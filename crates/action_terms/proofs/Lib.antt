@@ -2,3 +2,5 @@ pub mod PlacesLemmas
 pub mod Whole
 pub mod BuilderLemmas
 pub mod RootsLemmas
+pub mod RootCounts
+pub mod TreeEntries
