@@ -4,3 +4,5 @@ pub mod BuilderLemmas
 pub mod RootsLemmas
 pub mod RootCounts
 pub mod TreeEntries
+pub mod TreeStrays
+pub mod TreeNodes
