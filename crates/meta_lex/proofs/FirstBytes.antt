@@ -43,7 +43,8 @@ form_kind Number b rest h = number_kind b rest (b == 45) refl h
 form_kind Quoted b rest h = quote_kind b (left (b == 34) (is_closed rest) h)
 form_kind Symbol b rest h = symbol_kind b rest h
 
-no_form : (kind : TokenKind) → has_form kind [] ≡ true → ⊥
+-- no token is empty
+pub no_form : (kind : TokenKind) → has_form kind [] ≡ true → ⊥
 no_form Word h = cc
 no_form Number h = cc
 no_form Quoted h = cc

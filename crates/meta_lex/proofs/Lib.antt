@@ -4,3 +4,4 @@ pub mod Longest
 pub mod Symbols
 pub mod QuotedTexts
 pub mod Steps
+pub mod OneReading

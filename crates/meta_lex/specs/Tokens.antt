@@ -49,6 +49,10 @@ Reads bytes from (t ∷ ts) to =
 abbrev pub AreTokens : List ℕ → List PlainToken → Type 0
 AreTokens bytes ts = (to : ℕ) × Reads bytes 0 ts to × (after_blanks bytes to ≡ length bytes)
 
+-- the text is no other tokens than these
+abbrev pub AreNoOthers : List ℕ → List PlainToken → Type 0
+AreNoOthers bytes ts = (others : List PlainToken) → AreTokens bytes others → others ≡ ts
+
 -- after some tokens and blanks the text goes on at the place, and no token begins there
 abbrev pub IsBadByte : List ℕ → ℕ → Type 0
 IsBadByte bytes at =

@@ -1,6 +1,6 @@
 //! Cutting a text into tokens.
 ghost use Rattle.std.specs.Prelude.{◌≡◌, ◌<◌, ◌≤◌, ◌∷◌, length, drop, IfOk, IfErr, MatchOption};
-ghost use Rattle.meta_lex.specs.Tokens.{AreTokens, IsTokenAt, IsLongest, HasNone, after_blanks, plain_token};
+ghost use Rattle.meta_lex.specs.Tokens.{AreTokens, AreNoOthers, IsTokenAt, IsLongest, HasNone, after_blanks, plain_token};
 ghost use Rattle.meta_lex.specs.LexErrors.{IsLexError};
 ghost use Rattle.meta_lex.specs.Forms.{kind_of};
 ghost use Rattle.meta_lex.specs.declared.lex.LexError.TheVariants.{Memory};
@@ -137,7 +137,8 @@ pub fn tokens<'a>(
     bytes: &[u8],
 ) -> Result<Tokens<'a>, LexError>
     requires { length bytes.now < 4294967295 }
-    ensures tokens { IfOk result (λ t. AreTokens bytes.now t) }
+    ensures tokens { IfOk result (λ ts. AreTokens bytes.now ts) }
+    ensures no_others { IfOk result (λ ts. AreNoOthers bytes.now ts) }
     ensures error { IfErr result (λ e. IsLexError bytes.now e) }
 {
     let text: &'a [u8] = arena.try_alloc_slice_copy(bytes)?;

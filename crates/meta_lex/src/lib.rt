@@ -5,3 +5,6 @@ pub mod bytes;
 pub mod lex;
 pub mod token;
 pub mod token_list;
+
+#[cfg(test)]
+mod tests;
