@@ -1,7 +1,7 @@
 -- The first byte of a token says its kind.
-use Rattle.std.proofs.Common.{◌≡◌, ℕ, zero, suc, ◌≤◌, Bool, true, false, cond, ◌&&◌, ◌||◌, ◌==◌, List, [], ◌∷◌, length, take, refl, sym, ◌∙◌, ap, subst, arith}
+use Rattle.std.proofs.Common.{◌≡◌, ℕ, zero, suc, ◌≤◌, Bool, true, false, cond, ◌==◌, List, [], ◌∷◌, take, refl, sym, ◌∙◌, subst, arith}
 use Rattle.std.proofs.lemmas.Bool.Decides.{nat_tests}
-use Rattle.std.specs.List.{list_all, prefix_len}
+use Rattle.std.specs.List.{list_all}
 use Rattle.meta_lex.specs.Bytes.{is_letter, is_digit, is_word_byte, is_single, is_bracket}
 use Rattle.meta_lex.specs.Forms.{has_form, is_symbol, is_digits, is_closed, kind_of}
 use Rattle.meta_lex.specs.Tokens.{IsToken, IsLongest, HasNone}

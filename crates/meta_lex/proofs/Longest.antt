@@ -1,5 +1,5 @@
 -- The longest token of each kind at the front.
-use Rattle.std.proofs.Common.{◌≡◌, ℕ, zero, suc, ◌+◌, ◌<◌, ◌≤◌, Bool, true, false, cond, ◌&&◌, ◌||◌, ◌==◌, List, [], ◌∷◌, length, take, drop, refl, sym, ◌∙◌, ap, subst, arith}
+use Rattle.std.proofs.Common.{◌≡◌, ℕ, zero, suc, ◌+◌, ◌<◌, ◌≤◌, Bool, true, false, cond, ◌==◌, List, [], ◌∷◌, length, take, refl, arith}
 use Rattle.std.proofs.lemmas.Bool.Decides.{nat_tests}
 use Rattle.std.specs.List.{list_all, prefix_len}
 use Rattle.std.proofs.lemmas.Bool.{eq-eqb}
@@ -7,12 +7,12 @@ use Rattle.std.proofs.lemmas.List.{length-take}
 use Rattle.std.proofs.lemmas.List.Folds.{length-prefix_len}
 use Rattle.std.proofs.lemmas.List.Sums.{prefix_len-le-length}
 use Rattle.std.proofs.Math.Numerals.{one-add}
-use Rattle.meta_lex.specs.Bytes.{is_letter, is_digit, is_word_byte, is_single, is_bracket}
-use Rattle.meta_lex.specs.Forms.{has_form, is_symbol, is_digits, is_number, is_closed, kind_of}
+use Rattle.meta_lex.specs.Bytes.{is_letter, is_digit, is_word_byte}
+use Rattle.meta_lex.specs.Forms.{has_form, is_digits, is_number, kind_of}
 use Rattle.meta_lex.specs.Tokens.{IsToken, IsLongest, HasNone}
 use Rattle.meta_lex.specs.declared.token.TokenKind.{TokenKind}
-use Rattle.meta_lex.specs.declared.token.TokenKind.TheVariants.{Word, Number, Quoted, Symbol}
-use Rattle.meta_lex.proofs.Prefixes.{both, left, right, list_all-prefix_len, prefix_len-above}
+use Rattle.meta_lex.specs.declared.token.TokenKind.TheVariants.{Word, Number}
+use Rattle.meta_lex.proofs.Prefixes.{both, right, list_all-prefix_len, prefix_len-above}
 use Rattle.meta_lex.proofs.FirstBytes.{longest_of_kind, none_of_kind}
 
 -- a token of a first byte and a run of bytes that pass is the longest, if every longer one would need more of them
@@ -61,7 +61,7 @@ unsigned_longest b rest kind other =
     let e : (b == 45) ≡ false = other_byte b other in
     run_longest Number is_digit b rest
     (rw (number_at b (take (prefix_len is_digit rest) rest) false e)
-        (both (is_digit b) (list_all is_digit (take (prefix_len is_digit rest) rest)) (letter_digit b kind e) (list_all-prefix_len is_digit rest)))
+    (both (is_digit b) (list_all is_digit (take (prefix_len is_digit rest) rest)) (letter_digit b kind e) (list_all-prefix_len is_digit rest)))
     (λ m t. right (is_digit b) (list_all is_digit (take m rest)) (rw (number_at b (take m rest) false e) at t))
 
 -- a number that begins with a hyphen goes on as long as there are digits
@@ -70,7 +70,7 @@ signed_longest b rest hyphen some =
     let e : (b == 45) ≡ true = eq-eqb b 45 hyphen in
     run_longest Number is_digit b rest
     (rw (number_at b (take (prefix_len is_digit rest) rest) true e)
-        (passing_digits (take (prefix_len is_digit rest) rest) (omega (arith, length-prefix_len is_digit rest)) (list_all-prefix_len is_digit rest)))
+    (passing_digits (take (prefix_len is_digit rest) rest) (omega (arith, length-prefix_len is_digit rest)) (list_all-prefix_len is_digit rest)))
     (λ m t. digits_pass (take m rest) (rw (number_at b (take m rest) true e) at t))
 
 some_digits : (xs : List ℕ) → is_digits xs ≡ true → 0 < length xs
@@ -81,8 +81,12 @@ lone_hyphen : (b : ℕ) (rest : List ℕ) → (b == 45) ≡ true → prefix_len 
 lone_hyphen b rest e none zero t = cc
 lone_hyphen b rest e none (suc m) t =
     let digits : is_digits (take m rest) ≡ true = rw (number_at b (take m rest) true e) at t.1 in
-    absurd (omega (arith, some_digits (take m rest) digits, length-take m rest,
-        prefix_len-above is_digit rest m (omega (arith, t.0)) (digits_pass (take m rest) digits)))
+    absurd (omega (
+      arith,
+      some_digits (take m rest) digits,
+      length-take m rest,
+      prefix_len-above is_digit rest m (omega (arith, t.0)) (digits_pass (take m rest) digits),
+    ))
 
 -- a hyphen without a digit behind it begins no token
 pub hyphen_none : (b : ℕ) (rest : List ℕ) → kind_of b ≡ Number → b ≡ 45 → prefix_len is_digit rest ≡ 0 → HasNone (b ∷ rest)

@@ -1,7 +1,7 @@
 -- A text has one list of tokens, or else a first bad byte.
 use Rattle.std.proofs.Common.{◌≡◌, ℕ, zero, suc, ◌+◌, ◌<◌, ◌≤◌, List, [], ◌∷◌, length, take, drop, refl, sym, ◌∙◌, ap, subst, arith}
 use Rattle.std.proofs.lemmas.List.{length-drop}
-use Rattle.meta_lex.specs.Tokens.{PlainToken, IsToken, IsTokenAt, IsLongest, HasNone, Reads, AreTokens, IsBadByte, after_blanks}
+use Rattle.meta_lex.specs.Tokens.{PlainToken, IsToken, IsTokenAt, HasNone, Reads, AreTokens, IsBadByte, after_blanks}
 use Rattle.meta_lex.specs.declared.token.TokenKind.{TokenKind}
 use Rattle.meta_lex.proofs.FirstBytes.{kind_of_front, no_form}
 
@@ -28,7 +28,7 @@ same_parts t u kinds bytes offsets =
 pub one_token : (bytes : List ℕ) (at : ℕ) (t u : PlainToken) → IsTokenAt bytes at t → IsTokenAt bytes at u → t ≡ u
 one_token bytes at t u here there =
     let size : length t.bytes ≡ length u.bytes =
-        ≤_antisym (there.2.1 t.kind (length t.bytes) here.2.0) (here.2.1 u.kind (length u.bytes) there.2.0) in
+    ≤_antisym (there.2.1 t.kind (length t.bytes) here.2.0) (here.2.1 u.kind (length u.bytes) there.2.0) in
     same_parts t u
     (same_kind (drop at bytes) t.kind u.kind (length t.bytes) (length u.bytes) here.2.0 there.2.0)
     (here.1 ∙ ap (λ n. take n (drop at bytes)) size ∙ sym there.1)
@@ -48,7 +48,7 @@ one_reading bytes from to end (t ∷ ts) [] r whole s done =
 one_reading bytes from to end (t ∷ ts) (u ∷ us) r whole s done =
     let same : t ≡ u = one_token bytes (after_blanks bytes from) t u r.0 s.0 in
     let rest : Reads bytes (after_blanks bytes from + length t.bytes) us end =
-        subst (λ x. Reads bytes (after_blanks bytes from + length x.bytes) us end) (sym same) s.1 in
+    subst (λ x. Reads bytes (after_blanks bytes from + length x.bytes) us end) (sym same) s.1 in
     let more : ts ≡ us = one_reading bytes (after_blanks bytes from + length t.bytes) to end ts us r.1 whole rest done in
     cc
 
@@ -67,7 +67,7 @@ reading_or_bad bytes from to end (t ∷ ts) [] r whole s inside none =
 reading_or_bad bytes from to end (t ∷ ts) (u ∷ us) r whole s inside none =
     let same : t ≡ u = one_token bytes (after_blanks bytes from) t u r.0 s.0 in
     let rest : Reads bytes (after_blanks bytes from + length t.bytes) us end =
-        subst (λ x. Reads bytes (after_blanks bytes from + length x.bytes) us end) (sym same) s.1 in
+    subst (λ x. Reads bytes (after_blanks bytes from + length x.bytes) us end) (sym same) s.1 in
     reading_or_bad bytes (after_blanks bytes from + length t.bytes) to end ts us r.1 whole rest inside none
 
 -- a text that has tokens has no bad byte

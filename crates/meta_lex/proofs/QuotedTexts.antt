@@ -1,11 +1,11 @@
 -- Quoted texts at the front.
-use Rattle.std.proofs.Common.{◌≡◌, ℕ, zero, suc, ◌+◌, ◌-◌, ◌<◌, ◌≤◌, Bool, true, false, ◌&&◌, ◌==◌, List, [], ◌∷◌, length, take, drop, get_or, refl, sym, ◌∙◌, ap, arith}
+use Rattle.std.proofs.Common.{◌≡◌, ℕ, zero, suc, ◌+◌, ◌<◌, ◌≤◌, true, false, List, [], ◌∷◌, length, take, drop, get_or, refl, sym, ◌∙◌, ap, arith}
 use Rattle.std.specs.Prelude.{nat_lt}
 use Rattle.std.specs.List.{prefix_len}
 use Rattle.std.proofs.lemmas.Bool.Decides.{nat_tests}
 use Rattle.std.proofs.lemmas.Bool.{eqb-true, eq-eqb}
 use Rattle.std.proofs.lemmas.List.{length-take-le, length-drop, get_or-drop, get_or-take}
-use Rattle.std.proofs.lemmas.List.Sums.{prefix_len-le-length, prefix_len_is, prefix_len_passes, prefix_len_stops}
+use Rattle.std.proofs.lemmas.List.Sums.{prefix_len_is, prefix_len_passes}
 use Rattle.meta_lex.specs.Bytes.{is_quotable}
 use Rattle.meta_lex.specs.Forms.{is_quote, is_closed, kind_of}
 use Rattle.meta_lex.specs.Tokens.{IsToken, IsLongest, HasNone}
@@ -39,17 +39,18 @@ closed_cut rest m short h =
     let inner : ℕ = prefix_len is_quotable (take m rest) in
     let size : length (take m rest) ≡ m = length-take-le m rest short in
     let alone : (length (drop inner (take m rest)) ≡ 1) × (get_or (drop inner (take m rest)) 0 0 ≡ 34) =
-        quote_alone (drop inner (take m rest)) (right (nat_lt 0 inner) (is_quote (drop inner (take m rest))) h) in
+    quote_alone (drop inner (take m rest)) (right (nat_lt 0 inner) (is_quote (drop inner (take m rest))) h) in
     let last : inner + 1 ≡ m = omega (arith, alone.0, length-drop inner (take m rest), size) in
     let at : get_or rest inner 0 ≡ 34 = closed_at rest m inner alone.1 (omega arith) in
     let same : prefix_len is_quotable rest ≡ inner =
-        prefix_len_is is_quotable rest inner 0 (omega arith)
-        (λ k below. rw (sym (get_or-take m rest k 0 (omega arith))) (prefix_len_passes is_quotable (take m rest) k 0 below))
-        (λ _. quote_stops (get_or rest inner 0) at) in
+    prefix_len_is is_quotable rest inner 0 (omega arith)
+    (λ k below. rw (sym (get_or-take m rest k 0 (omega arith))) (prefix_len_passes is_quotable (take m rest) k 0 below))
+    (λ _. quote_stops (get_or rest inner 0) at) in
     (record { some = rw same (first_some inner (left (nat_lt 0 inner) (is_quote (drop inner (take m rest))) h)); within = omega arith; quote = rw same at }, omega arith)
   where
     first_some : (n : ℕ) → nat_lt 0 n ≡ true → 0 < n
     first_some n h = grind (arith, nat_tests)
+
     closed_at : (rest : List ℕ) (m inner : ℕ) → get_or (drop inner (take m rest)) 0 0 ≡ 34 → inner < m → get_or rest inner 0 ≡ 34
     closed_at rest m inner h below =
         sym (get_or-take m rest inner 0 below) ∙ ap (λ k. get_or (take m rest) k 0) (omega arith) ∙ sym (get_or-drop inner (take m rest) 0 0) ∙ h
@@ -65,11 +66,11 @@ cut_closed rest ended =
     let size : length cut ≡ count + 1 = length-take-le (count + 1) rest (omega (arith, ended.within)) in
     let quote : get_or cut count 0 ≡ 34 = get_or-take (count + 1) rest count 0 (omega arith) ∙ ended.quote in
     let same : prefix_len is_quotable cut ≡ count =
-        prefix_len_is is_quotable cut count 0 (omega arith)
-        (λ k below. rw (get_or-take (count + 1) rest k 0 (omega arith)) (prefix_len_passes is_quotable rest k 0 below))
-        (λ _. quote_stops (get_or cut count 0) quote) in
+    prefix_len_is is_quotable cut count 0 (omega arith)
+    (λ k below. rw (get_or-take (count + 1) rest k 0 (omega arith)) (prefix_len_passes is_quotable rest k 0 below))
+    (λ _. quote_stops (get_or cut count 0) quote) in
     rw same (both (nat_lt 0 count) (is_quote (drop count cut)) (some_first count ended.some)
-        (alone_quote (drop count cut) (omega (arith, length-drop count cut)) (get_or-drop count cut 0 0 ∙ ap (λ k. get_or cut k 0) (omega arith) ∙ quote)))
+    (alone_quote (drop count cut) (omega (arith, length-drop count cut)) (get_or-drop count cut 0 0 ∙ ap (λ k. get_or cut k 0) (omega arith) ∙ quote)))
   where
     some_first : (n : ℕ) → 0 < n → nat_lt 0 n ≡ true
     some_first n h = grind (arith, nat_tests)

@@ -1,5 +1,5 @@
 -- One more token, and one more item of the list that a loop fills.
-use Rattle.std.proofs.Common.{◌≡◌, ℕ, ◌+◌, List, [], ◌∷◌, ◌++◌, length, map, refl, sym}
+use Rattle.std.proofs.Common.{◌≡◌, ℕ, ◌+◌, List, [], ◌∷◌, ◌++◌, length, map, refl}
 use Rattle.std.proofs.lemmas.List.{map-append}
 use Rattle.meta_lex.specs.Tokens.{PlainToken, IsTokenAt, Reads, after_blanks, plain_token}
 use Rattle.meta_lex.specs.declared.token.Token.{Token}

@@ -1,5 +1,5 @@
 -- Symbols at the front.
-use Rattle.std.proofs.Common.{◌≡◌, ℕ, zero, suc, ◌+◌, ◌<◌, ◌≤◌, ◌⊎◌, inl, inr, Bool, true, false, ◌&&◌, ◌==◌, List, [], ◌∷◌, length, take, get_or, refl, arith}
+use Rattle.std.proofs.Common.{◌≡◌, ℕ, zero, suc, ◌<◌, ◌≤◌, ◌⊎◌, inl, inr, true, false, ◌==◌, List, [], ◌∷◌, length, take, get_or, refl, arith}
 use Rattle.std.proofs.lemmas.Bool.Decides.{nat_tests}
 use Rattle.std.proofs.lemmas.Bool.{eqb-true, eq-eqb}
 use Rattle.std.proofs.lemmas.List.{length-take-le}
@@ -8,7 +8,7 @@ use Rattle.meta_lex.specs.Forms.{is_symbol, kind_of}
 use Rattle.meta_lex.specs.Tokens.{IsToken, IsLongest, HasNone}
 use Rattle.meta_lex.specs.declared.token.TokenKind.TheVariants.{Symbol}
 use Rattle.meta_lex.proofs.Prefixes.{both, left, right}
-use Rattle.meta_lex.proofs.FirstBytes.{longest_of_kind, none_of_kind, single_kind}
+use Rattle.meta_lex.proofs.FirstBytes.{longest_of_kind, none_of_kind}
 
 -- what can follow the first byte of a symbol: nothing, or the same bracket
 symbol_after : (b : ℕ) (xs : List ℕ) → is_symbol (b ∷ xs) ≡ true
@@ -25,8 +25,8 @@ single_bound b rest single zero t = omega arith
 single_bound b rest single (suc m) t =
     let short : length (take m rest) ≡ m = length-take-le m rest (omega (arith, t.0)) in
     elim (symbol_after b (take m rest) t.1) [
-        inl w ↦ omega (arith, w.1)
-        | inr w ↦ absurd (single_only b single w.0)
+      | inl w ↦ omega (arith, w.1)
+      | inr w ↦ absurd (single_only b single w.0)
     ]
 
 -- a symbol of one byte
@@ -38,8 +38,8 @@ pair_bound b rest zero t = omega arith
 pair_bound b rest (suc m) t =
     let short : length (take m rest) ≡ m = length-take-le m rest (omega (arith, t.0)) in
     elim (symbol_after b (take m rest) t.1) [
-        inl w ↦ omega (arith, w.1)
-        | inr w ↦ omega (arith, w.1)
+      | inl w ↦ omega (arith, w.1)
+      | inr w ↦ omega (arith, w.1)
     ]
 
 -- two of one bracket
@@ -54,8 +54,8 @@ no_symbol b rest single pair zero t = cc
 no_symbol b rest single pair (suc m) t =
     let short : length (take m rest) ≡ m = length-take-le m rest (omega (arith, t.0)) in
     elim (symbol_after b (take m rest) t.1) [
-        inl w ↦ cc
-        | inr w ↦ no_pair b rest pair m w (omega (arith, t.0)) (omega (arith, w.1))
+      | inl w ↦ cc
+      | inr w ↦ no_pair b rest pair m w (omega (arith, t.0)) (omega (arith, w.1))
     ]
   where
     no_pair : (b : ℕ) (rest : List ℕ) → (is_bracket b ≡ true → 0 < length rest → get_or rest 0 0 ≡ b → ⊥)

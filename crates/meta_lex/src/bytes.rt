@@ -42,7 +42,10 @@ pub fn is_blank(byte: u8) -> bool
 pub fn is_single(byte: u8) -> bool
     ensures { result ≡ is_single byte }
 {
-    matches!(byte, b'(' | b')' | b',' | b'#' | b'.' | b'=' | b'|' | b':' | b'_')
+    matches!(
+        byte,
+        b'(' | b')' | b',' | b'#' | b'.' | b'=' | b'|' | b':' | b'_'
+    )
 }
 
 /// Tells whether two of the byte are a symbol.

@@ -5,7 +5,9 @@ ghost use Rattle.meta_lex.specs.LexErrors.{IsLexError};
 ghost use Rattle.meta_lex.specs.Forms.{kind_of};
 ghost use Rattle.meta_lex.specs.declared.lex.LexError.TheVariants.{Memory};
 
-use crate::bytes::{blanks, digits, is_bracket, is_digit, is_letter, is_single, quotable_bytes, word_bytes};
+use crate::bytes::{
+    blanks, digits, is_bracket, is_digit, is_letter, is_single, quotable_bytes, word_bytes,
+};
 use crate::token::{Token, TokenKind};
 use crate::token_list::Tokens;
 use bumpalo::Bump;
@@ -131,11 +133,7 @@ fn after_blanks(text: &[u8], from: usize) -> usize
 ///
 /// `LexError::BadByte` comes exactly where, after some tokens and blanks, no token begins, with the
 /// first such place; `LexError::Memory` where no memory is left.
-pub fn tokens<'a>(
-    alloc: Global,
-    arena: &'a Bump,
-    bytes: &[u8],
-) -> Result<Tokens<'a>, LexError>
+pub fn tokens<'a>(alloc: Global, arena: &'a Bump, bytes: &[u8]) -> Result<Tokens<'a>, LexError>
     requires { length bytes.now < 4294967295 }
     ensures tokens { IfOk result (λ ts. AreTokens bytes.now ts) }
     ensures no_others { IfOk result (λ ts. AreNoOthers bytes.now ts) }

@@ -3,8 +3,7 @@
 
 pub mod bytes;
 pub mod lex;
-pub mod token;
-pub mod token_list;
-
 #[cfg(test)]
 mod tests;
+pub mod token;
+pub mod token_list;

@@ -11,6 +11,6 @@ pub returns-else-first-eq45 : goal.returns-else-first-eq45
 returns-else-first-eq45 c =
     rw c.digits-count.ensures.value
     (elim c.else-first-eq45.branch [
-        else-first-eq45-via-then-first-eq45+else-count-eq0 w ↦ signed_longest c.args.first c.args.after.now w.if-first-eq45.true (omega (arith, c.digits-count.ensures.value, w.if-count-eq0.false))
-        | else-first-eq45-via-else-first-eq45 w ↦ unsigned_longest c.args.first c.args.after.now c.requires.begins w.if-first-eq45.false
+      | else-first-eq45-via-then-first-eq45+else-count-eq0 w ↦ signed_longest c.args.first c.args.after.now w.if-first-eq45.true (omega (arith, c.digits-count.ensures.value, w.if-count-eq0.false))
+      | else-first-eq45-via-else-first-eq45 w ↦ unsigned_longest c.args.first c.args.after.now c.requires.begins w.if-first-eq45.false
     ])

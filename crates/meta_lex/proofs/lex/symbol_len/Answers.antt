@@ -20,7 +20,7 @@ pub returns-else-is_bracket : goal.returns-else-is_bracket
 returns-else-is_bracket c =
     symbol_none c.args.first c.args.after.now c.requires.begins (sym c.is_single.ensures ∙ c.if-is_single.false)
     (λ bracket some same. elim c.else-is_bracket.branch [
-        else-is_bracket-via-then-is_bracket+then-not-is_empty+else-after-first w ↦ w.if-after-first.false same
-        | else-is_bracket-via-then-is_bracket+else-not-is_empty w ↦ absurd (omega (arith, eqb-true (length c.args.after.now) 0 (sym w.is_empty.ensures ∙ w.if-not-is_empty.false)))
-        | else-is_bracket-via-else-is_bracket w ↦ cc
+      | else-is_bracket-via-then-is_bracket+then-not-is_empty+else-after-first w ↦ w.if-after-first.false same
+      | else-is_bracket-via-then-is_bracket+else-not-is_empty w ↦ absurd (omega (arith, eqb-true (length c.args.after.now) 0 (sym w.is_empty.ensures ∙ w.if-not-is_empty.false)))
+      | else-is_bracket-via-else-is_bracket w ↦ cc
     ])
