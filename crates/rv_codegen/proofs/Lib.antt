@@ -10,3 +10,5 @@ pub mod Exits
 pub mod Standing
 pub mod Entering
 pub mod Right
+pub mod Immediates
+pub mod Fresh

@@ -9,7 +9,7 @@ use Rattle.rv_asm.specs.declared.item.Item.TheVariants.{Plain, Mark, Jump, Branc
 use Rattle.rv_asm.proofs.Labels.{total-append, spot-placed}
 use Rattle.rv_asm.proofs.LabelsArrive.{piece-stands}
 
-is_placed-append : (a b : List Item) (l : ℕ) → is_placed a l ≡ false → is_placed b l ≡ false → is_placed (a ++ b) l ≡ false
+pub is_placed-append : (a b : List Item) (l : ℕ) → is_placed a l ≡ false → is_placed b l ≡ false → is_placed (a ++ b) l ≡ false
 is_placed-append [] b l p q = q
 is_placed-append (Mark k ∷ a) b l p q = either (eqb k l) (is_placed a l) p (λ p'. is_placed-append a b l p' q)
   where
@@ -20,6 +20,10 @@ is_placed-append (Plain i ∷ a) b l p q = is_placed-append a b l p q
 is_placed-append (Jump k ∷ a) b l p q = is_placed-append a b l p q
 is_placed-append (BranchTo o x y k ∷ a) b l p q = is_placed-append a b l p q
 is_placed-append (Address d k ∷ a) b l p q = is_placed-append a b l p q
+
+pub is_placed-plain : (is : List Inst) (l : ℕ) → is_placed (map Plain is) l ≡ false
+is_placed-plain [] l = refl
+is_placed-plain (i ∷ is) l = is_placed-plain is l
 
 module _ (items : List Item) (last : ℕ) where
   abbrev pub code : List Inst
@@ -102,10 +106,6 @@ module _ (items : List Item) (last : ℕ) where
   total-plain : (is : List Inst) → total (map Plain is) ≡ length is
   total-plain [] = refl
   total-plain (i ∷ is) = omega (arith, total-plain is)
-
-  is_placed-plain : (is : List Inst) (l : ℕ) → is_placed (map Plain is) l ≡ false
-  is_placed-plain [] l = refl
-  is_placed-plain (i ∷ is) l = is_placed-plain is l
 
   pub plain-stands : (n from : ℕ) (is : List Inst) (rest : List Item) → Cursor n from (map Plain is ++ rest) → Has code (address_of n) is
   plain-stands n from is rest c = subst (λ x. Has code (address_of n) x) (code_from-plain n is) (stands n from (map Plain is) rest c)

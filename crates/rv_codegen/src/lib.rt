@@ -1,9 +1,13 @@
-//! The code of actions.
+//! The code of actions: the words of an image that performs an action, with the theorem that such an
+//! image is right.
 #![tactic(auto)]
 
-use action_terms::kinds::Kind;
+mod constant;
+mod entries;
 
-/// Whether a kind of action node has code.
-pub fn is_built(kind: Kind) -> bool {
-    matches!(kind, Kind::Complete | Kind::Fail | Kind::Send | Kind::And | Kind::AndThen)
-}
+
+mod labels;
+mod node;
+
+
+
