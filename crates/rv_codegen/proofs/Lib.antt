@@ -6,7 +6,7 @@ pub mod Around
 pub mod Sending
 pub mod Turns
 pub mod Walk
-pub mod Exits
+pub mod ExitLaws
 pub mod Standing
 pub mod Entering
 pub mod Right

@@ -28,7 +28,7 @@ use Rattle.action_terms.proofs.Parts.{Reaches}
 use Rattle.rv_codegen.specs.Blocks.{end_label, exits_of, action_items, start_label, start_of}
 use Rattle.rv_codegen.specs.RightImage.{compiled_image, Subject, SomeEnd, ShowsExit, Shows}
 use Rattle.rv_codegen.proofs.Entering.{round_up-runs}
-use Rattle.rv_codegen.proofs.Exits.{HasTree, both-first_exit, both-second_exit, phases-first_exit, phases-second_exit, root-exit}
+use Rattle.rv_codegen.proofs.ExitLaws.{HasTree, both-first_exit, both-second_exit, phases-first_exit, phases-second_exit, root-exit}
 use Rattle.rv_codegen.proofs.Jumps.{jumped, jump-runs, addressed, address-runs}
 use Rattle.rv_codegen.proofs.Pieces.{Places, Piece, IsNode, IsPartOf}
 use Rattle.rv_codegen.proofs.Standing.{IsBuilt, places, near, Block, Stood, all-stands}

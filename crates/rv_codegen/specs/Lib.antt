@@ -1,2 +1,3 @@
 pub mod RightImage
 pub mod Blocks
+pub mod Works

@@ -4,10 +4,7 @@
 
 mod constant;
 mod entries;
-
-
+mod exits;
 mod labels;
 mod node;
-
-
-
+pub mod work;
