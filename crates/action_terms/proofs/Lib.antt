@@ -6,3 +6,4 @@ pub mod RootCounts
 pub mod TreeEntries
 pub mod TreeStrays
 pub mod TreeNodes
+pub mod SealLemmas

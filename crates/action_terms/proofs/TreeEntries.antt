@@ -27,7 +27,7 @@ next_yielder-counts (YielderNode k t) y ts = omega arith
 
 mutual
   entries-preorder : (t : Tree) (x : Wanted) (c : Option ℕ) (around : List (Option ℕ)) (a y : ℕ) (ls : List Label) → Is x t
-    → entries (c ∷ around) a y (preorder t ++ ls) ≡ entries_of c a y t ++ entries around (a + action_count t) (y + yielder_count t) ls
+      → entries (c ∷ around) a y (preorder t ++ ls) ≡ entries_of c a y t ++ entries around (a + action_count t) (y + yielder_count t) ls
   entries-preorder (tree l ts) x c around a y ls h =
       let below = around_under l a c in
       let first : Entry = record { label = l; number = number_at l a y; body = body_at l a c } in
@@ -37,7 +37,7 @@ mutual
       ∙ ap (λ n. first ∷ (entries_of_all below (next_action l a) (next_yielder l y) ts ++ entries around (a + action_count (tree l ts)) n ls)) (next_yielder-counts l y ts)
 
   entries-preorders : (ts : Trees) (xs : List Wanted) (c : Option ℕ) (around : List (Option ℕ)) (a y : ℕ) (ls : List Label) → Are xs ts
-    → entries (replicate (length xs) c ++ around) a y (preorders ts ++ ls) ≡ entries_of_all c a y ts ++ entries around (a + action_counts ts) (y + yielder_counts ts) ls
+      → entries (replicate (length xs) c ++ around) a y (preorders ts ++ ls) ≡ entries_of_all c a y ts ++ entries around (a + action_counts ts) (y + yielder_counts ts) ls
   entries-preorders none [] c around a y ls h = sym (ap (λ n. entries around n (y + 0) ls) (add-zero a) ∙ ap (λ n. entries around a n ls) (add-zero y))
   entries-preorders none (x ∷ xs) c around a y ls h = elim h [ ]
   entries-preorders (more t ts) [] c around a y ls h = elim h [ ]

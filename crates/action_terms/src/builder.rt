@@ -5,7 +5,9 @@ ghost use Rattle.action_terms.specs.Trees.{Tree, IsAction, IsWhole, preorder};
 ghost use Rattle.action_terms.specs.Numbering.{IsGraphOf, strays};
 ghost use Rattle.action_terms.specs.Pushed.{is_action_node, is_yielder_node};
 
+use crate::bodies::enter_all;
 use crate::graph::{Graph, GraphError};
+use crate::linking::link_all;
 use crate::places::Expected;
 use crate::pushed::{NewAction, NewYielder, Pushed};
 use bumpalo::Bump;
@@ -100,6 +102,21 @@ impl<'a> GraphBuilder<'a> {
         let number = self.yielders;
         self.yielders += 1;
         Ok(number)
+    }
+
+    /// The graph of the action whose preorder the pushed nodes are, or the least `unfold` that has
+    /// no `unfolding` around it within its own closure, or within the action where it is in none.
+    /// Its lists are placed in the arena.
+    pub fn seal(self) -> Result<Graph<'a>, GraphError>
+        requires { IsWhole self }
+        ensures graph { IfOk result (λ g. (t : Tree) → IsAction t → preorder t ≡ self.entry → IsGraphOf g t) }
+        ensures stray { (node : ℕ) → IsErrOf result (GraphError.StrayUnfold node) → (t : Tree) → IsAction t → preorder t ≡ self.entry → slice_get (strays t) 0 ≡ Some node }
+        ensures never_nodes { IsErrOf result GraphError.Nodes → ⊥ }
+    {
+        let entered = enter_all(self.alloc, self.pushed.as_slice())?;
+        let linker = link_all(self.alloc, self.arena, entered.as_slice())?;
+        let (nodes, yielders) = linker.place()?;
+        Ok(Graph::of_lists(nodes, yielders))
     }
 
     /// Whether the pushed nodes are the preorder of exactly one action.
