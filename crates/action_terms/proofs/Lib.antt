@@ -7,3 +7,8 @@ pub mod TreeEntries
 pub mod TreeStrays
 pub mod TreeNodes
 pub mod SealLemmas
+pub mod Each
+pub mod NodeCounts
+pub mod ChildrenLaws
+pub mod ParentLaws
+pub mod ItemLaws
