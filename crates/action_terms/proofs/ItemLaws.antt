@@ -26,13 +26,16 @@ abbrev mutual
   items_in a (more t ts) = own_item t (item_in a t) ++ items_in (a + action_count t) ts
 
 -- the numbers are at least so great
-abbrev AtLeast : ℕ → List ℕ → Type 0
+abbrev pub AtLeast : ℕ → List ℕ → Type 0
 AtLeast low [] = Unit {0}
 AtLeast low (n ∷ ns) = (low ≤ n) × AtLeast low ns
 
 at_least-lower : (low high : ℕ) (ns : List ℕ) → low ≤ high → AtLeast high ns → AtLeast low ns
 at_least-lower low high [] less h = tt
 at_least-lower low high (n ∷ ns) less h = (omega (arith, h.0), at_least-lower low high ns less h.1)
+
+pub at_least-from : (y : ℕ) (ns : List ℕ) → AtLeast y ns → AtLeast (0 + y) ns
+at_least-from y ns h = at_least-lower (0 + y) y ns (omega arith) h
 
 pub yielder_roots-at_least : (y : ℕ) (ts : Trees) → AtLeast y (yielder_roots y ts)
 yielder_roots-at_least y none = tt
@@ -57,7 +60,7 @@ items_from-drop y [] ls = let e : y + 0 ≡ y = omega arith in rw e refl
 items_from-drop y (x ∷ xs) ls = let e : y + suc (length xs) ≡ suc y + length xs = omega arith in items_from-drop (suc y) xs ls ∙ ap (λ n. items_from n ls) (sym e)
 
 -- what follows the yielders of a tree is picked as if they weren't there
-picked-behind : (y n : ℕ) (xs ls : List ListedYielder) (ns : List ℕ) → length xs ≡ n → AtLeast (y + n) ns → picked y (items_from y (xs ++ ls)) ns ≡ picked (y + n) (items_from (y + n) ls) ns
+pub picked-behind : (y n : ℕ) (xs ls : List ListedYielder) (ns : List ℕ) → length xs ≡ n → AtLeast (y + n) ns → picked y (items_from y (xs ++ ls)) ns ≡ picked (y + n) (items_from (y + n) ls) ns
 picked-behind y n xs ls ns is low =
     let P : ℕ → Type 0 = λ m. picked y (items_from y (xs ++ ls)) ns ≡ picked (y + m) (items_from (y + m) ls) ns in
     let Q : ℕ → Type 0 = λ m. AtLeast (y + m) ns in

@@ -12,3 +12,4 @@ pub mod NodeCounts
 pub mod ChildrenLaws
 pub mod ParentLaws
 pub mod ItemLaws
+pub mod SoundNodes

@@ -5,7 +5,7 @@ use Rattle.action_terms.specs.Labels.{Label, Wanted, AnAction, serves, under}
 use Rattle.action_terms.specs.Trees.{Tree, tree, Trees, none, more, preorder, preorders, Is, Are, IsAction, IsWhole}
 use Rattle.action_terms.specs.Places.{fills}
 
-both : (a b : Bool) → (a && b) ≡ true → (a ≡ true) × (b ≡ true)
+pub both : (a b : Bool) → (a && b) ≡ true → (a ≡ true) × (b ≡ true)
 both true b h = (refl, h)
 both false b h = cc
 
