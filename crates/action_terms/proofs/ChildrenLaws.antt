@@ -1,10 +1,10 @@
 -- Where the children and the operands of each node of a tree are.
-use Rattle.std.proofs.Common.{◌≡◌, ℕ, zero, suc, ◌+◌, ◌<◌, ◌≤◌, List, [], ◌∷◌, ◌++◌, length, map, take, drop, refl, sym, ap, subst, ◌∙◌, inl, inr, length-drop, length-take, arith}
-use Rattle.std.specs.Prelude.{Option, Some, None, slice_get, sum}
+use Rattle.std.proofs.Common.{◌≡◌, ℕ, zero, suc, ◌+◌, ◌<◌, ◌≤◌, List, [], ◌∷◌, length, map, take, drop, refl, sym, ap, subst, ◌∙◌, length-drop, length-take, arith}
+use Rattle.std.specs.Prelude.{Option, Some, slice_get, sum}
 use Rattle.std.proofs.lemmas.List.Sums.{sum_by-cons}
-use Rattle.action_terms.specs.Labels.{Label, ActionNode, YielderNode, Wanted, operand_lengths, under}
+use Rattle.action_terms.specs.Labels.{ActionNode, YielderNode, Wanted, operand_lengths, under}
 use Rattle.action_terms.specs.Trees.{Tree, tree, Trees, none, more, Is, Are}
-use Rattle.action_terms.specs.Numbering.{ListedNode, pieces, children_of, body_of, around_parts, around_arguments, action_count, action_counts, yielder_count, yielder_counts, action_roots, yielder_roots, nodes_of, nodes_of_all}
+use Rattle.action_terms.specs.Numbering.{ListedNode, pieces, children_of, around_parts, around_arguments, action_count, action_counts, yielder_count, yielder_counts, action_roots, yielder_roots, nodes_of, nodes_of_all}
 use Rattle.action_terms.specs.declared.kinds.Kind.{Kind}
 use Rattle.action_terms.specs.declared.kinds.Kind.TheVariants as kind
 use Rattle.action_terms.proofs.Each.{Each, Each-append}
@@ -81,17 +81,19 @@ pub record Sits (nodes yielders k : ℕ) (n : ListedNode) : Type 0 where
 mutual
   pub sits-tree : (t : Tree) (x : Wanted) (c : Option ℕ) (a y nodes yielders : ℕ) → Is x t → a + action_count t ≤ nodes → y + yielder_count t ≤ yielders → Each (Sits nodes yielders) a (nodes_of c a y t)
   sits-tree (tree (ActionNode k n tk) ts) x c a y nodes yielders h few few2 =
-      let less : suc a + action_counts ts ≤ nodes = omega arith in
-      (record {
-        children_within = λ i d at.
-          let g = action_roots-within ts (suc a) i d (child-root k (action_roots (suc a) ts) i d at) in
-          let low : a < d = omega arith in let high : d < nodes = omega arith in (low, high);
-        children_ascend = λ i j d e first second before. action_roots-ascend ts (suc a) i j d e (child-root k (action_roots (suc a) ts) i d first) (child-root k (action_roots (suc a) ts) j e second) before;
-        operands_within = λ i j z o operand item.
-          let p = piece-at (operand_lengths k n) (yielder_roots y ts) i j z o operand item in
-          let g = yielder_roots-within ts y p.0 z p.1 in omega arith;
-        operands_fit = (n, pieces-lengths (operand_lengths k n) (yielder_roots y ts) (length-yielder_roots_under y (ActionNode k n tk) ts h.1))
-      }, sits-trees ts (under (ActionNode k n tk)) (around_parts k a c) (suc a) y nodes yielders h.1 less few2)
+      let less : suc a + action_counts ts ≤ nodes = omega arith in (
+        record {
+          children_within = λ i d at.
+              let g = action_roots-within ts (suc a) i d (child-root k (action_roots (suc a) ts) i d at) in
+              let low : a < d = omega arith in let high : d < nodes = omega arith in (low, high);
+          children_ascend = λ i j d e first second before. action_roots-ascend ts (suc a) i j d e (child-root k (action_roots (suc a) ts) i d first) (child-root k (action_roots (suc a) ts) j e second) before;
+          operands_within = λ i j z o operand item.
+              let p = piece-at (operand_lengths k n) (yielder_roots y ts) i j z o operand item in
+              let g = yielder_roots-within ts y p.0 z p.1 in omega arith;
+          operands_fit = (n, pieces-lengths (operand_lengths k n) (yielder_roots y ts) (length-yielder_roots_under y (ActionNode k n tk) ts h.1));
+        },
+        sits-trees ts (under (ActionNode k n tk)) (around_parts k a c) (suc a) y nodes yielders h.1 less few2,
+      )
   sits-tree (tree (YielderNode k tk) ts) x c a y nodes yielders h few few2 =
       let less : suc y + yielder_counts ts ≤ yielders = omega arith in
       sits-trees ts (under (YielderNode k tk)) (around_arguments k c) a (suc y) nodes yielders h.1 few less
@@ -107,4 +109,4 @@ mutual
       let rest = nodes_of_all c (a + action_count t) (y + yielder_count t) ts in
       let P : ℕ → Type 0 = λ m. Each (Sits nodes yielders) (a + m) rest in
       Each-append (Sits nodes yielders) a (nodes_of c a y t) rest (sits-tree t x c a y nodes yielders h.0 a1 y1)
-        (subst P (sym (length-nodes_of c a y t)) (sits-trees ts xs c (a + action_count t) (y + yielder_count t) nodes yielders h.1 a2 y2))
+      (subst P (sym (length-nodes_of c a y t)) (sits-trees ts xs c (a + action_count t) (y + yielder_count t) nodes yielders h.1 a2 y2))

@@ -1,13 +1,11 @@
 -- The item that a yielder stands for, from its tree.
-use Rattle.std.proofs.Common.{◌≡◌, ℕ, zero, suc, ◌+◌, ◌-◌, ◌<◌, ◌≤◌, List, [], ◌∷◌, ◌++◌, length, drop, refl, sym, ap, subst, ◌∙◌, append_assoc, arith}
-use Rattle.std.specs.Prelude.{Some, None, slice_get}
-use Rattle.action_terms.specs.Labels.{Label, ActionNode, YielderNode, Wanted, AnAction, AYielder, AnItem, AClosure, copies, under, under_yielder}
-use Rattle.action_terms.specs.Trees.{Tree, tree, Trees, none, more, Is, Are}
-use Rattle.action_terms.specs.Numbering.{ListedYielder, closure_body, action_count, action_counts, yielder_count, yielder_counts, yielder_roots, yielders_of, yielders_of_all}
-use Rattle.action_terms.specs.Actions.{Yielder, ClosureOf, Item, Single, Them}
+use Rattle.std.proofs.Common.{◌≡◌, ℕ, zero, suc, ◌+◌, ◌-◌, ◌≤◌, List, [], ◌∷◌, ◌++◌, length, drop, refl, sym, ap, subst, ◌∙◌, append_assoc, arith}
+use Rattle.std.specs.Prelude.{slice_get}
+use Rattle.action_terms.specs.Labels.{ActionNode, YielderNode}
+use Rattle.action_terms.specs.Trees.{Tree, tree, Trees, none, more}
+use Rattle.action_terms.specs.Numbering.{ListedYielder, closure_body, action_count, yielder_count, yielder_counts, yielder_roots, yielders_of, yielders_of_all}
+use Rattle.action_terms.specs.Actions.{Item, Them}
 use Rattle.action_terms.specs.Meaning.{item_of, item_or_them, picked, items_from}
-use Rattle.action_terms.specs.declared.kinds.YKind.{YKind}
-use Rattle.action_terms.specs.declared.kinds.YKind.TheVariants as ykind
 use Rattle.action_terms.proofs.NodeCounts.{length-yielders_of}
 
 -- an item of a tree's own, if its root is a yielder

@@ -13,3 +13,5 @@ pub mod ChildrenLaws
 pub mod ParentLaws
 pub mod ItemLaws
 pub mod SoundNodes
+pub mod NodeForms
+pub mod GraphLaws

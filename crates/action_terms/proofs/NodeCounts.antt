@@ -1,9 +1,9 @@
 -- How many nodes and how many yielders a graph has.
-use Rattle.std.proofs.Common.{◌≡◌, ℕ, suc, ◌+◌, ◌<◌, ◌≤◌, List, [], ◌∷◌, ◌++◌, length, refl, sym, ap, subst, ◌∙◌, length-append, arith}
-use Rattle.std.specs.Prelude.{Option, None}
+use Rattle.std.proofs.Common.{◌≡◌, ℕ, suc, ◌+◌, ◌<◌, length, refl, ap, length-append, arith}
+use Rattle.std.specs.Prelude.{Option}
 use Rattle.action_terms.specs.Labels.{ActionNode, YielderNode}
 use Rattle.action_terms.specs.Trees.{Tree, tree, Trees, none, more, IsAction}
-use Rattle.action_terms.specs.Numbering.{Listed, action_count, action_counts, yielder_count, yielder_counts, around_parts, around_arguments, nodes_of, nodes_of_all, yielders_of, yielders_of_all, IsGraph, IsGraphOf}
+use Rattle.action_terms.specs.Numbering.{action_count, action_counts, yielder_count, yielder_counts, around_parts, around_arguments, nodes_of, nodes_of_all, yielders_of, yielders_of_all}
 
 mutual
   pub length-nodes_of : (c : Option ℕ) (a y : ℕ) (t : Tree) → length (nodes_of c a y t) ≡ action_count t

@@ -1,9 +1,9 @@
 -- What is linked of the preorder of an action is its graph.
-use Rattle.std.proofs.Common.{◌≡◌, ℕ, suc, ◌+◌, ◌≤◌, List, [], ◌∷◌, ◌++◌, length, refl, sym, ap, subst, ◌∙◌, length-append, arith}
+use Rattle.std.proofs.Common.{◌≡◌, ℕ, ◌+◌, ◌≤◌, List, [], ◌∷◌, length, refl, sym, ap, subst, ◌∙◌, length-append, arith}
 use Rattle.std.specs.Prelude.{None}
 use Rattle.action_terms.specs.Labels.{Label, ActionNode, YielderNode}
 use Rattle.action_terms.specs.Trees.{Tree, tree, Trees, none, more, preorder, preorders, IsAction, IsWhole}
-use Rattle.action_terms.specs.Numbering.{Listed, ListedNode, ListedYielder, action_count, action_counts, yielder_count, yielder_counts, strays, IsGraph, IsGraphOf}
+use Rattle.action_terms.specs.Numbering.{ListedNode, ListedYielder, action_count, action_counts, yielder_count, yielder_counts, IsGraph, IsGraphOf}
 use Rattle.action_terms.specs.Entries.{entries, strays_in, nodes_in, yielders_in}
 use Rattle.action_terms.proofs.TreeEntries.{entries-action}
 use Rattle.action_terms.proofs.TreeStrays.{strays_in-action}

@@ -1,12 +1,12 @@
 -- No node of an action is stray: its parts and its operands are those that its kind wants.
-use Rattle.std.proofs.Common.{◌≡◌, ℕ, zero, suc, ◌+◌, ◌≤◌, true, false, List, [], ◌∷◌, ◌++◌, length, map, take, drop, refl, sym, ap, subst, ◌∙◌, append_assoc, append-nil, length-append, arith}
-use Rattle.std.specs.Prelude.{◌≢◌, Option, Some, None}
-use Rattle.action_terms.specs.Labels.{Label, ActionNode, YielderNode, Wanted, AnAction, AYielder, AnItem, AClosure, copies, is_datum, is_closure, yielder_fits, operand_lengths, under, under_action, under_yielder}
+use Rattle.std.proofs.Common.{◌≡◌, ℕ, zero, suc, ◌+◌, true, List, [], ◌∷◌, ◌++◌, length, map, take, drop, refl, sym, ap, subst, ◌∙◌, append_assoc, append-nil, length-append, arith}
+use Rattle.std.specs.Prelude.{◌≢◌, Option, None}
+use Rattle.action_terms.specs.Labels.{ActionNode, YielderNode, Wanted, AnAction, AYielder, AnItem, AClosure, copies, is_datum, is_closure, yielder_fits, operand_lengths, under_action, under_yielder}
 use Rattle.action_terms.specs.Trees.{Tree, tree, Trees, none, more, Is, Are}
 use Rattle.action_terms.specs.Numbering.{ListedNode, ListedYielder, pieces, children_of, body_of, around_parts, around_arguments, closure_body, action_count, yielder_count, action_roots, yielder_roots, nodes_of, nodes_of_all, yielders_of, yielders_of_all}
 use Rattle.action_terms.specs.Entries.{part_count}
 use Rattle.action_terms.specs.Actions.{Yielder, ClosureOf, Item, Single, Them, Stray}
-use Rattle.action_terms.specs.Meaning.{item_of, item_or_them, picked, items_from, node_of, node_with}
+use Rattle.action_terms.specs.Meaning.{item_of, picked, items_from, node_of, node_with}
 use Rattle.action_terms.specs.declared.kinds.Kind.{Kind}
 use Rattle.action_terms.specs.declared.kinds.Kind.TheVariants as kind
 use Rattle.action_terms.specs.declared.kinds.YKind.{YKind}
@@ -15,7 +15,7 @@ use Rattle.action_terms.proofs.Whole.{both}
 use Rattle.action_terms.proofs.Each.{Each, Each-append}
 use Rattle.action_terms.proofs.NodeCounts.{length-nodes_of, length-yielders_of}
 use Rattle.action_terms.proofs.RootCounts.{length-action_roots_under}
-use Rattle.action_terms.proofs.ItemLaws.{item_in, items_in, at_least-from, yielder_roots-at_least, picked-behind, picked-trees}
+use Rattle.action_terms.proofs.ItemLaws.{items_in, at_least-from, yielder_roots-at_least, picked-behind, picked-trees}
 
 abbrev IsSingle : Item → Type 0
 IsSingle (Single e) = Unit {0}
@@ -191,9 +191,10 @@ mutual
   sound-tree (tree (ActionNode k n tk) ts) x c a y front ls all h is split =
       let items = items_from 0 all in
       let P : List (List Item) → Type 0 = λ os. node_of k tk (body_of k a c) (children_of k (action_roots (suc a) ts)) os ≢ Stray in
-      let operands = picked-pieces items (operand_lengths k n) (yielder_roots y ts) ∙ ap (cut (operand_lengths k n)) (picked-among front ls all ts (suc a) y is split) in
-      (subst P (sym operands) (sound k n tk (body_of k a c) (action_roots (suc a) ts) (items_in (suc a) ts) (length-action_roots_under (suc a) (ActionNode k n tk) ts h.1) (items-fit ts (under_action k n) (suc a) h.1)),
-       sound-trees ts (under_action k n) (around_parts k a c) (suc a) y front ls all h.1 is split)
+      let operands = picked-pieces items (operand_lengths k n) (yielder_roots y ts) ∙ ap (cut (operand_lengths k n)) (picked-among front ls all ts (suc a) y is split) in (
+        subst P (sym operands) (sound k n tk (body_of k a c) (action_roots (suc a) ts) (items_in (suc a) ts) (length-action_roots_under (suc a) (ActionNode k n tk) ts h.1) (items-fit ts (under_action k n) (suc a) h.1)),
+        sound-trees ts (under_action k n) (around_parts k a c) (suc a) y front ls all h.1 is split,
+      )
   sound-tree (tree (YielderNode k tk) ts) x c a y front ls all h is split =
       let first : ListedYielder = record { kind = k; token = tk; children = yielder_roots (suc y) ts; body = closure_body k a } in
       let longer : length (front ++ first ∷ []) ≡ suc y = omega (arith, length-append front (first ∷ [])) in
@@ -212,7 +213,7 @@ mutual
       let longer : length (front ++ these) ≡ y1 = omega (arith, length-append front these, length-yielders_of a y t) in
       let P : ℕ → Type 0 = λ m. Each (NotStray all) (a + m) (nodes_of_all c a1 y1 ts) in
       Each-append (NotStray all) a (nodes_of c a y t) (nodes_of_all c a1 y1 ts) (sound-tree t x c a y front (rest ++ ls) all h.0 is here)
-        (subst P (sym (length-nodes_of c a y t)) (sound-trees ts xs c a1 y1 (front ++ these) ls all h.1 longer (here ∙ sym (append_assoc front these (rest ++ ls)))))
+      (subst P (sym (length-nodes_of c a y t)) (sound-trees ts xs c a1 y1 (front ++ these) ls all h.1 longer (here ∙ sym (append_assoc front these (rest ++ ls)))))
 
 -- no node of a tree is stray, with the yielders of the tree
 pub never_stray-tree : (t : Tree) (x : Wanted) → Is x t → Each (λ k n. node_with (items_from 0 (yielders_of 0 0 t)) n ≢ Stray) 0 (nodes_of None 0 0 t)

@@ -1,10 +1,10 @@
 -- The walk forward over the preorder of a tree gives the tree's entries, and its stray nodes.
-use Rattle.std.proofs.Common.{◌≡◌, ℕ, suc, ◌+◌, List, [], ◌∷◌, ◌++◌, length, refl, sym, ap, ◌∙◌, append_assoc, append-nil, add-zero, arith}
+use Rattle.std.proofs.Common.{◌≡◌, ℕ, ◌+◌, List, [], ◌∷◌, ◌++◌, length, refl, sym, ap, ◌∙◌, append_assoc, append-nil, add-zero, arith}
 use Rattle.std.specs.Prelude.{Option, None, replicate}
 use Rattle.action_terms.specs.Labels.{Label, ActionNode, YielderNode, Wanted, under}
 use Rattle.action_terms.specs.Trees.{Tree, tree, Trees, none, more, preorder, preorders, Is, Are, IsAction}
-use Rattle.action_terms.specs.Numbering.{action_count, action_counts, yielder_count, yielder_counts, strays_of, strays_of_all, strays}
-use Rattle.action_terms.specs.Entries.{Entry, number_at, body_at, around_under, next_action, next_yielder, strays_at, entries, strays_in, action_places, yielder_places}
+use Rattle.action_terms.specs.Numbering.{action_count, action_counts, yielder_count, yielder_counts}
+use Rattle.action_terms.specs.Entries.{Entry, number_at, body_at, around_under, next_action, next_yielder, entries}
 use Rattle.action_terms.proofs.RootCounts.{places-under}
 
 -- the entries of a tree whose first action node has number a and whose first yielder has number y

@@ -1,12 +1,12 @@
 -- The walk backward over the entries of a tree gives its nodes, with the children and operands that they have in the tree.
-use Rattle.std.proofs.Common.{◌≡◌, ℕ, zero, suc, ◌+◌, List, [], ◌∷◌, ◌++◌, length, take, drop, ◌≤◌, length-drop, refl, sym, ap, subst, ◌∙◌, append_assoc, append-nil, arith}
+use Rattle.std.proofs.Common.{◌≡◌, ℕ, suc, ◌+◌, List, [], ◌∷◌, ◌++◌, length, take, drop, ◌≤◌, length-drop, refl, sym, ap, ◌∙◌, append_assoc, append-nil, arith}
 use Rattle.std.specs.Prelude.{Option, None, sum}
 use Rattle.std.proofs.lemmas.List.{take-append-le, drop-append-le}
 use Rattle.std.proofs.lemmas.List.Sums.{sum_by-cons}
 use Rattle.std.proofs.Math.Seq.{take-append_seam}
-use Rattle.action_terms.specs.Labels.{Label, ActionNode, YielderNode, Wanted, AnAction, operand_lengths, under}
+use Rattle.action_terms.specs.Labels.{ActionNode, YielderNode, Wanted, AnAction, operand_lengths, under}
 use Rattle.action_terms.specs.Trees.{Tree, tree, Trees, none, more, Is, Are, IsAction}
-use Rattle.action_terms.specs.Numbering.{ListedNode, ListedYielder, pieces, children_of, body_of, closure_body, around_parts, around_arguments, action_count, action_counts, yielder_count, yielder_counts, action_roots, yielder_roots, nodes_of, nodes_of_all, yielders_of, yielders_of_all}
+use Rattle.action_terms.specs.Numbering.{ListedNode, ListedYielder, pieces, children_of, body_of, closure_body, around_parts, around_arguments, action_count, yielder_count, action_roots, yielder_roots, nodes_of, nodes_of_all, yielders_of, yielders_of_all}
 use Rattle.action_terms.specs.Entries.{Entry, part_count, closure_count, argument_count, action_roots_in, yielder_roots_in, nodes_in, yielders_in}
 use Rattle.action_terms.proofs.TreeEntries.{entries_of, entries_of_all}
 use Rattle.action_terms.proofs.RootCounts.{length-action_roots_under, length-yielder_roots_under}

@@ -1,7 +1,6 @@
-use Rattle.std.proofs.Common.{◌≡◌, ◌≤◌, ◌∙◌, ℕ, List, [], ◌∷◌, length, map, sym, ap, subst}
-use Rattle.std.specs.Prelude.{None, Some, slice_get, Result, Ok, Err, IsErrAnd, IsErrOf}
+use Rattle.std.proofs.Common.{◌≡◌, ◌≤◌, ◌∙◌, List, [], ◌∷◌, length, map, sym, ap, subst}
+use Rattle.std.specs.Prelude.{None, slice_get, Result, Ok, Err, IsErrAnd, IsErrOf}
 use Rattle.action_terms.specs.Labels.{Label}
-use Rattle.action_terms.specs.Trees.{Tree}
 use Rattle.action_terms.specs.Numbering.{Listed, IsGraphOf}
 use Rattle.action_terms.specs.Nodes.{listed_node, listed_yielder}
 use Rattle.action_terms.specs.Pushed.{label_of}
@@ -29,11 +28,11 @@ of_lists-requires c =
     let labels = ap (map label_of) c.as_slice.ensures.value ∙ c.self.view_is in
     let listed = ap (map entry_of) c.as_slice-2.ensures.value ∙ c.in_ok-entered.ensures.entered ∙ ap (entries (None ∷ []) 0 0) labels in
     is_graph-linked c.args.self (map listed_node c.in_ok-nodes.nodes.now) (map listed_yielder c.in_ok-nodes.yielders.now)
-      (subst P c.self.view_is c.self.invariant.few)
-      (sym (ap (strays_in (None ∷ []) 0) labels) ∙ c.in_ok-entered.ensures.none_stray)
-      (ap (map listed_node) c.in_ok-nodes.ensures.nodes ∙ c.in_ok-linker.ensures.nodes ∙ ap nodes_in listed)
-      (ap (map listed_yielder) c.in_ok-nodes.ensures.yielders ∙ c.in_ok-linker.ensures.yielders ∙ ap yielders_in listed)
-      c.requires
+    (subst P c.self.view_is c.self.invariant.few)
+    (sym (ap (strays_in (None ∷ []) 0) labels) ∙ c.in_ok-entered.ensures.none_stray)
+    (ap (map listed_node) c.in_ok-nodes.ensures.nodes ∙ c.in_ok-linker.ensures.nodes ∙ ap nodes_in listed)
+    (ap (map listed_yielder) c.in_ok-nodes.ensures.yielders ∙ c.in_ok-linker.ensures.yielders ∙ ap yielders_in listed)
+    c.requires
 
 pub returns-clause-graph : goal.returns-clause-graph
 returns-clause-graph c t action pushed =
@@ -42,8 +41,8 @@ returns-clause-graph c t action pushed =
     let labels = ap (map label_of) c.as_slice.ensures.value ∙ c.self.view_is in
     let listed = ap (map entry_of) c.as_slice-2.ensures.value ∙ c.in_ok-entered.ensures.entered ∙ ap (entries (None ∷ []) 0 0) labels in
     subst Q (sym c.of_lists.ensures) (graph-linked c.args.self (map listed_node c.in_ok-nodes.nodes.now) (map listed_yielder c.in_ok-nodes.yielders.now)
-      (subst P c.self.view_is c.self.invariant.few)
-      (sym (ap (strays_in (None ∷ []) 0) labels) ∙ c.in_ok-entered.ensures.none_stray)
-      (ap (map listed_node) c.in_ok-nodes.ensures.nodes ∙ c.in_ok-linker.ensures.nodes ∙ ap nodes_in listed)
-      (ap (map listed_yielder) c.in_ok-nodes.ensures.yielders ∙ c.in_ok-linker.ensures.yielders ∙ ap yielders_in listed)
-      t action pushed)
+    (subst P c.self.view_is c.self.invariant.few)
+    (sym (ap (strays_in (None ∷ []) 0) labels) ∙ c.in_ok-entered.ensures.none_stray)
+    (ap (map listed_node) c.in_ok-nodes.ensures.nodes ∙ c.in_ok-linker.ensures.nodes ∙ ap nodes_in listed)
+    (ap (map listed_yielder) c.in_ok-nodes.ensures.yielders ∙ c.in_ok-linker.ensures.yielders ∙ ap yielders_in listed)
+    t action pushed)
