@@ -1,3 +1,5 @@
+pub mod Contexts
+pub mod Parts
 pub mod PlacesLemmas
 pub mod Whole
 pub mod BuilderLemmas
