@@ -10,8 +10,9 @@ use crate::graph::{Graph, GraphError};
 use crate::linking::link_all;
 use crate::places::Expected;
 use crate::pushed::{NewAction, NewYielder, Pushed};
+use acg_base::Memory;
 use bumpalo::Bump;
-use std::alloc::{AllocError, Global};
+use std::alloc::Global;
 use std::marker::Model;
 
 /// The most action nodes and yielders of one graph, together.
@@ -42,7 +43,7 @@ impl<'a> Model for GraphBuilder<'a> {
 
 impl<'a> GraphBuilder<'a> {
     /// A builder with no node.
-    pub fn new(alloc: Global, arena: &'a Bump) -> Result<GraphBuilder<'a>, AllocError>
+    pub fn new(alloc: Global, arena: &'a Bump) -> Result<GraphBuilder<'a>, Memory>
         ensures { IfOk result (λ builder. builder ≡ []) }
     {
         Ok(GraphBuilder {

@@ -10,7 +10,7 @@ use std::marker::Model;
 use thiserror::Error;
 
 /// An action node. Its number is its place in the list of a graph, from 0, in preorder.
-#[derive(Clone, Copy)]
+#[derive(Clone, Copy, Debug, PartialEq, Eq)]
 pub struct Node<'a> {
     /// What the node does.
     pub kind: Kind,
@@ -27,7 +27,7 @@ pub struct Node<'a> {
 }
 
 /// A yielder. Its number is its place in the list of a graph, from 0, in preorder.
-#[derive(Clone, Copy)]
+#[derive(Clone, Copy, Debug, PartialEq, Eq)]
 pub struct YNode<'a> {
     /// What it yields.
     pub kind: YKind,
