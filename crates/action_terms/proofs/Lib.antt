@@ -8,3 +8,12 @@ pub mod RootCounts
 pub mod TreeEntries
 pub mod TreeStrays
 pub mod TreeNodes
+pub mod SealLemmas
+pub mod Each
+pub mod NodeCounts
+pub mod ChildrenLaws
+pub mod ParentLaws
+pub mod ItemLaws
+pub mod SoundNodes
+pub mod NodeForms
+pub mod GraphLaws

@@ -1,7 +1,7 @@
 -- How many actions and how many yielders stand under a node, and so how many roots its parts have.
-use Rattle.std.proofs.Common.{◌≡◌, ℕ, zero, suc, ◌+◌, true, false, List, [], ◌∷◌, ◌++◌, length, refl, sym, ap, ◌∙◌, zero-add, arith}
-use Rattle.action_terms.specs.Labels.{Label, ActionNode, YielderNode, Wanted, AnAction, AYielder, AnItem, AClosure, serves, copies, under}
-use Rattle.action_terms.specs.Trees.{Tree, tree, Trees, none, more, Is, Are}
+use Rattle.std.proofs.Common.{◌≡◌, ℕ, zero, suc, ◌+◌, List, [], ◌∷◌, length, refl, ap, ◌∙◌, arith}
+use Rattle.action_terms.specs.Labels.{Label, ActionNode, YielderNode, Wanted, AnAction, AYielder, AnItem, AClosure, copies, under}
+use Rattle.action_terms.specs.Trees.{tree, Trees, none, more, Are}
 use Rattle.action_terms.specs.Numbering.{action_counts, yielder_counts, action_roots, yielder_roots}
 use Rattle.action_terms.specs.Entries.{action_places, yielder_places}
 use Rattle.action_terms.specs.declared.kinds.Kind.TheVariants as kind

@@ -1,10 +1,10 @@
 -- The walk forward over the preorder of a tree gives the tree's entries, and its stray nodes.
-use Rattle.std.proofs.Common.{◌≡◌, ℕ, suc, ◌+◌, List, [], ◌∷◌, ◌++◌, length, refl, sym, ap, ◌∙◌, append_assoc, append-nil, add-zero, arith}
+use Rattle.std.proofs.Common.{◌≡◌, ℕ, ◌+◌, List, [], ◌∷◌, ◌++◌, length, refl, sym, ap, ◌∙◌, append_assoc, append-nil, add-zero, arith}
 use Rattle.std.specs.Prelude.{Option, None, replicate}
 use Rattle.action_terms.specs.Labels.{Label, ActionNode, YielderNode, Wanted, under}
 use Rattle.action_terms.specs.Trees.{Tree, tree, Trees, none, more, preorder, preorders, Is, Are, IsAction}
-use Rattle.action_terms.specs.Numbering.{action_count, action_counts, yielder_count, yielder_counts, strays_of, strays_of_all, strays}
-use Rattle.action_terms.specs.Entries.{Entry, number_at, body_at, around_under, next_action, next_yielder, strays_at, entries, strays_in, action_places, yielder_places}
+use Rattle.action_terms.specs.Numbering.{action_count, action_counts, yielder_count, yielder_counts}
+use Rattle.action_terms.specs.Entries.{Entry, number_at, body_at, around_under, next_action, next_yielder, entries}
 use Rattle.action_terms.proofs.RootCounts.{places-under}
 
 -- the entries of a tree whose first action node has number a and whose first yielder has number y
@@ -27,7 +27,7 @@ next_yielder-counts (YielderNode k t) y ts = omega arith
 
 mutual
   entries-preorder : (t : Tree) (x : Wanted) (c : Option ℕ) (around : List (Option ℕ)) (a y : ℕ) (ls : List Label) → Is x t
-    → entries (c ∷ around) a y (preorder t ++ ls) ≡ entries_of c a y t ++ entries around (a + action_count t) (y + yielder_count t) ls
+      → entries (c ∷ around) a y (preorder t ++ ls) ≡ entries_of c a y t ++ entries around (a + action_count t) (y + yielder_count t) ls
   entries-preorder (tree l ts) x c around a y ls h =
       let below = around_under l a c in
       let first : Entry = record { label = l; number = number_at l a y; body = body_at l a c } in
@@ -37,7 +37,7 @@ mutual
       ∙ ap (λ n. first ∷ (entries_of_all below (next_action l a) (next_yielder l y) ts ++ entries around (a + action_count (tree l ts)) n ls)) (next_yielder-counts l y ts)
 
   entries-preorders : (ts : Trees) (xs : List Wanted) (c : Option ℕ) (around : List (Option ℕ)) (a y : ℕ) (ls : List Label) → Are xs ts
-    → entries (replicate (length xs) c ++ around) a y (preorders ts ++ ls) ≡ entries_of_all c a y ts ++ entries around (a + action_counts ts) (y + yielder_counts ts) ls
+      → entries (replicate (length xs) c ++ around) a y (preorders ts ++ ls) ≡ entries_of_all c a y ts ++ entries around (a + action_counts ts) (y + yielder_counts ts) ls
   entries-preorders none [] c around a y ls h = sym (ap (λ n. entries around n (y + 0) ls) (add-zero a) ∙ ap (λ n. entries around a n ls) (add-zero y))
   entries-preorders none (x ∷ xs) c around a y ls h = elim h [ ]
   entries-preorders (more t ts) [] c around a y ls h = elim h [ ]

@@ -1,12 +1,12 @@
 -- The walk backward over the entries of a tree gives its nodes, with the children and operands that they have in the tree.
-use Rattle.std.proofs.Common.{◌≡◌, ℕ, zero, suc, ◌+◌, List, [], ◌∷◌, ◌++◌, length, take, drop, ◌≤◌, length-drop, refl, sym, ap, subst, ◌∙◌, append_assoc, append-nil, arith}
+use Rattle.std.proofs.Common.{◌≡◌, ℕ, suc, ◌+◌, List, [], ◌∷◌, ◌++◌, length, take, drop, ◌≤◌, length-drop, refl, sym, ap, ◌∙◌, append_assoc, append-nil, arith}
 use Rattle.std.specs.Prelude.{Option, None, sum}
 use Rattle.std.proofs.lemmas.List.{take-append-le, drop-append-le}
 use Rattle.std.proofs.lemmas.List.Sums.{sum_by-cons}
 use Rattle.std.proofs.Math.Seq.{take-append_seam}
-use Rattle.action_terms.specs.Labels.{Label, ActionNode, YielderNode, Wanted, AnAction, operand_lengths, under}
+use Rattle.action_terms.specs.Labels.{ActionNode, YielderNode, Wanted, AnAction, operand_lengths, under}
 use Rattle.action_terms.specs.Trees.{Tree, tree, Trees, none, more, Is, Are, IsAction}
-use Rattle.action_terms.specs.Numbering.{ListedNode, ListedYielder, pieces, children_of, body_of, closure_body, around_parts, around_arguments, action_count, action_counts, yielder_count, yielder_counts, action_roots, yielder_roots, nodes_of, nodes_of_all, yielders_of, yielders_of_all}
+use Rattle.action_terms.specs.Numbering.{ListedNode, ListedYielder, pieces, children_of, body_of, closure_body, around_parts, around_arguments, action_count, yielder_count, action_roots, yielder_roots, nodes_of, nodes_of_all, yielders_of, yielders_of_all}
 use Rattle.action_terms.specs.Entries.{Entry, part_count, closure_count, argument_count, action_roots_in, yielder_roots_in, nodes_in, yielders_in}
 use Rattle.action_terms.proofs.TreeEntries.{entries_of, entries_of_all}
 use Rattle.action_terms.proofs.RootCounts.{length-action_roots_under, length-yielder_roots_under}
@@ -25,7 +25,7 @@ action_roots-more (tree (YielderNode k tk) us) ts a = refl
 
 mutual
   action_roots_in-tree : (t : Tree) (x : Wanted) (c : Option ℕ) (a y : ℕ) (es : List Entry) → Is x t
-    → action_roots_in (entries_of c a y t ++ es) ≡ action_roots a (more t none) ++ action_roots_in es
+      → action_roots_in (entries_of c a y t ++ es) ≡ action_roots a (more t none) ++ action_roots_in es
   action_roots_in-tree (tree (ActionNode k n tk) ts) x c a y es h =
       ap (λ l. a ∷ drop (part_count k) l) (action_roots_in-trees ts (under (ActionNode k n tk)) (around_parts k a c) (suc a) y es h.1)
       ∙ ap (λ l. a ∷ l) (drop-whole (action_roots (suc a) ts) (action_roots_in es) (part_count k) (length-action_roots_under (suc a) (ActionNode k n tk) ts h.1))
@@ -34,7 +34,7 @@ mutual
       ∙ drop-whole (action_roots a ts) (action_roots_in es) (closure_count k) (length-action_roots_under a (YielderNode k tk) ts h.1)
 
   action_roots_in-trees : (ts : Trees) (xs : List Wanted) (c : Option ℕ) (a y : ℕ) (es : List Entry) → Are xs ts
-    → action_roots_in (entries_of_all c a y ts ++ es) ≡ action_roots a ts ++ action_roots_in es
+      → action_roots_in (entries_of_all c a y ts ++ es) ≡ action_roots a ts ++ action_roots_in es
   action_roots_in-trees none xs c a y es h = refl
   action_roots_in-trees (more t ts) [] c a y es h = elim h [ ]
   action_roots_in-trees (more t ts) (x ∷ xs) c a y es h =
@@ -51,7 +51,7 @@ yielder_roots-more (tree (YielderNode k tk) us) ts y = refl
 
 mutual
   yielder_roots_in-tree : (t : Tree) (x : Wanted) (c : Option ℕ) (a y : ℕ) (es : List Entry) → Is x t
-    → yielder_roots_in (entries_of c a y t ++ es) ≡ yielder_roots y (more t none) ++ yielder_roots_in es
+      → yielder_roots_in (entries_of c a y t ++ es) ≡ yielder_roots y (more t none) ++ yielder_roots_in es
   yielder_roots_in-tree (tree (ActionNode k n tk) ts) x c a y es h =
       ap (drop (sum (operand_lengths k n))) (yielder_roots_in-trees ts (under (ActionNode k n tk)) (around_parts k a c) (suc a) y es h.1)
       ∙ drop-whole (yielder_roots y ts) (yielder_roots_in es) (sum (operand_lengths k n)) (length-yielder_roots_under y (ActionNode k n tk) ts h.1)
@@ -60,7 +60,7 @@ mutual
       ∙ ap (λ l. y ∷ l) (drop-whole (yielder_roots (suc y) ts) (yielder_roots_in es) (argument_count k) (length-yielder_roots_under (suc y) (YielderNode k tk) ts h.1))
 
   yielder_roots_in-trees : (ts : Trees) (xs : List Wanted) (c : Option ℕ) (a y : ℕ) (es : List Entry) → Are xs ts
-    → yielder_roots_in (entries_of_all c a y ts ++ es) ≡ yielder_roots y ts ++ yielder_roots_in es
+      → yielder_roots_in (entries_of_all c a y ts ++ es) ≡ yielder_roots y ts ++ yielder_roots_in es
   yielder_roots_in-trees none xs c a y es h = refl
   yielder_roots_in-trees (more t ts) [] c a y es h = elim h [ ]
   yielder_roots_in-trees (more t ts) (x ∷ xs) c a y es h =

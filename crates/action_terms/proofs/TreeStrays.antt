@@ -1,5 +1,5 @@
 -- The walk forward over the preorder of an action meets its stray nodes in their order.
-use Rattle.std.proofs.Common.{◌≡◌, ℕ, suc, ◌+◌, List, [], ◌∷◌, ◌++◌, length, refl, sym, ap, ◌∙◌, append_assoc, append-nil, add-zero, arith}
+use Rattle.std.proofs.Common.{◌≡◌, ℕ, suc, ◌+◌, List, [], ◌∷◌, ◌++◌, length, sym, ap, ◌∙◌, append_assoc, append-nil, add-zero, arith}
 use Rattle.std.specs.Prelude.{Option, None, replicate}
 use Rattle.action_terms.specs.Labels.{Label, ActionNode, YielderNode, Wanted, AnAction, under}
 use Rattle.action_terms.specs.Trees.{Tree, tree, Trees, none, more, preorder, preorders, Is, Are, IsAction}
@@ -9,7 +9,7 @@ use Rattle.action_terms.proofs.RootCounts.{places-under}
 
 mutual
   strays_in-preorder : (t : Tree) (x : Wanted) (c : Option ℕ) (around : List (Option ℕ)) (a : ℕ) (ls : List Label) → Is x t
-    → strays_in (c ∷ around) a (preorder t ++ ls) ≡ strays_of c a t ++ strays_in around (a + action_count t) ls
+      → strays_in (c ∷ around) a (preorder t ++ ls) ≡ strays_of c a t ++ strays_in around (a + action_count t) ls
   strays_in-preorder (tree (ActionNode k n tk) ts) x c around a ls h =
       let below = around_parts k a c in
       let counts : suc a + action_counts ts ≡ a + suc (action_counts ts) = omega arith in
@@ -23,7 +23,7 @@ mutual
       ∙ strays_in-preorders ts (under (YielderNode k tk)) below around a ls h.1
 
   strays_in-preorders : (ts : Trees) (xs : List Wanted) (c : Option ℕ) (around : List (Option ℕ)) (a : ℕ) (ls : List Label) → Are xs ts
-    → strays_in (replicate (length xs) c ++ around) a (preorders ts ++ ls) ≡ strays_of_all c a ts ++ strays_in around (a + action_counts ts) ls
+      → strays_in (replicate (length xs) c ++ around) a (preorders ts ++ ls) ≡ strays_of_all c a ts ++ strays_in around (a + action_counts ts) ls
   strays_in-preorders none [] c around a ls h = sym (ap (λ n. strays_in around n ls) (add-zero a))
   strays_in-preorders none (x ∷ xs) c around a ls h = elim h [ ]
   strays_in-preorders (more t ts) [] c around a ls h = elim h [ ]

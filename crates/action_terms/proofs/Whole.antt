@@ -1,11 +1,11 @@
 -- Nodes fill places exactly where they are the preorder of such trees, and then of these trees only.
 use Rattle.std.proofs.Common.{◌≡◌, Bool, true, false, List, [], ◌∷◌, ◌++◌, refl, sym, ap, subst, ◌∙◌, append_assoc, append-nil}
-use Rattle.std.specs.Prelude.{◌&&◌, ◌↔◌, IsTrue}
+use Rattle.std.specs.Prelude.{◌&&◌}
 use Rattle.action_terms.specs.Labels.{Label, Wanted, AnAction, serves, under}
 use Rattle.action_terms.specs.Trees.{Tree, tree, Trees, none, more, preorder, preorders, Is, Are, IsAction, IsWhole}
 use Rattle.action_terms.specs.Places.{fills}
 
-both : (a b : Bool) → (a && b) ≡ true → (a ≡ true) × (b ≡ true)
+pub both : (a b : Bool) → (a && b) ≡ true → (a ≡ true) × (b ≡ true)
 both true b h = (refl, h)
 both false b h = cc
 

@@ -1,5 +1,5 @@
 -- The graph of pushed nodes without their tree: a walk from the first node to the last gives numbers and bodies, and a walk from the last to the first gives children and operands.
-use Rattle.std.specs.Prelude.{◌≡◌, ℕ, suc, ◌+◌, List, [], ◌∷◌, ◌++◌, map, take, drop, sum, replicate, Option, Some, None}
+use Rattle.std.specs.Prelude.{◌≡◌, ℕ, suc, ◌+◌, List, [], ◌∷◌, ◌++◌, map, take, drop, sum, replicate, Option, None}
 use Rattle.action_terms.specs.Labels.{Label, ActionNode, YielderNode, operand_lengths}
 use Rattle.action_terms.specs.Numbering.{ListedNode, ListedYielder, pieces, children_of, body_of, around_parts, closure_body, around_arguments, stray}
 use Rattle.action_terms.specs.Nodes.{listed_node, listed_yielder}

@@ -1,5 +1,5 @@
 -- What contracts see of the nodes in memory.
-use Rattle.std.specs.Prelude.{ℕ, List, map}
+use Rattle.std.specs.Prelude.{map}
 use Rattle.action_terms.specs.declared.graph.Node.{Node}
 use Rattle.action_terms.specs.declared.graph.YNode.{YNode}
 use Rattle.action_terms.specs.Numbering.{ListedNode, ListedYielder}

@@ -1,5 +1,5 @@
 -- The places that are still wanted of pushed nodes, and how they stand on a stack.
-use Rattle.std.specs.Prelude.{◌≡◌, ℕ, suc, Bool, true, false, ◌&&◌, List, [], ◌∷◌, ◌++◌, reverse, Option, Some, None, if◌then◌else◌}
+use Rattle.std.specs.Prelude.{suc, Bool, true, false, ◌&&◌, List, [], ◌∷◌, ◌++◌, reverse, Option, Some, None, if◌then◌else◌}
 use Rattle.action_terms.specs.Labels.{Label, Wanted, AnAction, AYielder, AnItem, AClosure, serves, under, copies}
 use Rattle.action_terms.specs.declared.places.Place.{Place}
 use Rattle.action_terms.specs.declared.places.Place.TheVariants.{Action, Yielder, Item, Closure}

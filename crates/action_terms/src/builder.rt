@@ -5,11 +5,14 @@ ghost use Rattle.action_terms.specs.Trees.{Tree, IsAction, IsWhole, preorder};
 ghost use Rattle.action_terms.specs.Numbering.{IsGraphOf, strays};
 ghost use Rattle.action_terms.specs.Pushed.{is_action_node, is_yielder_node};
 
+use crate::bodies::enter_all;
 use crate::graph::{Graph, GraphError};
+use crate::linking::link_all;
 use crate::places::Expected;
 use crate::pushed::{NewAction, NewYielder, Pushed};
+use acg_base::Memory;
 use bumpalo::Bump;
-use std::alloc::{AllocError, Global};
+use std::alloc::Global;
 use std::marker::Model;
 
 /// The most action nodes and yielders of one graph, together.
@@ -40,7 +43,7 @@ impl<'a> Model for GraphBuilder<'a> {
 
 impl<'a> GraphBuilder<'a> {
     /// A builder with no node.
-    pub fn new(alloc: Global, arena: &'a Bump) -> Result<GraphBuilder<'a>, AllocError>
+    pub fn new(alloc: Global, arena: &'a Bump) -> Result<GraphBuilder<'a>, Memory>
         ensures { IfOk result (λ builder. builder ≡ []) }
     {
         Ok(GraphBuilder {
@@ -100,6 +103,21 @@ impl<'a> GraphBuilder<'a> {
         let number = self.yielders;
         self.yielders += 1;
         Ok(number)
+    }
+
+    /// The graph of the action whose preorder the pushed nodes are, or the least `unfold` that has
+    /// no `unfolding` around it within its own closure, or within the action where it is in none.
+    /// Its lists are placed in the arena.
+    pub fn seal(self) -> Result<Graph<'a>, GraphError>
+        requires { IsWhole self }
+        ensures graph { IfOk result (λ g. (t : Tree) → IsAction t → preorder t ≡ self.entry → IsGraphOf g t) }
+        ensures stray { (node : ℕ) → IsErrOf result (GraphError.StrayUnfold node) → (t : Tree) → IsAction t → preorder t ≡ self.entry → slice_get (strays t) 0 ≡ Some node }
+        ensures never_nodes { IsErrOf result GraphError.Nodes → ⊥ }
+    {
+        let entered = enter_all(self.alloc, self.pushed.as_slice())?;
+        let linker = link_all(self.alloc, self.arena, entered.as_slice())?;
+        let (nodes, yielders) = linker.place()?;
+        Ok(Graph::of_lists(nodes, yielders))
     }
 
     /// Whether the pushed nodes are the preorder of exactly one action.

@@ -10,7 +10,7 @@ use std::marker::Model;
 use thiserror::Error;
 
 /// An action node. Its number is its place in the list of a graph, from 0, in preorder.
-#[derive(Clone, Copy)]
+#[derive(Clone, Copy, Debug, PartialEq, Eq)]
 pub struct Node<'a> {
     /// What the node does.
     pub kind: Kind,
@@ -27,7 +27,7 @@ pub struct Node<'a> {
 }
 
 /// A yielder. Its number is its place in the list of a graph, from 0, in preorder.
-#[derive(Clone, Copy)]
+#[derive(Clone, Copy, Debug, PartialEq, Eq)]
 pub struct YNode<'a> {
     /// What it yields.
     pub kind: YKind,
@@ -59,6 +59,14 @@ impl<'a> Model for Graph<'a> {
 }
 
 impl<'a> Graph<'a> {
+    /// The graph of these nodes and yielders.
+    pub(crate) fn of_lists(nodes: &'a [Node<'a>], yielders: &'a [YNode<'a>]) -> Graph<'a>
+        requires { IsGraph (record { nodes = map listed_node nodes.now; yielders = map listed_yielder yielders.now }) }
+        ensures { result ≡ record { nodes = map listed_node nodes.now; yielders = map listed_yielder yielders.now } }
+    {
+        Graph { nodes, yielders }
+    }
+
     /// Its action nodes, in preorder. The root is the first.
     pub fn nodes(&self) -> &'a [Node<'a>]
         ensures nodes { map listed_node result.now ≡ self.now.nodes }

@@ -9,3 +9,8 @@ pub mod kinds;
 mod linking;
 mod places;
 pub mod pushed;
+
+pub use builder::GraphBuilder;
+pub use graph::{Graph, GraphError, Node, YNode};
+pub use kinds::{Kind, Sort, YKind};
+pub use pushed::{NewAction, NewYielder};

@@ -122,6 +122,23 @@ impl<'a> Linker<'a> {
         }
     }
 
+    /// Places the nodes and the yielders in the arena.
+    pub fn place(self) -> Result<(&'a [Node<'a>], &'a [YNode<'a>]), AllocError>
+        ensures nodes { IfOk result (λ lists. lists.0.now ≡ self.entry.nodes.items) }
+        ensures yielders { IfOk result (λ lists. lists.1.now ≡ self.entry.yielders.items) }
+    {
+        let Linker {
+            arena,
+            nodes,
+            yielders,
+            action_roots: _,
+            yielder_roots: _,
+        } = self;
+        let nodes = arena.try_alloc_slice_copy(nodes.into_vec().as_slice())?;
+        let yielders = arena.try_alloc_slice_copy(yielders.into_vec().as_slice())?;
+        Ok((nodes, yielders))
+    }
+
     fn link_action(&mut self, new: NewAction<'a>, number: u32, body: u32) -> Result<(), AllocError>
         ensures nodes { OnOk result (map listed_node self.new.nodes.items ≡ record { kind = new.entry.kind; token = new.entry.token.now; children = children_of new.entry.kind (take (part_count new.entry.kind) self.old.action_roots.items); operands = pieces (operand_lengths new.entry.kind new.entry.items) self.old.yielder_roots.items; body = body } ∷ map listed_node self.old.nodes.items) }
         ensures yielders { OnOk result (self.new.yielders.items ≡ self.old.yielders.items) }
@@ -179,4 +196,19 @@ impl<'a> Linker<'a> {
             Pushed::Yielder(new) => self.link_yielder(new, entered.number, entered.body),
         }
     }
+}
+
+/// Links all nodes, from the last to the first.
+pub fn link_all<'a>(
+    alloc: Global,
+    arena: &'a Bump,
+    entered: &[Entered<'a>],
+) -> Result<Linker<'a>, AllocError>
+    ensures { IfOk result (λ linker. Links (map entry_of entered.now) linker) }
+{
+    let mut linker = Linker::new(alloc, arena);
+    for i in (0..entered.len()).rev() {
+        linker.link(entered[i])?;
+    }
+    Ok(linker)
 }

@@ -3,7 +3,7 @@
 use crate::kinds::{Kind, YKind};
 
 /// An action node as it is pushed.
-#[derive(Clone, Copy)]
+#[derive(Clone, Copy, Debug, PartialEq, Eq)]
 pub struct NewAction<'a> {
     /// What the node does.
     pub kind: Kind,
@@ -15,7 +15,7 @@ pub struct NewAction<'a> {
 }
 
 /// A yielder as it is pushed.
-#[derive(Clone, Copy)]
+#[derive(Clone, Copy, Debug, PartialEq, Eq)]
 pub struct NewYielder<'a> {
     /// What it yields.
     pub kind: YKind,
@@ -24,7 +24,7 @@ pub struct NewYielder<'a> {
 }
 
 /// A node of either sort.
-#[derive(Clone, Copy)]
+#[derive(Clone, Copy, Debug, PartialEq, Eq)]
 pub enum Pushed<'a> {
     /// An action node.
     Action(NewAction<'a>),

@@ -1,8 +1,6 @@
-use Rattle.std.proofs.Common.{◌≡◌, ◌∙◌, sym, ap, subst, List, map, [], ◌∷◌}
-use Rattle.action_terms.specs.Labels.{Label, AnAction}
-use Rattle.action_terms.specs.Trees.{Tree, IsWhole}
-use Rattle.action_terms.specs.Places.{fills, expects}
-use Rattle.action_terms.specs.Pushed.{label_of}
+use Rattle.std.proofs.Common.{◌∙◌, sym, ap, [], ◌∷◌}
+use Rattle.action_terms.specs.Labels.{AnAction}
+use Rattle.action_terms.specs.Places.{fills}
 use Rattle.action_terms.proofs.Whole.{whole-fills, fills-whole, one_tree}
 use Rattle.action_terms.proofs.BuilderLemmas.{fills-expects}
 use Rattle.action_terms.proofs.builder.GraphBuilder.is_whole.Goals as goal

@@ -1,6 +1,5 @@
 use Rattle.std.proofs.Common.{◌≡◌, ◌∙◌, sym, ap, length, vec_len, arith}
-use Rattle.std.specs.Prelude.{◌==◌, if◌then◌else◌, false}
-use Rattle.action_terms.specs.Places.{fills, wanted_on}
+use Rattle.std.specs.Prelude.{◌==◌}
 use Rattle.action_terms.proofs.PlacesLemmas.{fills-nothing}
 use Rattle.action_terms.proofs.places.Expected.is_met.Goals as goal
 
