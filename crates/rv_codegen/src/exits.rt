@@ -10,9 +10,10 @@ use rv_asm::Label;
 use std::alloc::Global;
 
 /// Has the parts of node k go on in the node.
-fn set_exits(exits: &mut [Label], work: Work, middle: Label, stop: Label)
-    requires { HasPartsBelow (length exits.old) work }
-    ensures { (k : ℕ) → middle ≡ middle_of k → stop ≡ stop_of k → exits.new ≡ with_exits (node_of_work work) k exits.old }
+fn set_exits(exits: &mut Vec<Label>, work: Work, middle: Label, stop: Label)
+    requires { HasPartsBelow (vec_len exits.old) work }
+    ensures exits { (k : ℕ) → middle ≡ middle_of k → stop ≡ stop_of k → exits.new.items ≡ with_exits (node_of_work work) k exits.old.items }
+    ensures len { vec_len exits.new ≡ vec_len exits.old }
 {
     match work {
         Work::And(left, right) | Work::AndThen(left, right) => {
@@ -23,6 +24,7 @@ fn set_exits(exits: &mut [Label], work: Work, middle: Label, stop: Label)
     }
 }
 
+#[tactic(auto, using(crate::proofs::ExitLaws::exits_step))]
 /// The label where each node goes on, by the number of the node. The labels of the nodes stand in a row, three for each.
 pub(crate) fn make_exits(
     alloc: Global,
@@ -39,12 +41,9 @@ pub(crate) fn make_exits(
 {
     let mut exits = vec![in alloc; completed; works.len()]?;
     for k in 0..works.len() {
-        set_exits(
-            exits.as_mut_slice(),
-            works[k],
-            labels[3 * k + 1],
-            labels[3 * k + 2],
-        );
+        let middle = labels[3 * k + 1];
+        let stop = labels[3 * k + 2];
+        set_exits(&mut exits, works[k], middle, stop);
     }
     Ok(exits)
 }
