@@ -4,3 +4,4 @@ pub mod Table
 pub mod Encode
 pub mod Search
 pub mod Machine
+pub mod Images

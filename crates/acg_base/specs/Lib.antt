@@ -1,0 +1,5 @@
+pub mod Outside
+pub mod Statuses
+pub mod MapStores
+pub mod ListSinks
+pub mod Decimals

@@ -1,0 +1,39 @@
+//! What every crate of the compiler generator stands on: words, names, limits and statuses, decimals, stores and sinks.
+#![tactic(auto)]
+
+mod call_numbers;
+mod capacity;
+mod decimal;
+mod folder_store;
+mod limits;
+mod list_sink;
+mod map_store;
+mod memory;
+mod name;
+mod out_sink;
+mod sink;
+mod status;
+mod store;
+mod words;
+
+pub use capacity::Capacity;
+pub use decimal::{decimal_into, read_decimal, unsigned_into};
+pub use folder_store::FolderStore;
+pub use limits::{
+    LIMIT_ACTION, LIMIT_DESCRIPTION, LIMIT_IMAGE, LIMIT_INPUT, LIMIT_LEXEMES, LIMIT_NODES,
+    LIMIT_SOURCE,
+};
+pub use list_sink::ListSink;
+pub use map_store::MapStore;
+pub use memory::Memory;
+pub use name::Name;
+pub use out_sink::OutSink;
+pub use sink::{Sink, SinkError};
+pub use status::Status;
+pub use store::{Store, StoreError};
+pub use words::Words;
+
+#[cfg(test)]
+mod callers;
+#[cfg(test)]
+mod tests;

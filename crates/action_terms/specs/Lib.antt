@@ -1,0 +1,16 @@
+pub mod Information
+pub mod Bindings
+pub mod Actions
+pub mod Yielding
+pub mod Acting
+pub mod Steps
+pub mod Performances
+pub mod Need
+pub mod Labels
+pub mod Trees
+pub mod Numbering
+pub mod Meaning
+pub mod Nodes
+pub mod Places
+pub mod Pushed
+pub mod Entries

@@ -1,0 +1,11 @@
+//! Actions: their nodes, their information, and what an action may do. The meaning of an action
+//! stands in `specs/`, as definitions alone; the code here makes graphs of nodes.
+#![tactic(auto)]
+
+mod bodies;
+pub mod builder;
+pub mod graph;
+pub mod kinds;
+mod linking;
+mod places;
+pub mod pushed;
