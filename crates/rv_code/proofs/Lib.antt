@@ -7,6 +7,6 @@ pub mod Words
 pub mod Decoded
 pub mod Search
 pub mod Found
-pub mod Bytes
+pub mod ByteLaws
 pub mod Bounds
 mod Results
