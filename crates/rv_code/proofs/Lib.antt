@@ -1,7 +1,10 @@
 mod Examples
+mod Results
+pub mod Bools
 pub mod Integers
 pub mod Fields
 pub mod Rows
+pub mod EachRow
 pub mod Codes
 pub mod Words
 pub mod Decoded
@@ -9,4 +12,3 @@ pub mod Search
 pub mod Found
 pub mod ByteLaws
 pub mod Bounds
-mod Results
