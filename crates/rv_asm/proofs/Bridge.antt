@@ -6,17 +6,22 @@ use Rattle.rv_code.specs.Machine.{State, Ran, Exited, step, run, after, loaded}
 use Rattle.rv_code.specs.declared.instruction.Inst.{Inst}
 use Rattle.rv_asm.specs.Conventions.{IsImage, code_address, region_address, region_size, region_words, compiled_segments}
 use Rattle.rv_asm.specs.WordMachine.{WordState, WordStep, Goes, Exits, Stuck, IsBounded, instruction_at, act, act_at, go_on, run_words, register_list, word_bytes, machine_state, start_state}
+use Rattle.rv_asm.proofs.Regions.{region_words-size, IsImage-compiled}
 use Rattle.rv_asm.proofs.WordBytes.{word_bytes-replicate}
 use Rattle.rv_asm.proofs.BridgeSteps.{encodable-at, pc-below, step-execute}
 use Rattle.rv_asm.proofs.BridgeInstructions.{execute-does}
 use Rattle.rv_asm.proofs.BridgeExits.{execute-exits}
 
 -- where something comes of an instruction, there is one
-act-some : (base : ℕ) (o : Option Inst) (c : WordState) (x : WordStep) → act_at base o c ≡ x → (x ≡ Stuck → ⊥) → (i : Inst) × (o ≡ Some i) × (act base i c ≡ x)
+act-some :
+    (base : ℕ) (o : Option Inst) (c : WordState) (x : WordStep) → act_at base o c ≡ x → (x ≡ Stuck → ⊥) →
+    (i : Inst) × (o ≡ Some i) × (act base i c ≡ x)
 act-some base None c x e h = absurd (h (sym e))
 act-some base (Some i) c x e h = (i, refl, e)
 
-go-cases : (x : WordStep) (go : WordState → WordStep) (y : WordStep) → go_on x go ≡ y → (y ≡ Stuck → ⊥) → ((e : WordState) × (x ≡ Goes e) × (go e ≡ y)) ⊎ ((k : ℕ) × (o : List ℕ) × (x ≡ Exits k o) × (y ≡ Exits k o))
+go-cases :
+    (x : WordStep) (go : WordState → WordStep) (y : WordStep) → go_on x go ≡ y → (y ≡ Stuck → ⊥) →
+    ((e : WordState) × (x ≡ Goes e) × (go e ≡ y)) ⊎ ((k : ℕ) × (o : List ℕ) × (x ≡ Exits k o) × (y ≡ Exits k o))
 go-cases (Goes e) go y p h = inl (e, refl, p)
 go-cases (Exits k o) go y p h = inr (k, o, refl, sym p)
 go-cases Stuck go y p h = absurd (h (sym p))
@@ -68,9 +73,12 @@ unfolding register_list
 registers-start = refl
 
 -- the start of the machine of words is the loaded image
-pub machine_state-start : (code : List Inst) (stack units : ℕ) (input : List ℕ) → machine_state (region_address (4 * length code)) code (start_state (region_words stack units) input) ≡ loaded code_address (compiled_segments code stack units) input
+pub machine_state-start :
+    (code : List Inst) (stack units : ℕ) (input : List ℕ) →
+    machine_state (region_address (4 * length code)) code (start_state (region_words stack units) input)
+    ≡ loaded code_address (compiled_segments code stack units) input
 machine_state-start code stack units input =
-    let size : 8 * region_words stack units ≡ region_size stack units = omega arith in
+    let size = region_words-size stack units in
     let bytes : word_bytes (replicate (region_words stack units) 0) ≡ replicate (region_size stack units) 0 = word_bytes-replicate (region_words stack units) ∙ ap (λ k. replicate k 0) size in
     rw (registers-start, bytes) refl
 
@@ -83,28 +91,31 @@ IsBounded-start count input h = record {
   input = h;
 }
 
--- encodable code and a region that ends below 2^32 can stand in one image
-pub IsImage-compiled : (code : List Inst) (stack units : ℕ) → All (λ i. is_encodable i ≡ true) code → region_address (4 * length code) + region_size stack units ≤ 2 ^ 32 → IsImage (region_address (4 * length code)) code (region_words stack units)
-IsImage-compiled code stack units h below = record { encodable = h; aligned = omega arith; behind = omega arith; below = omega arith }
-
--- code below 2^30 bytes and a capacity in its ranges end below 2000000000
-pub compiled-below : (code_size stack units : ℕ) → code_size < 1073741824 → stack ≤ 16777216 → units ≤ 4194304 → region_address code_size + region_size stack units < 2000000000
-compiled-below code_size stack units c s u = omega arith
-
 -- runs of a compiled program, from its start
-module _ (code : List Inst) (stack units : ℕ) (encodable : All (λ i. is_encodable i ≡ true) code) (below : region_address (4 * length code) + region_size stack units ≤ 2 ^ 32) (input : List ℕ) (bytes : All (λ b. b < 256) input) where
+module _
+    (code : List Inst) (stack units : ℕ)
+    (encodable : All (λ i. is_encodable i ≡ true) code)
+    (below : region_address (4 * length code) + region_size stack units ≤ 2 ^ 32)
+    (input : List ℕ)
+    (bytes : All (λ b. b < 256) input) where
   abbrev base : ℕ
   base = region_address (4 * length code)
 
   abbrev count : ℕ
   count = region_words stack units
 
-  pub run-compiled_goes : (m : ℕ) (d : WordState) → run_words base code m (start_state count input) ≡ Goes d → run m (loaded code_address (compiled_segments code stack units) input) ≡ Ran (machine_state base code d)
+  pub run-compiled_goes :
+      (m : ℕ) (d : WordState) →
+      run_words base code m (start_state count input) ≡ Goes d →
+      run m (loaded code_address (compiled_segments code stack units) input) ≡ Ran (machine_state base code d)
   run-compiled_goes m d e =
       subst (λ s. run m s ≡ Ran (machine_state base code d)) (machine_state-start code stack units input)
       (run-goes base code count (IsImage-compiled code stack units encodable below) m (start_state count input) d (IsBounded-start count input bytes) e).0
 
-  pub run-compiled_exits : (m k : ℕ) (o : List ℕ) → run_words base code m (start_state count input) ≡ Exits k o → run m (loaded code_address (compiled_segments code stack units) input) ≡ Exited k o
+  pub run-compiled_exits :
+      (m k : ℕ) (o : List ℕ) →
+      run_words base code m (start_state count input) ≡ Exits k o →
+      run m (loaded code_address (compiled_segments code stack units) input) ≡ Exited k o
   run-compiled_exits m k o e =
       subst (λ s. run m s ≡ Exited k o) (machine_state-start code stack units input)
       (run-exits base code count (IsImage-compiled code stack units encodable below) m (start_state count input) k o (IsBounded-start count input bytes) e)

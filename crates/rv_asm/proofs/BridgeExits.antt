@@ -34,7 +34,10 @@ branch-no : (t u : Bool) (d f : WordState) (k : ℕ) (o : List ℕ) → (if t th
 branch-no true u d f k o e = jumps-no u d k o e
 branch-no false u d f k o e = cc
 
-exit-first : (p q r : Bool) (j k : ℕ) (w o : List ℕ) (x y : WordStep) → ((k : ℕ) (o : List ℕ) → x ≡ Exits k o → ⊥) → ((k : ℕ) (o : List ℕ) → y ≡ Exits k o → ⊥) → (if p then Exits j w else if q then x else if r then y else Stuck) ≡ Exits k o → (p ≡ true) × (Exits j w ≡ Exits k o)
+exit-first :
+    (p q r : Bool) (j k : ℕ) (w o : List ℕ) (x y : WordStep) → ((k : ℕ) (o : List ℕ) → x ≡ Exits k o → ⊥) →
+    ((k : ℕ) (o : List ℕ) → y ≡ Exits k o → ⊥) → (if p then Exits j w else if q then x else if r then y else Stuck) ≡ Exits k o →
+    (p ≡ true) × (Exits j w ≡ Exits k o)
 exit-first true q r j k w o x y g h e = (refl, e)
 exit-first false true r j k w o x y g h e = absurd (g k o e)
 exit-first false false true j k w o x y g h e = absurd (h k o e)

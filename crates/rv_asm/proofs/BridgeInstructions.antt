@@ -7,7 +7,7 @@ use Rattle.rv_code.specs.declared.instruction.Inst.{Inst}
 use Rattle.rv_code.specs.declared.instruction.Inst.TheVariants.{Op, OpImm, Shift, Load, Store, Branch, Upper, Jal, Jalr, Fence, Ecall, Ebreak}
 use Rattle.rv_code.specs.declared.instruction.LoadOp.TheVariants.{Lb, Lh, Lw, Ld, Lbu, Lhu, Lwu}
 use Rattle.rv_code.specs.declared.instruction.StoreOp.TheVariants.{Sb, Sh, Sw, Sd}
-use Rattle.rv_asm.proofs.Bounds.{operation-below, immediate_operation-below, shift_operation-below, upper_value-below}
+use Rattle.rv_code.proofs.Bounds.{operation-below, immediate_operation-below, shift_operation-below, upper_value-below}
 use Rattle.rv_asm.specs.Conventions.{IsImage}
 use Rattle.rv_asm.specs.WordMachine.{WordState, Goes, IsBounded, get, act, jumps, machine_state}
 use Rattle.rv_asm.proofs.Registers.{get-below, register-register_list}
@@ -37,7 +37,10 @@ module _ (base : ℕ) (code : List Inst) (n : ℕ) (image : IsImage base code n)
   abbrev IsDone : Outcome → WordState → Type 0
   IsDone o d = (o ≡ Ran (state d)) × IsBounded n d
 
-  pub execute-does : (c : WordState) (i : Inst) → IsBounded n c → is_encodable i ≡ true → c.pc + 4 < 2 ^ 64 → (d : WordState) → act base i c ≡ Goes d → IsDone (execute i (state c)) d
+  pub execute-does :
+      (c : WordState) (i : Inst) → IsBounded n c → is_encodable i ≡ true → c.pc + 4 < 2 ^ 64 → (d : WordState) →
+      act base i c ≡ Goes d →
+      IsDone (execute i (state c)) d
   execute-does c (Op o rd a b) s en p d e =
       let q = below-three rd a b (parts (Op o rd a b) en).0 in
       rw (register-register_list c.registers a q.0, register-register_list c.registers b q.1)
@@ -69,7 +72,9 @@ module _ (base : ℕ) (code : List Inst) (n : ℕ) (image : IsImage base code n)
           let w : wrap (c.pc + 4) ≡ c.pc + 4 = omega arith in
           subst (IsDone (Ran (goes_on (state c)))) y (ap (λ q. Ran (state (record c { pc = q }))) w, record { size = s.size; registers = s.registers; words = s.words; input = s.input })
 
-      branch : (t : Bool) → (if t then jumps c 0 (wrap (c.pc + unsigned z)) else Goes (record c { pc = c.pc + 4 })) ≡ Goes d → IsDone (if t then state_jumps (state c) 0 (wrap (c.pc + unsigned z)) else Ran (goes_on (state c))) d
+      branch :
+          (t : Bool) → (if t then jumps c 0 (wrap (c.pc + unsigned z)) else Goes (record c { pc = c.pc + 4 })) ≡ Goes d →
+          IsDone (if t then state_jumps (state c) 0 (wrap (c.pc + unsigned z)) else Ran (goes_on (state c))) d
       branch true x = jumps-does base code n image c 0 (wrap (c.pc + unsigned z)) s p d x
       branch false x = goes-does x
   execute-does c (Upper o rd z) s en p d e =

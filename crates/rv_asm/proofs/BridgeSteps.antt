@@ -9,7 +9,7 @@ use Rattle.rv_code.specs.Machine.{State, Segment, Outcome, Ran, Trapped, registe
 use Rattle.rv_code.specs.declared.cause.Cause.TheVariants.{Load as CauseLoad, Store as CauseStore}
 use Rattle.rv_code.specs.declared.instruction.Inst.{Inst}
 use Rattle.rv_code.proofs.Words.{word_of-below, decode-word_of}
-use Rattle.rv_asm.proofs.Bytes.{number-bytes, length-bytes}
+use Rattle.rv_code.proofs.ByteLaws.{number-bytes, length-bytes}
 use Rattle.rv_asm.specs.Conventions.{IsImage, code_bytes, code_segment, region_segment}
 use Rattle.rv_asm.specs.WordMachine.{WordState, WordStep, Goes, Exits, Stuck, IsBounded, put, register_list, word_bytes, instruction_at, word_index, received_word, sets, jumps, loads, stores, sends, receives, calls, machine_state}
 use Rattle.rv_asm.proofs.Registers.{put-below, register-register_list, with_register-register_list}
@@ -21,7 +21,10 @@ if-goes true x d e = (refl, cc)
 if-goes false x d e = absurd (cc)
 
 -- which call it was that goes on
-pick-call : (p q r : Bool) (k : ℕ) (o : List ℕ) (x y : WordStep) (d : WordState) → (if p then Exits k o else if q then x else if r then y else Stuck) ≡ Goes d → ((p ≡ false) × (q ≡ true) × (x ≡ Goes d)) ⊎ ((p ≡ false) × (r ≡ true) × (y ≡ Goes d))
+pick-call :
+    (p q r : Bool) (k : ℕ) (o : List ℕ) (x y : WordStep) (d : WordState) →
+    (if p then Exits k o else if q then x else if r then y else Stuck) ≡ Goes d →
+    ((p ≡ false) × (q ≡ true) × (x ≡ Goes d)) ⊎ ((p ≡ false) × (r ≡ true) × (y ≡ Goes d))
 pick-call true q r k o x y d e = absurd (cc)
 pick-call false true r k o x y d e = inl (refl, refl, e)
 pick-call false false true k o x y d e = inr (refl, refl, e)
@@ -59,14 +62,18 @@ module _ (base : ℕ) (code : List Inst) (n : ℕ) (image : IsImage base code n)
       let m : number_of (bytes_of 4 (word_of i)) ≡ word_of i = number-bytes 4 (word_of i) ∙ omega (arith, word_of-below i enc) in
       rw (x, y, z, q, take-code_bytes code k i a.is, m, decode-word_of i enc) refl
 
-  pub sets-does : (c : WordState) (rd v : ℕ) → IsBounded n c → c.pc + 4 < 2 ^ 64 → v < 2 ^ 64 → (d : WordState) → sets c rd v ≡ Goes d → IsDone (state_sets (state c) rd v) d
+  pub sets-does :
+      (c : WordState) (rd v : ℕ) → IsBounded n c → c.pc + 4 < 2 ^ 64 → v < 2 ^ 64 → (d : WordState) → sets c rd v ≡ Goes d →
+      IsDone (state_sets (state c) rd v) d
   sets-does c rd v s p b d e =
       let x : record c { pc = c.pc + 4; registers = put c.registers rd v } ≡ d = cc in
       let w : wrap (c.pc + 4) ≡ c.pc + 4 = omega arith in
       subst (IsDone (state_sets (state c) rd v)) x
       (rw with_register-register_list (ap (λ q. Ran (state (record c { pc = q; registers = put c.registers rd v }))) w), record { size = s.size; registers = put-below c.registers rd v s.registers b; words = s.words; input = s.input })
 
-  pub jumps-does : (c : WordState) (rd t : ℕ) → IsBounded n c → c.pc + 4 < 2 ^ 64 → (d : WordState) → jumps c rd t ≡ Goes d → IsDone (state_jumps (state c) rd t) d
+  pub jumps-does :
+      (c : WordState) (rd t : ℕ) → IsBounded n c → c.pc + 4 < 2 ^ 64 → (d : WordState) → jumps c rd t ≡ Goes d →
+      IsDone (state_jumps (state c) rd t) d
   jumps-does c rd t s p d e =
       let f = if-goes (eqb (t % 4) 0) (record c { pc = t; registers = put c.registers rd (c.pc + 4) }) d e in
       let w : wrap (c.pc + 4) ≡ c.pc + 4 = omega arith in
@@ -78,7 +85,9 @@ module _ (base : ℕ) (code : List Inst) (n : ℕ) (image : IsImage base code n)
   segments_of ws = code_segment code ∷ region_segment base (word_bytes ws) ∷ []
 
   -- the region has the bytes of its words, to read or to write
-  holder-region : (ws : List ℕ) (flag a i k : ℕ) → (flag ≡ 2) ⊎ (flag ≡ 4) → IsPlace base (length ws) a i → k ≤ 8 → holder (segments_of ws) flag a k ≡ Some 1
+  holder-region :
+      (ws : List ℕ) (flag a i k : ℕ) → (flag ≡ 2) ⊎ (flag ≡ 4) → IsPlace base (length ws) a i → k ≤ 8 →
+      holder (segments_of ws) flag a k ≡ Some 1
   holder-region ws flag a i k f p l =
       let y : leb base a ≡ true = le-leb _ _ (omega (arith, p.is)) in
       let z : leb (a + k) (base + length (word_bytes ws)) ≡ true = le-leb _ _ (omega (arith, length-word_bytes ws, p.is, p.inside)) in
@@ -93,13 +102,18 @@ module _ (base : ℕ) (code : List Inst) (n : ℕ) (image : IsImage base code n)
       let q : a - base ≡ 8 * i = omega (arith, p.is) in
       rw (h, q, take-word_bytes ws i p.inside) refl
 
-  write-region : (ws : List ℕ) (a i v : ℕ) → IsPlace base (length ws) a i → write_bytes (segments_of ws) a (bytes_of 8 v) ≡ Some (segments_of (set ws i v))
+  write-region :
+      (ws : List ℕ) (a i v : ℕ) → IsPlace base (length ws) a i →
+      write_bytes (segments_of ws) a (bytes_of 8 v) ≡ Some (segments_of (set ws i v))
   write-region ws a i v p =
       let h = holder-region ws 2 a i (length (bytes_of 8 v)) (inl refl) p (omega (arith, length-bytes 8 v)) in
       let q : a - base ≡ 8 * i = omega (arith, p.is) in
       rw (h, q, put_at-word_bytes ws i v p.inside) refl
 
-  pub loads-does : (c : WordState) (rd a : ℕ) (o : Option ℕ) → word_index base (length c.words) a ≡ o → IsBounded n c → c.pc + 4 < 2 ^ 64 → (d : WordState) → loads c rd o ≡ Goes d → IsDone (if eqb (a % 8) 0 then state_loads (state c) rd (λ w. w) (read_bytes (segments_of c.words) 4 a 8) else Trapped CauseLoad) d
+  pub loads-does :
+      (c : WordState) (rd a : ℕ) (o : Option ℕ) → word_index base (length c.words) a ≡ o → IsBounded n c → c.pc + 4 < 2 ^ 64 →
+      (d : WordState) → loads c rd o ≡ Goes d →
+      IsDone (if eqb (a % 8) 0 then state_loads (state c) rd (λ w. w) (read_bytes (segments_of c.words) 4 a 8) else Trapped CauseLoad) d
   loads-does c rd a None q s p d e = absurd (cc)
   loads-does c rd a (Some i) q s p d e =
       let pl = word_index-is base (length c.words) a i image.aligned q in
@@ -108,7 +122,10 @@ module _ (base : ℕ) (code : List Inst) (n : ℕ) (image : IsImage base code n)
       let m : number_of (bytes_of 8 (get_or c.words i 0)) ≡ get_or c.words i 0 = number-bytes 8 (get_or c.words i 0) ∙ omega arith in
       rw (x, read-region c.words a i pl, m) (sets-does c rd (get_or c.words i 0) s p b d e)
 
-  pub stores-does : (c : WordState) (v a : ℕ) (o : Option ℕ) → word_index base (length c.words) a ≡ o → IsBounded n c → c.pc + 4 < 2 ^ 64 → v < 2 ^ 64 → (d : WordState) → stores c v o ≡ Goes d → IsDone (if eqb (a % 8) 0 then state_stores (state c) (write_bytes (segments_of c.words) a (bytes_of 8 v)) else Trapped CauseStore) d
+  pub stores-does :
+      (c : WordState) (v a : ℕ) (o : Option ℕ) → word_index base (length c.words) a ≡ o → IsBounded n c → c.pc + 4 < 2 ^ 64 →
+      v < 2 ^ 64 → (d : WordState) → stores c v o ≡ Goes d →
+      IsDone (if eqb (a % 8) 0 then state_stores (state c) (write_bytes (segments_of c.words) a (bytes_of 8 v)) else Trapped CauseStore) d
   stores-does c v a None q s p b d e = absurd (cc)
   stores-does c v a (Some i) q s p b d e =
       let pl = word_index-is base (length c.words) a i image.aligned q in
@@ -118,7 +135,10 @@ module _ (base : ℕ) (code : List Inst) (n : ℕ) (image : IsImage base code n)
       subst (IsDone _) y
       (rw (x, write-region c.words a i v pl) (ap (λ q. Ran (state (record c { pc = q; words = set c.words i v }))) w), record { size = length-set c.words i v ∙ s.size; registers = s.registers; words = All-set (λ w. w < 2 ^ 64) c.words i v b s.words; input = s.input })
 
-  sends-does : (c : WordState) (o : Option ℕ) → word_index base (length c.words) (c.registers 11) ≡ o → IsBounded n c → c.pc + 4 < 2 ^ 64 → (d : WordState) → sends c o ≡ Goes d → IsDone (send_call (state c) (c.registers 11) 8) d
+  sends-does :
+      (c : WordState) (o : Option ℕ) → word_index base (length c.words) (c.registers 11) ≡ o → IsBounded n c → c.pc + 4 < 2 ^ 64 →
+      (d : WordState) → sends c o ≡ Goes d →
+      IsDone (send_call (state c) (c.registers 11) 8) d
   sends-does c None q s p d e = absurd (cc)
   sends-does c (Some i) q s p d e =
       let pl = word_index-is base (length c.words) (c.registers 11) i image.aligned q in
@@ -127,7 +147,10 @@ module _ (base : ℕ) (code : List Inst) (n : ℕ) (image : IsImage base code n)
       subst (IsDone _) y
       (rw (read-region c.words (c.registers 11) i pl, with_register-register_list c.registers 10 8) (ap (λ q. Ran (state (record c { pc = q; registers = put c.registers 10 8; output = c.output ++ bytes_of 8 (get_or c.words i 0) }))) w), record { size = s.size; registers = put-below c.registers 10 8 s.registers (omega arith); words = s.words; input = s.input })
 
-  receives-does : (c : WordState) (o : Option ℕ) → word_index base (length c.words) (c.registers 11) ≡ o → IsBounded n c → c.pc + 4 < 2 ^ 64 → (d : WordState) → receives c o ≡ Goes d → IsDone (receive_call (state c) (c.registers 11) 8) d
+  receives-does :
+      (c : WordState) (o : Option ℕ) → word_index base (length c.words) (c.registers 11) ≡ o → IsBounded n c → c.pc + 4 < 2 ^ 64 →
+      (d : WordState) → receives c o ≡ Goes d →
+      IsDone (receive_call (state c) (c.registers 11) 8) d
   receives-does c None q s p d e = absurd (cc)
   receives-does c (Some i) q s p d e =
       let pl = word_index-is base (length c.words) (c.registers 11) i image.aligned q in
@@ -147,13 +170,17 @@ module _ (base : ℕ) (code : List Inst) (n : ℕ) (image : IsImage base code n)
   abbrev pub listed : WordState → ℕ → ℕ
   listed c k = register (register_list c.registers) k
 
-  pub calls-does : (c : WordState) → IsBounded n c → c.pc + 4 < 2 ^ 64 → (d : WordState) → calls base c (c.registers 17) ≡ Goes d → IsDone (call (state c) (listed c 17) (listed c 10) (listed c 11) (listed c 12)) d
+  pub calls-does :
+      (c : WordState) → IsBounded n c → c.pc + 4 < 2 ^ 64 → (d : WordState) → calls base c (c.registers 17) ≡ Goes d →
+      IsDone (call (state c) (listed c 17) (listed c 10) (listed c 11) (listed c 12)) d
   calls-does c s p d e = ⊎_elim send-case receive-case (pick-call _ _ _ _ _ _ _ d e)
     where
       q11 : listed c 11 ≡ c.registers 11
       q11 = register-register_list c.registers 11 (omega arith)
 
-      send-case : (eqb (c.registers 17) 93 ≡ false) × (eqb (c.registers 17) 64 && eqb (c.registers 10) 1 && eqb (c.registers 12) 8 ≡ true) × (sends c (word_index base (length c.words) (c.registers 11)) ≡ Goes d) → IsDone (call (state c) (listed c 17) (listed c 10) (listed c 11) (listed c 12)) d
+      send-case :
+          (eqb (c.registers 17) 93 ≡ false) × (eqb (c.registers 17) 64 && eqb (c.registers 10) 1 && eqb (c.registers 12) 8 ≡ true) × (sends c (word_index base (length c.words) (c.registers 11)) ≡ Goes d) →
+          IsDone (call (state c) (listed c 17) (listed c 10) (listed c 11) (listed c 12)) d
       send-case h =
           let a = and-true (eqb (c.registers 17) 64 && eqb (c.registers 10) 1) (eqb (c.registers 12) 8) h.1 in
           let b = and-true (eqb (c.registers 17) 64) (eqb (c.registers 10) 1) a.0 in
@@ -162,7 +189,9 @@ module _ (base : ℕ) (code : List Inst) (n : ℕ) (image : IsImage base code n)
           let q12 : listed c 12 ≡ 8 = register-register_list c.registers 12 (omega arith) ∙ eqb-true _ _ a.1 in
           rw (q17, q10, q12, q11) (sends-does c _ refl s p d h.2)
 
-      receive-case : (eqb (c.registers 17) 93 ≡ false) × (eqb (c.registers 17) 63 && eqb (c.registers 10) 0 && eqb (c.registers 12) 8 ≡ true) × (receives c (word_index base (length c.words) (c.registers 11)) ≡ Goes d) → IsDone (call (state c) (listed c 17) (listed c 10) (listed c 11) (listed c 12)) d
+      receive-case :
+          (eqb (c.registers 17) 93 ≡ false) × (eqb (c.registers 17) 63 && eqb (c.registers 10) 0 && eqb (c.registers 12) 8 ≡ true) × (receives c (word_index base (length c.words) (c.registers 11)) ≡ Goes d) →
+          IsDone (call (state c) (listed c 17) (listed c 10) (listed c 11) (listed c 12)) d
       receive-case h =
           let a = and-true (eqb (c.registers 17) 63 && eqb (c.registers 10) 0) (eqb (c.registers 12) 8) h.1 in
           let b = and-true (eqb (c.registers 17) 63) (eqb (c.registers 10) 0) a.0 in

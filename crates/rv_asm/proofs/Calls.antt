@@ -3,8 +3,11 @@ use Rattle.std.proofs.Common.{◌≡◌, ◌≢◌, ℕ, ◌+◌, ◌*◌, ◌%�
 use Rattle.rv_code.specs.Arithmetic.{wrap}
 use Rattle.rv_code.specs.Bytes.{bytes_of}
 use Rattle.rv_code.specs.declared.instruction.Inst.{Inst}
+use Rattle.rv_code.specs.Encode.{is_encodable}
+use Rattle.std.proofs.Common.{All, true, ltb, lt-ltb}
 use Rattle.rv_asm.specs.Pieces.{send_word, exit_with}
 use Rattle.rv_asm.specs.WordMachine.{WordState, Goes, Exits, get, put, run_words, word_index, Has}
+use Rattle.rv_asm.proofs.Encodings.{All-each_encodes}
 use Rattle.rv_asm.proofs.Places.{word_index-inside}
 use Rattle.rv_asm.proofs.Registers.{put-other}
 use Rattle.rv_asm.proofs.Stretches.{then-runs, then-ends, Between, one-between, quiet-then-between}
@@ -51,7 +54,9 @@ module _ (base : ℕ) (code : List Inst) (register place : ℕ) (c : WordState) 
     send_word-between = quiet-then-between base code 5 1 c before_call after_send before_call-runs refl (one-between base code before_call after_send call-runs)
 
 -- what a send leaves in a register: registers 10, 11, 12 and 17 alone are changed
-pub after_send-others : (base : ℕ) (code : List Inst) (register place k : ℕ) (c : WordState) → k ≢ 10 → k ≢ 11 → k ≢ 12 → k ≢ 17 → (after_send base code register place c).registers k ≡ c.registers k
+pub after_send-others :
+    (base : ℕ) (code : List Inst) (register place k : ℕ) (c : WordState) → k ≢ 10 → k ≢ 11 → k ≢ 12 → k ≢ 17 →
+    (after_send base code register place c).registers k ≡ c.registers k
 after_send-others base code register place k c a b d e =
     let r0 = c.registers in
     let r1 = put r0 11 (base + 8 * place) in
@@ -75,3 +80,16 @@ module _ (base : ℕ) (code : List Inst) (exit : ℕ) (c : WordState) where
 
     pub exit_with-exits : run_words base code 3 c ≡ Exits exit c.output
     exit_with-exits = then-ends base code 2 1 c before_exit (Exits exit c.output) before_exit-runs exit-stops
+
+-- ---- the pieces encode
+
+pub send_word-encodable : (register place : ℕ) → register < 32 → 8 * place < 2048 → All (λ i. is_encodable i ≡ true) (send_word register place)
+send_word-encodable register place r p =
+    let a : ltb register 32 ≡ true = lt-ltb _ _ r in
+    let b : ltb (8 * place) (2 ^ 11) ≡ true = lt-ltb _ _ p in
+    All-each_encodes (send_word register place) (rw (a, b) refl, (rw b refl, (refl, (refl, (refl, (refl, tt))))))
+
+pub exit_with-encodable : (exit : ℕ) → exit < 256 → All (λ i. is_encodable i ≡ true) (exit_with exit)
+exit_with-encodable exit h =
+    let a : ltb exit (2 ^ 11) ≡ true = lt-ltb _ _ (omega arith) in
+    All-each_encodes (exit_with exit) (rw a refl, (refl, (refl, tt)))

@@ -21,7 +21,10 @@ AreApart n a b = (a + n ≤ b) ⊎ (b + n ≤ a)
 copied-none : (a b : ℕ) (ws : List ℕ) → IsCopied 0 a b ws ws
 copied-none a b ws = record { size = refl; moved = λ k h. absurd (omega arith); kept = λ j h. refl }
 
-copied-more : (n a b : ℕ) (ws new : List ℕ) → b < length ws → AreApart (suc n) a b → IsCopied n (a + 1) (b + 1) (set ws b (get_or ws a 0)) new → IsCopied (suc n) a b ws new
+copied-more :
+    (n a b : ℕ) (ws new : List ℕ) → b < length ws → AreApart (suc n) a b →
+    IsCopied n (a + 1) (b + 1) (set ws b (get_or ws a 0)) new →
+    IsCopied (suc n) a b ws new
 copied-more n a b ws new h apart c = record { size = c.size ∙ length-set ws b (get_or ws a 0); moved = moved; kept = kept }
   where
     far : (k : ℕ) → k < n → a + 1 + k ≢ b
@@ -65,7 +68,10 @@ module _ (base : ℕ) (code : List Inst) where
   abbrev copied_one : WordState → (d a b : ℕ) → WordState
   copied_one c d a b = record c { pc = c.pc + 4 + 4; registers = put c.registers d (get_or c.words a 0); words = set c.words b (get_or c.words a 0) }
 
-  one-runs : (n scratch source from target to i j : ℕ) (c : WordState) → CanCopy base (suc n) (suc scratch) source from target to i j c → Has code c.pc (copy_words (suc n) (suc scratch) source from target to) → run_words base code 2 c ≡ Goes (copied_one c (suc scratch) (i + from) (j + to))
+  one-runs :
+      (n scratch source from target to i j : ℕ) (c : WordState) → CanCopy base (suc n) (suc scratch) source from target to i j c →
+      Has code c.pc (copy_words (suc n) (suc scratch) source from target to) →
+      run_words base code 2 c ≡ Goes (copied_one c (suc scratch) (i + from) (j + to))
   one-runs n scratch source from target to i j c can h =
       let v = get_or c.words (i + from) 0 in
       let x : wrap (get c.registers source + 8 * from) ≡ base + 8 * (i + from) = omega (arith, can.source_is, can.below, can.source_inside) in
@@ -76,7 +82,9 @@ module _ (base : ℕ) (code : List Inst) where
       let s = get-put_same c.registers scratch v in
       rw (h.0, x, p, h.1.0, t, y, q, s) refl
 
-  one-can : (n scratch source from target to i j : ℕ) (c : WordState) → CanCopy base (suc n) (suc scratch) source from target to i j c → CanCopy base n (suc scratch) source (from + 1) target (to + 1) i j (copied_one c (suc scratch) (i + from) (j + to))
+  one-can :
+      (n scratch source from target to i j : ℕ) (c : WordState) → CanCopy base (suc n) (suc scratch) source from target to i j c →
+      CanCopy base n (suc scratch) source (from + 1) target (to + 1) i j (copied_one c (suc scratch) (i + from) (j + to))
   one-can n scratch source from target to i j c can =
       let v = get_or c.words (i + from) 0 in
       let l = length-set c.words (j + to) v in
@@ -93,7 +101,11 @@ module _ (base : ℕ) (code : List Inst) where
         apart = ⊎_elim (λ le. inl (omega arith)) (λ le. inr (omega arith)) can.apart;
       }
 
-  more : (n scratch source from target to i j : ℕ) (c : WordState) → CanCopy base (suc n) (suc scratch) source from target to i j c → run_words base code 2 c ≡ Goes (copied_one c (suc scratch) (i + from) (j + to)) → HasCopied base code n (suc scratch) (i + (from + 1)) (j + (to + 1)) (copied_one c (suc scratch) (i + from) (j + to)) → HasCopied base code (suc n) (suc scratch) (i + from) (j + to) c
+  more :
+      (n scratch source from target to i j : ℕ) (c : WordState) → CanCopy base (suc n) (suc scratch) source from target to i j c →
+      run_words base code 2 c ≡ Goes (copied_one c (suc scratch) (i + from) (j + to)) →
+      HasCopied base code n (suc scratch) (i + (from + 1)) (j + (to + 1)) (copied_one c (suc scratch) (i + from) (j + to)) →
+      HasCopied base code (suc n) (suc scratch) (i + from) (j + to) c
   more n scratch source from target to i j c can first rest =
       let d = copied_one c (suc scratch) (i + from) (j + to) in
       let m : 2 + 2 * n ≡ 2 * suc n = omega arith in
@@ -111,7 +123,10 @@ module _ (base : ℕ) (code : List Inst) where
       }
 
   -- n words are copied by 2 * n instructions, which change the scratch register alone
-  pub copy_words-runs : (n scratch source from target to i j : ℕ) (c : WordState) → CanCopy base n scratch source from target to i j c → Has code c.pc (copy_words n scratch source from target to) → HasCopied base code n scratch (i + from) (j + to) c
+  pub copy_words-runs :
+      (n scratch source from target to i j : ℕ) (c : WordState) → CanCopy base n scratch source from target to i j c →
+      Has code c.pc (copy_words n scratch source from target to) →
+      HasCopied base code n scratch (i + from) (j + to) c
   copy_words-runs n zero source from target to i j c can h = absurd (omega (arith, can.some_register))
   copy_words-runs zero (suc d) source from target to i j c can h =
       let e : c.pc ≡ c.pc + 8 * 0 = omega arith in

@@ -1,8 +1,8 @@
-pub mod Bytes
-pub mod Bounds
 pub mod Registers
 pub mod WordBytes
 pub mod Places
+pub mod Regions
+pub mod Words
 pub mod Outputs
 pub mod Stretches
 pub mod Moments
@@ -10,10 +10,14 @@ pub mod BridgeSteps
 pub mod BridgeInstructions
 pub mod BridgeExits
 pub mod Bridge
+pub mod Follows
+pub mod Encodings
 pub mod Constants
 pub mod Copies
 pub mod Calls
+pub mod Messages
 pub mod Distances
 pub mod Labels
 pub mod LabelsKept
 pub mod LabelsArrive
+mod Examples

@@ -1,28 +1,11 @@
--- What the machine shows after every number of instructions, where it follows the configurations of a meaning.
---
--- A configuration has a count of steps, an output, and a credit of instructions that it still owes ("pending").
--- From each related state the machine either makes a stretch to a related state, or exits. Then at every moment
--- either it has exited as a configuration says, or its output is that of a configuration at whose count of steps the
--- pace holds.
+-- What the machine shows after every number of instructions, where its code follows a meaning: the theorem for every number
+-- of instructions, and what makes the stretches that it asks for. Nothing here knows of actions.
 use Rattle.std.proofs.Common.{◌≡◌, ℕ, zero, suc, ◌+◌, ◌-◌, ◌*◌, ◌<◌, ◌≤◌, List, sym, ap, ◌∙◌, subst, arith, ◌⊎◌, ⊎_elim, inl, inr}
 use Rattle.std.proofs.lemmas.Bool.{cases_lt}
 use Rattle.rv_code.specs.declared.instruction.Inst.{Inst}
+use Rattle.rv_asm.specs.Meanings.{Meaning}
 use Rattle.rv_asm.specs.WordMachine.{WordState, Goes, Exits, run_words, go_on}
 use Rattle.rv_asm.proofs.Stretches.{run_words-add, then-ends, quiet-moment, Between}
-
--- a meaning that code follows: its configurations, with the steps done and the output of each, the instructions that a
--- configuration still owes, which configurations come in a performance, which of them end with an exit code, and the
--- pace: so many instructions a step, and so many before the first
-pub record Meaning : Type 1 where
-  pub Configuration : Type 0
-  pub steps : Configuration → ℕ
-  pub output : Configuration → List ℕ
-  pub pending : Configuration → ℕ
-  pub IsReached : Configuration → Type 0
-  pub EndsWith : Configuration → ℕ → Type 0
-  pub factor : ℕ
-  pub start : ℕ
-  pub ample : start ≤ factor
 
 module _ (base : ℕ) (code : List Inst) (m : Meaning) where
   -- j instructions behind configuration c the output is that of a configuration that is reached, at the pace
@@ -97,7 +80,10 @@ module _ (base : ℕ) (code : List Inst) (m : Meaning) where
         let e = run_words-add base code (suc s.count) k state ∙ ap (λ x. go_on x (run_words base code k)) s.runs in
         record { last = s.last; exit = s.exit; runs = subst (λ i. run_words base code i state ≡ Exits s.exit (m.output s.last)) q e; reached = s.reached; ends = s.ends }
 
-    advanced : (n count : ℕ) (state : WordState) (c : m.Configuration) → IsPaid count c → (a : Advances state c) → (a.count ≤ n → Moment (count + a.count + (n - a.count)) a.to (n - a.count)) → Moment (count + n) state n
+    advanced :
+        (n count : ℕ) (state : WordState) (c : m.Configuration) → IsPaid count c → (a : Advances state c) →
+        (a.count ≤ n → Moment (count + a.count + (n - a.count)) a.to (n - a.count)) →
+        Moment (count + n) state n
     advanced n count state c p a rest = ⊎_elim
         (λ lt. within count n state c p (a.moments n lt))
         (λ le.
@@ -114,7 +100,10 @@ module _ (base : ℕ) (code : List Inst) (m : Meaning) where
 
     module _ (turn : (state : WordState) (c : m.Configuration) → IsAt state c → m.IsReached c → Advances state c ⊎ Stops state c) where
       -- `bound` bounds n
-      moments-below : (bound n count : ℕ) (state : WordState) (c : m.Configuration) → n < bound → IsAt state c → m.IsReached c → IsPaid count c → Moment (count + n) state n
+      moments-below :
+          (bound n count : ℕ) (state : WordState) (c : m.Configuration) → n < bound → IsAt state c → m.IsReached c →
+          IsPaid count c →
+          Moment (count + n) state n
       moments-below zero n count state c lt r h p = absurd (omega arith)
       moments-below (suc bound) n count state c lt r h p = ⊎_elim
           (λ a. advanced n count state c p a (λ le. moments-below bound (n - a.count) (count + a.count) a.to a.next (omega (arith, a.some)) a.related a.reached (omega (arith, a.paid))))
@@ -122,70 +111,146 @@ module _ (base : ℕ) (code : List Inst) (m : Meaning) where
           (turn state c r h)
 
       -- the theorem for every number n of instructions, where `count` are already done
-      pub moments : (n count : ℕ) (state : WordState) (c : m.Configuration) → IsAt state c → m.IsReached c → IsPaid count c → Moment (count + n) state n
+      pub moments :
+          (n count : ℕ) (state : WordState) (c : m.Configuration) → IsAt state c → m.IsReached c → IsPaid count c →
+          Moment (count + n) state n
       moments n count state c r h p = moments-below (suc n) n count state c (omega arith) r h p
 
-      -- the same from an entry, which comes to the first related state without output
-      pub moments-entry : (n first : ℕ) (entry state : WordState) (c : m.Configuration) → run_words base code first entry ≡ Goes state → state.output ≡ entry.output → state.output ≡ m.output c → IsAt state c → m.IsReached c → IsPaid first c → Moment n entry n
-      moments-entry n first entry state c e quiet o r h p = ⊎_elim
-          (λ lt.
-          let q = quiet-moment base code first entry state e quiet n (omega arith) in
-          inl (record { now = q.0; runs = q.1; shown = c; reached = h; output = q.2 ∙ sym quiet ∙ o; pace = omega (arith, p, m.ample) }))
-          (λ le.
-          let q : first + (n - first) ≡ n = omega arith in
-          subst (λ k. Moment k entry k) q (behind first (n - first) (first + (n - first)) entry state e (moments (n - first) first state c r h p)))
-          (cases_lt n first)
+  -- from an entry the code follows the meaning: it comes without output to a state that is related to a configuration, and
+  -- from each related state it advances or stops
+  pub record CodeFollows (entry : WordState) : Type 1 where
+    pub IsAt : WordState → m.Configuration → Type 0
+    pub turn : (state : WordState) (c : m.Configuration) → IsAt state c → m.IsReached c → Advances IsAt state c ⊎ Stops IsAt state c
+    pub first : ℕ
+    pub state : WordState
+    pub initial : m.Configuration
+    pub runs : run_words base code first entry ≡ Goes state
+    pub quiet : state.output ≡ entry.output
+    pub output : state.output ≡ m.output initial
+    pub related : IsAt state initial
+    pub reached : m.IsReached initial
+    pub paid : first + m.pending initial ≤ m.factor * m.steps initial + m.start
+
+  -- the theorem from an entry
+  pub moments-entry : (n : ℕ) (entry : WordState) (f : CodeFollows entry) → Moment f.IsAt n entry n
+  moments-entry n entry f = ⊎_elim
+      (λ lt.
+          let q = quiet-moment base code f.first entry f.state f.runs f.quiet n (omega arith) in
+          inl (record { now = q.0; runs = q.1; shown = f.initial; reached = f.reached; output = q.2 ∙ sym f.quiet ∙ f.output; pace = omega (arith, f.paid, m.ample) }))
+      (λ le.
+          let q : f.first + (n - f.first) ≡ n = omega arith in
+          subst (λ k. Moment f.IsAt k entry k) q
+          (behind f.IsAt f.first (n - f.first) (f.first + (n - f.first)) entry f.state f.runs (moments f.IsAt f.turn (n - f.first) f.first f.state f.initial f.related f.reached f.paid)))
+      (cases_lt n f.first)
 
   -- ---- what makes an advance and a stop
 
   -- the output of a configuration further on shows at a moment of a stretch that is paid for it
-  shows-next : (state : WordState) (c next : m.Configuration) (count j : ℕ) (now : WordState) → run_words base code j state ≡ Goes now → m.IsReached next → now.output ≡ m.output next → j ≤ count → count + m.start + m.factor * m.steps c ≤ m.factor * (m.steps next + 1) + m.pending c → Shows c state j
+  shows-next :
+      (state : WordState) (c next : m.Configuration) (count j : ℕ) (now : WordState) → run_words base code j state ≡ Goes now →
+      m.IsReached next → now.output ≡ m.output next → j ≤ count →
+      count + m.start + m.factor * m.steps c ≤ m.factor * (m.steps next + 1) + m.pending c →
+      Shows c state j
   shows-next state c next count j now e r o le paid = record { now = now; runs = e; shown = next; reached = r; output = o; pace = omega arith }
 
   module _ (IsAt : WordState → m.Configuration → Type 0) where
-    -- a stretch without output
-    pub quiet-advance : (state to : WordState) (c next : m.Configuration) (count : ℕ) → 0 < count → run_words base code count state ≡ Goes to → to.output ≡ state.output → to.output ≡ m.output next → IsAt to next → m.IsReached next → count + m.pending next + m.factor * m.steps c ≤ m.factor * m.steps next + m.pending c → Advances IsAt state c
-    quiet-advance state to c next count some e quiet o r h paid = record {
-      count = count;
-      to = to;
-      next = next;
-      some = some;
-      runs = e;
-      related = r;
-      reached = h;
-      moments = λ j lt. let q = quiet-moment base code count state to e quiet j (omega arith) in shows-next state c next count j q.0 q.1 h (q.2 ∙ sym quiet ∙ o) (omega arith) (omega (arith, m.ample));
-      paid = paid;
+    -- a stretch without output, to a configuration with the same output
+    pub record QuietStretch (state : WordState) (c : m.Configuration) : Type 0 where
+      pub count : ℕ
+      pub to : WordState
+      pub next : m.Configuration
+      pub some : 0 < count
+      pub runs : run_words base code count state ≡ Goes to
+      pub quiet : to.output ≡ state.output
+      pub output : to.output ≡ m.output next
+      pub related : IsAt to next
+      pub reached : m.IsReached next
+      pub paid : count + m.pending next + m.factor * m.steps c ≤ m.factor * m.steps next + m.pending c
+
+    pub quiet-advance : (state : WordState) (c : m.Configuration) → QuietStretch state c → Advances IsAt state c
+    quiet-advance state c s = record {
+      count = s.count;
+      to = s.to;
+      next = s.next;
+      some = s.some;
+      runs = s.runs;
+      related = s.related;
+      reached = s.reached;
+      moments = λ j lt.
+          let q = quiet-moment base code s.count state s.to s.runs s.quiet j (omega arith) in
+          shows-next state c s.next s.count j q.0 q.1 s.reached (q.2 ∙ sym s.quiet ∙ s.output) (omega arith) (omega (arith, m.ample, s.paid));
+      paid = s.paid;
     }
 
     -- a stretch whose output changes at one moment
-    pub output-advance : (state to : WordState) (c next : m.Configuration) (count : ℕ) → 0 < count → run_words base code count state ≡ Goes to → Between base code count state to → state.output ≡ m.output c → to.output ≡ m.output next → IsAt to next → m.IsReached c → m.IsReached next → count + m.start ≤ m.factor + m.pending c → count + m.pending next + m.factor * m.steps c ≤ m.factor * m.steps next + m.pending c → Advances IsAt state c
-    output-advance state to c next count some e between o o' r h h' short paid = record {
-      count = count;
-      to = to;
-      next = next;
-      some = some;
-      runs = e;
-      related = r;
-      reached = h';
+    pub record SendingStretch (state : WordState) (c : m.Configuration) : Type 0 where
+      pub count : ℕ
+      pub to : WordState
+      pub next : m.Configuration
+      pub some : 0 < count
+      pub runs : run_words base code count state ≡ Goes to
+      pub between : Between base code count state to
+      pub before : state.output ≡ m.output c
+      pub output : to.output ≡ m.output next
+      pub related : IsAt to next
+      pub started : m.IsReached c
+      pub reached : m.IsReached next
+      pub short : count + m.start ≤ m.factor + m.pending c
+      pub paid : count + m.pending next + m.factor * m.steps c ≤ m.factor * m.steps next + m.pending c
+
+    pub sending-advance : (state : WordState) (c : m.Configuration) → SendingStretch state c → Advances IsAt state c
+    sending-advance state c s = record {
+      count = s.count;
+      to = s.to;
+      next = s.next;
+      some = s.some;
+      runs = s.runs;
+      related = s.related;
+      reached = s.reached;
       moments = λ j lt.
+<<<<<<< HEAD
           let b = between j (omega arith) in
           ⊎_elim
           (λ p. record { now = b.0; runs = b.1; shown = c; reached = h; output = p ∙ o; pace = omega arith })
           (λ p. shows-next state c next count j b.0 b.1 h' (p ∙ o') (omega arith) (omega (arith, m.ample)))
           b.2;
       paid = paid;
+=======
+          let b = s.between j (omega arith) in
+          ⊎_elim
+          (λ p. record { now = b.0; runs = b.1; shown = c; reached = s.started; output = p ∙ s.before; pace = omega (arith, s.short) })
+          (λ p. shows-next state c s.next s.count j b.0 b.1 s.reached (p ∙ s.output) (omega arith) (omega (arith, m.ample, s.paid)))
+          b.2;
+      paid = s.paid;
+>>>>>>> 9cb644bbd306e133965d12326e15d88c116e4951
     }
 
-    -- a stretch without output to an exit
-    pub quiet-stop : (state to : WordState) (c last : m.Configuration) (count exit : ℕ) → run_words base code count state ≡ Goes to → to.output ≡ state.output → to.output ≡ m.output last → run_words base code 1 to ≡ Exits exit to.output → m.IsReached last → m.EndsWith last exit → count + m.start + m.factor * m.steps c ≤ m.factor * (m.steps last + 1) + m.pending c → Stops IsAt state c
-    quiet-stop state to c last count exit e quiet o stop h ends paid =
-        let n : count + 1 ≡ suc count = omega arith in
+    -- a stretch without output, and then an instruction that exits
+    pub record QuietExit (state : WordState) (c : m.Configuration) : Type 0 where
+      pub count : ℕ
+      pub to : WordState
+      pub last : m.Configuration
+      pub exit : ℕ
+      pub runs : run_words base code count state ≡ Goes to
+      pub quiet : to.output ≡ state.output
+      pub output : to.output ≡ m.output last
+      pub exits : run_words base code 1 to ≡ Exits exit to.output
+      pub reached : m.IsReached last
+      pub ends : m.EndsWith last exit
+      pub paid : count + m.start + m.factor * m.steps c ≤ m.factor * (m.steps last + 1) + m.pending c
+
+    pub quiet-stop : (state : WordState) (c : m.Configuration) → QuietExit state c → Stops IsAt state c
+    quiet-stop state c s =
+        let n : s.count + 1 ≡ suc s.count = omega arith in
+        let e = then-ends base code s.count 1 state s.to (Exits s.exit (m.output s.last)) s.runs (s.exits ∙ ap (Exits s.exit) s.output) in
         record {
-          count = count;
-          last = last;
-          exit = exit;
-          runs = subst (λ k. run_words base code k state ≡ Exits exit (m.output last)) n (then-ends base code count 1 state to (Exits exit (m.output last)) e (stop ∙ ap (Exits exit) o));
-          reached = h;
-          ends = ends;
-          moments = λ j le. let q = quiet-moment base code count state to e quiet j le in shows-next state c last count j q.0 q.1 h (q.2 ∙ sym quiet ∙ o) le paid;
+          count = s.count;
+          last = s.last;
+          exit = s.exit;
+          runs = subst (λ k. run_words base code k state ≡ Exits s.exit (m.output s.last)) n e;
+          reached = s.reached;
+          ends = s.ends;
+          moments = λ j le.
+              let q = quiet-moment base code s.count state s.to s.runs s.quiet j le in
+              shows-next state c s.last s.count j q.0 q.1 s.reached (q.2 ∙ sym s.quiet ∙ s.output) le s.paid;
         }

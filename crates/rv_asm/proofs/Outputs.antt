@@ -48,7 +48,9 @@ calls-grow base c nr =
     let p = word_index base (length c.words) (c.registers 11) in
     pick (eqb nr 93) (eqb nr 64 && eqb (c.registers 10) 1 && eqb (c.registers 12) 8) (eqb nr 63 && eqb (c.registers 10) 0 && eqb (c.registers 12) 8) (sends c p) (receives c p) (sends-grow c p) (receives-grow c p)
   where
-    pick : (p q r : Bool) (x y : WordStep) → Grows c.output x → Grows c.output y → Grows c.output (if p then Exits (c.registers 10 % 256) c.output else if q then x else if r then y else Stuck)
+    pick :
+        (p q r : Bool) (x y : WordStep) → Grows c.output x → Grows c.output y →
+        Grows c.output (if p then Exits (c.registers 10 % 256) c.output else if q then x else if r then y else Stuck)
     pick true q r x y g h = exits-grow _ _ _
     pick false true r x y g h = g
     pick false false true x y g h = h
@@ -91,5 +93,7 @@ run_words-grow base code zero c = same-grow _ _ refl
 run_words-grow base code (suc n) c = go-on-grows c.output (act_at base (instruction_at code c.pc) c) (run_words base code n) (act-at-grows base (instruction_at code c.pc) c) (run_words-grow base code n)
 
 -- a run appends to the output
-pub output-run_words : (base : ℕ) (code : List Inst) (n : ℕ) (c d : WordState) → run_words base code n c ≡ Goes d → (w : List ℕ) × (d.output ≡ c.output ++ w)
+pub output-run_words :
+    (base : ℕ) (code : List Inst) (n : ℕ) (c d : WordState) → run_words base code n c ≡ Goes d →
+    (w : List ℕ) × (d.output ≡ c.output ++ w)
 output-run_words base code n c d e = (run_words-grow base code n c).by d e

@@ -1,10 +1,10 @@
 -- Where words and instructions stand: an address and the number of its word, an instruction and its bytes.
-use Rattle.std.proofs.Common.{◌≡◌, ℕ, zero, suc, ◌+◌, ◌-◌, ◌*◌, ◌/◌, ◌%◌, ◌<◌, ◌≤◌, Bool, true, false, ◌&&◌, if◌then◌else◌, List, [], ◌∷◌, ◌++◌, length, take, drop, Option, Some, None, slice_get, refl, sym, ap, ◌∙◌, subst, arith, eqb, leb, ltb, eq-eqb, le-leb, lt-ltb, eqb-true, leb-true, ltb-true, take_at, drop_at, drop-drop, length-append, append_assoc}
+use Rattle.std.proofs.Common.{◌≡◌, ℕ, zero, suc, ◌+◌, ◌-◌, ◌*◌, ◌/◌, ◌%◌, ◌<◌, ◌≤◌, Bool, true, false, ◌&&◌, if◌then◌else◌, List, [], ◌∷◌, ◌++◌, length, take, drop, Option, Some, None, slice_get, refl, sym, ap, ◌∙◌, subst, arith, eqb, leb, ltb, eq-eqb, le-leb, lt-ltb, eqb-true, leb-true, ltb-true, take_at, drop_at, drop-drop, length-append, append_assoc, append-nil}
 use Rattle.std.proofs.lemmas.Option.{slice_get_within}
 use Rattle.rv_code.specs.Bytes.{bytes_of}
 use Rattle.rv_code.specs.Encode.{word_of}
 use Rattle.rv_code.specs.declared.instruction.Inst.{Inst}
-use Rattle.rv_asm.proofs.Bytes.{length-bytes}
+use Rattle.rv_code.proofs.ByteLaws.{length-bytes}
 use Rattle.rv_asm.specs.Conventions.{code_bytes}
 use Rattle.rv_asm.specs.WordMachine.{instruction_at, word_index, Has}
 
@@ -116,3 +116,6 @@ Has-part before (i ∷ is) behind =
     slice_get-behind : (before behind : List Inst) (i : Inst) → slice_get (before ++ (i ∷ behind)) (length before) ≡ Some i
     slice_get-behind [] behind i = refl
     slice_get-behind (j ∷ before) behind i = slice_get-behind before behind i
+
+pub Has-whole : (code : List Inst) → Has code 65536 code
+Has-whole code = subst (λ c. Has c 65536 code) (append-nil code) (Has-part [] code [])

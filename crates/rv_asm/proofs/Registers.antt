@@ -2,7 +2,7 @@
 use Rattle.std.proofs.Common.{◌≡◌, ◌≢◌, ℕ, zero, suc, ◌+◌, ◌<◌, ◌≤◌, ◌^◌, Bool, true, false, cond, ◌∷◌, get_or, set, refl, ap, ap₂, ◌∙◌, arith, eqb, eq-eqb, ne_eqb}
 use mathlib.Core.Path.{fun_ext}
 use Rattle.rv_code.specs.Machine.{register, with_register}
-use Rattle.rv_asm.proofs.Bounds.{if-below}
+use Rattle.rv_code.proofs.Bounds.{if-below}
 use Rattle.rv_asm.specs.WordMachine.{get, put, registers_from, register_list}
 
 -- the register that was written
@@ -54,7 +54,9 @@ registers_from-agree : (n first : ℕ) (f g : ℕ → ℕ) → ((j : ℕ) → fi
 registers_from-agree zero first f g h = refl
 registers_from-agree (suc n) first f g h = ap₂ (λ x l. x ∷ l) (h first (omega arith)) (registers_from-agree n (suc first) f g (λ j le. h j (omega arith)))
 
-set-registers_from : (n first j k v : ℕ) (r : ℕ → ℕ) → k ≡ first + j → set (registers_from n first r) j v ≡ registers_from n first (λ i. cond (eqb i k) v (r i))
+set-registers_from :
+    (n first j k v : ℕ) (r : ℕ → ℕ) → k ≡ first + j →
+    set (registers_from n first r) j v ≡ registers_from n first (λ i. cond (eqb i k) v (r i))
 set-registers_from zero first j k v r e = refl
 set-registers_from (suc n) first zero k v r e =
     let x : eqb first k ≡ true = eq-eqb _ _ (omega arith) in

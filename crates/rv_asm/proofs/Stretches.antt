@@ -29,7 +29,9 @@ same-middle o x y u v a b e =
 
 module _ (base : ℕ) (code : List Inst) where
   -- one instruction, where it is known
-  pub run_words-one : (k : ℕ) (c : WordState) (i : Inst) → instruction_at code c.pc ≡ Some i → run_words base code (suc k) c ≡ go_on (act base i c) (run_words base code k)
+  pub run_words-one :
+      (k : ℕ) (c : WordState) (i : Inst) → instruction_at code c.pc ≡ Some i →
+      run_words base code (suc k) c ≡ go_on (act base i c) (run_words base code k)
   run_words-one k c i h = ap (λ o. go_on (act_at base o c) (run_words base code k)) h
 
   -- m instructions and then n
@@ -39,15 +41,21 @@ module _ (base : ℕ) (code : List Inst) where
       rw suc-add (go_on-go_on (act_at base (instruction_at code c.pc) c) (run_words base code (m + n)) (run_words base code m) (run_words base code n) (run_words-add m n))
 
   -- one stretch and then another
-  pub then-runs : (m n : ℕ) (c d e : WordState) → run_words base code m c ≡ Goes d → run_words base code n d ≡ Goes e → run_words base code (m + n) c ≡ Goes e
+  pub then-runs :
+      (m n : ℕ) (c d e : WordState) → run_words base code m c ≡ Goes d → run_words base code n d ≡ Goes e →
+      run_words base code (m + n) c ≡ Goes e
   then-runs m n c d e p q = run_words-add m n c ∙ ap (λ x. go_on x (run_words base code n)) p ∙ q
 
   -- one stretch and then whatever comes
-  pub then-ends : (m n : ℕ) (c d : WordState) (x : WordStep) → run_words base code m c ≡ Goes d → run_words base code n d ≡ x → run_words base code (m + n) c ≡ x
+  pub then-ends :
+      (m n : ℕ) (c d : WordState) (x : WordStep) → run_words base code m c ≡ Goes d → run_words base code n d ≡ x →
+      run_words base code (m + n) c ≡ x
   then-ends m n c d x p q = run_words-add m n c ∙ ap (λ y. go_on y (run_words base code n)) p ∙ q
 
   -- the state in the middle of a stretch
-  pub split-run : (j k : ℕ) (c d : WordState) → run_words base code (j + k) c ≡ Goes d → (e : WordState) × (run_words base code j c ≡ Goes e) × (run_words base code k e ≡ Goes d)
+  pub split-run :
+      (j k : ℕ) (c d : WordState) → run_words base code (j + k) c ≡ Goes d →
+      (e : WordState) × (run_words base code j c ≡ Goes e) × (run_words base code k e ≡ Goes d)
   split-run j k c d e = go_on-Goes (run_words base code j c) (run_words base code k) d (sym (run_words-add j k c) ∙ e)
 
   -- after each number of instructions up to n the output is that of c or that of d
@@ -65,7 +73,9 @@ module _ (base : ℕ) (code : List Inst) where
       (s.0, s.1, inl (same-middle c.output s.0.output d.output u.0 v.0 u.1 v.1 o))
 
   -- after each number of instructions of a stretch without output the output is that of its start
-  pub quiet-moment : (n : ℕ) (c d : WordState) → run_words base code n c ≡ Goes d → d.output ≡ c.output → (j : ℕ) → j ≤ n → (e : WordState) × (run_words base code j c ≡ Goes e) × (e.output ≡ c.output)
+  pub quiet-moment :
+      (n : ℕ) (c d : WordState) → run_words base code n c ≡ Goes d → d.output ≡ c.output → (j : ℕ) → j ≤ n →
+      (e : WordState) × (run_words base code j c ≡ Goes e) × (e.output ≡ c.output)
   quiet-moment n c d e o j le =
       let b = quiet-between n c d e o j le in
       (b.0, b.1, ⊎_elim (λ p. p) (λ p. p ∙ o) b.2)
@@ -77,7 +87,10 @@ module _ (base : ℕ) (code : List Inst) where
   one-between c d e (suc (suc j)) le = absurd (omega arith)
 
   -- a stretch, and behind it one without output
-  pub between-then-quiet : (n m : ℕ) (c d e : WordState) → run_words base code n c ≡ Goes d → Between n c d → run_words base code m d ≡ Goes e → e.output ≡ d.output → Between (n + m) c e
+  pub between-then-quiet :
+      (n m : ℕ) (c d e : WordState) → run_words base code n c ≡ Goes d → Between n c d → run_words base code m d ≡ Goes e →
+      e.output ≡ d.output →
+      Between (n + m) c e
   between-then-quiet n m c d e p i q o j le = ⊎_elim (λ lt. front (omega arith)) (λ ge. back ge) (cases_lt j n)
     where
       front : j ≤ n → (x : WordState) × (run_words base code j c ≡ Goes x) × ((x.output ≡ c.output) ⊎ (x.output ≡ e.output))
@@ -90,7 +103,9 @@ module _ (base : ℕ) (code : List Inst) where
           (r.0, subst (λ j. run_words base code j c ≡ Goes r.0) s (then-runs n (j - n) c d r.0 p r.1), inr (r.2 ∙ sym o))
 
   -- a stretch without output, and behind it another
-  pub quiet-then-between : (n m : ℕ) (c d e : WordState) → run_words base code n c ≡ Goes d → d.output ≡ c.output → Between m d e → Between (n + m) c e
+  pub quiet-then-between :
+      (n m : ℕ) (c d e : WordState) → run_words base code n c ≡ Goes d → d.output ≡ c.output → Between m d e →
+      Between (n + m) c e
   quiet-then-between n m c d e p o i j le = ⊎_elim (λ lt. front (omega arith)) (λ ge. back ge) (cases_lt j n)
     where
       front : j ≤ n → (x : WordState) × (run_words base code j c ≡ Goes x) × ((x.output ≡ c.output) ⊎ (x.output ≡ e.output))

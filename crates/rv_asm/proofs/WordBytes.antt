@@ -1,15 +1,20 @@
 -- The bytes of words: a word, or the front of one, is read and written among them.
-use Rattle.std.proofs.Common.{◌≡◌, ℕ, zero, suc, ◌+◌, ◌*◌, ◌<◌, ◌≤◌, ◌^◌, min, List, [], ◌∷◌, ◌++◌, length, get_or, take, drop, set, replicate, refl, sym, ap, ◌∙◌, subst, arith, append_assoc, length-append, take_at, drop_at, drop-drop, All}
+use Rattle.std.proofs.Common.{◌≡◌, ℕ, zero, suc, ◌+◌, ◌*◌, ◌<◌, ◌≤◌, ◌^◌, min, List, [], ◌∷◌, ◌++◌, length, get_or, take, drop, set, replicate, refl, sym, ap, ◌∙◌, subst, arith, append_assoc, append-nil, length-append, take_at, drop_at, drop-drop, All}
 use Rattle.std.proofs.lemmas.List.{replicate-append-replicate, drop-append-le, length-drop, length-take}
 use Rattle.std.proofs.lemmas.List.Elements.{All-append, All-drop, All-take}
 use Rattle.rv_code.specs.Bytes.{number_of, bytes_of, put_at}
-use Rattle.rv_asm.proofs.Bytes.{length-bytes, bytes-number, bytes-small, number-below}
+use Rattle.rv_code.proofs.ByteLaws.{length-bytes, bytes-number, bytes-small, number-below}
 use Rattle.rv_asm.specs.WordMachine.{word_bytes, received_word}
 
 pub length-word_bytes : (ws : List ℕ) → length (word_bytes ws) ≡ 8 * length ws
 unfolding word_bytes
 length-word_bytes [] = refl
 length-word_bytes (w ∷ ws) = length-append (bytes_of 8 w) (word_bytes ws) ∙ omega (arith, length-bytes 8 w, length-word_bytes ws)
+
+pub word_bytes-append : (ws : List ℕ) (w : ℕ) → word_bytes (ws ++ (w ∷ [])) ≡ word_bytes ws ++ bytes_of 8 w
+unfolding word_bytes
+word_bytes-append [] w = append-nil (bytes_of 8 w)
+word_bytes-append (v ∷ ws) w = ap (λ l. bytes_of 8 v ++ l) (word_bytes-append ws w) ∙ sym (append_assoc (bytes_of 8 v) (word_bytes ws) (bytes_of 8 w))
 
 drop-word_bytes : (i w : ℕ) (ws : List ℕ) → drop (8 * suc i) (word_bytes (w ∷ ws)) ≡ drop (8 * i) (word_bytes ws)
 unfolding word_bytes
@@ -53,7 +58,9 @@ small-front : (old : ℕ) (bs : List ℕ) → All (λ b. b < 256) bs → All (λ
 small-front old bs s = All-append (λ b. b < 256) bs _ s (All-drop (λ b. b < 256) (0 + length bs) (bytes_of 8 old) (bytes-small 8 old))
 
 -- at most eight bytes written to the front of a word
-put_at-front : (ws : List ℕ) (i : ℕ) (bs : List ℕ) → i < length ws → length bs ≤ 8 → All (λ b. b < 256) bs → put_at (word_bytes ws) (8 * i) bs ≡ word_bytes (set ws i (with_front (get_or ws i 0) bs))
+put_at-front :
+    (ws : List ℕ) (i : ℕ) (bs : List ℕ) → i < length ws → length bs ≤ 8 → All (λ b. b < 256) bs →
+    put_at (word_bytes ws) (8 * i) bs ≡ word_bytes (set ws i (with_front (get_or ws i 0) bs))
 unfolding word_bytes
 put_at-front [] i bs h l s = absurd (omega arith)
 put_at-front (w ∷ ws) zero bs h l s =
@@ -66,7 +73,9 @@ put_at-front (w ∷ ws) (suc i) bs h l s =
     ∙ ap (λ t. bytes_of 8 w ++ t) (put_at-front ws i bs (omega arith) l s)
 
 -- what a call that receives writes
-pub put_at-received : (ws : List ℕ) (i n : ℕ) (input : List ℕ) → i < length ws → n ≤ 8 → All (λ b. b < 256) input → put_at (word_bytes ws) (8 * i) (take n input) ≡ word_bytes (set ws i (with_front (get_or ws i 0) (take n input)))
+pub put_at-received :
+    (ws : List ℕ) (i n : ℕ) (input : List ℕ) → i < length ws → n ≤ 8 → All (λ b. b < 256) input →
+    put_at (word_bytes ws) (8 * i) (take n input) ≡ word_bytes (set ws i (with_front (get_or ws i 0) (take n input)))
 put_at-received ws i n input h l s =
     put_at-front ws i (take n input) h (omega (arith, length-take n input)) (All-take (λ b. b < 256) n input s)
 

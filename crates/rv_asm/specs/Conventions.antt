@@ -63,6 +63,11 @@ unfoldable pub code_bytes : List Inst → List ℕ
 code_bytes [] = []
 code_bytes (i ∷ is) = bytes_of 4 (word_of i) ++ code_bytes is
 
+-- the bytes of instructions by their words, each as 4 bytes
+unfoldable pub instruction_bytes : List ℕ → List ℕ
+instruction_bytes [] = []
+instruction_bytes (w ∷ ws) = bytes_of 4 w ++ instruction_bytes ws
+
 -- code and a region of `count` words at `base` can stand in one image: each instruction encodes, and the region is
 -- aligned, behind the code, and below 2^32
 pub record IsImage (base : ℕ) (code : List Inst) (count : ℕ) : Type 0 where

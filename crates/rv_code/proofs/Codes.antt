@@ -1,6 +1,7 @@
 -- The numbers of each instruction fit their fields, and its row stands in the table.
 use Rattle.std.proofs.Common.{◌≡◌, ℕ, ◌<◌, Some, refl, lit<}
 use Rattle.std.specs.Prelude.{slice_get}
+use Rattle.rv_code.specs.declared.instruction.Inst.TheVariants.{Ecall, Ebreak}
 use Rattle.rv_code.specs.declared.instruction.OpOp.{OpOp}
 use Rattle.rv_code.specs.declared.instruction.OpOp.TheVariants.{Add, Sub, Sll, Slt, Sltu, Xor, Srl, Sra, Or, And, Addw, Subw, Sllw, Srlw, Sraw, Mul, Mulh, Mulhsu, Mulhu, Div, Divu, Rem, Remu, Mulw, Divw, Divuw, Remw, Remuw}
 use Rattle.rv_code.specs.declared.instruction.OpImmOp.{OpImmOp}
@@ -15,7 +16,7 @@ use Rattle.rv_code.specs.declared.instruction.BranchOp.{BranchOp}
 use Rattle.rv_code.specs.declared.instruction.BranchOp.TheVariants.{Beq, Bne, Blt, Bge, Bltu, Bgeu}
 use Rattle.rv_code.specs.declared.instruction.UpperOp.{UpperOp}
 use Rattle.rv_code.specs.declared.instruction.UpperOp.TheVariants.{Lui, Auipc}
-use Rattle.rv_code.specs.Table.{Row, Code, FullCode, op_code, op_imm_code, shift_code, load_code, store_code, branch_code, upper_opcode, op_row, op_imm_row, shift_row, load_row, store_row, branch_row, upper_row, table}
+use Rattle.rv_code.specs.Table.{Row, Code, FullCode, op_code, op_imm_code, shift_code, load_code, store_code, branch_code, upper_opcode, op_row, op_imm_row, shift_row, load_row, store_row, branch_row, upper_row, jal_row, jalr_row, fence_row, word_row, ecall_word, ebreak_word, table}
 
 -- the row stands in the table
 pub record IsRow (r : Row) : Type 0 where
@@ -32,6 +33,7 @@ pub record FitsFullCode (c : FullCode) : Type 0 where
   pub opcode : c.opcode < 128
 
 pub op_row-there : (op : OpOp) → IsRow (op_row op)
+unfolding table
 op_row-there Add = record { place = 32; is_there = refl }
 op_row-there Sub = record { place = 33; is_there = refl }
 op_row-there Sll = record { place = 34; is_there = refl }
@@ -92,6 +94,7 @@ op_code-fits Remw = record { upper = lit< tt; funct3 = lit< tt; opcode = lit< tt
 op_code-fits Remuw = record { upper = lit< tt; funct3 = lit< tt; opcode = lit< tt }
 
 pub op_imm_row-there : (op : OpImmOp) → IsRow (op_imm_row op)
+unfolding table
 op_imm_row-there Addi = record { place = 19; is_there = refl }
 op_imm_row-there Slti = record { place = 20; is_there = refl }
 op_imm_row-there Sltiu = record { place = 21; is_there = refl }
@@ -110,6 +113,7 @@ op_imm_code-fits Andi = record { funct3 = lit< tt; opcode = lit< tt }
 op_imm_code-fits Addiw = record { funct3 = lit< tt; opcode = lit< tt }
 
 pub shift_row-there : (op : ShiftOp) → IsRow (shift_row op)
+unfolding table
 shift_row-there Slli = record { place = 26; is_there = refl }
 shift_row-there Srli = record { place = 27; is_there = refl }
 shift_row-there Srai = record { place = 28; is_there = refl }
@@ -126,6 +130,7 @@ shift_code-fits Srliw = record { upper = lit< tt; funct3 = lit< tt; opcode = lit
 shift_code-fits Sraiw = record { upper = lit< tt; funct3 = lit< tt; opcode = lit< tt }
 
 pub load_row-there : (op : LoadOp) → IsRow (load_row op)
+unfolding table
 load_row-there Lb = record { place = 8; is_there = refl }
 load_row-there Lh = record { place = 9; is_there = refl }
 load_row-there Lw = record { place = 10; is_there = refl }
@@ -144,6 +149,7 @@ load_code-fits Lhu = record { funct3 = lit< tt; opcode = lit< tt }
 load_code-fits Lwu = record { funct3 = lit< tt; opcode = lit< tt }
 
 pub store_row-there : (op : StoreOp) → IsRow (store_row op)
+unfolding table
 store_row-there Sb = record { place = 15; is_there = refl }
 store_row-there Sh = record { place = 16; is_there = refl }
 store_row-there Sw = record { place = 17; is_there = refl }
@@ -156,6 +162,7 @@ store_code-fits Sw = record { funct3 = lit< tt; opcode = lit< tt }
 store_code-fits Sd = record { funct3 = lit< tt; opcode = lit< tt }
 
 pub branch_row-there : (op : BranchOp) → IsRow (branch_row op)
+unfolding table
 branch_row-there Beq = record { place = 2; is_there = refl }
 branch_row-there Bne = record { place = 3; is_there = refl }
 branch_row-there Blt = record { place = 4; is_there = refl }
@@ -172,9 +179,30 @@ branch_code-fits Bltu = record { funct3 = lit< tt; opcode = lit< tt }
 branch_code-fits Bgeu = record { funct3 = lit< tt; opcode = lit< tt }
 
 pub upper_row-there : (op : UpperOp) → IsRow (upper_row op)
+unfolding table
 upper_row-there Lui = record { place = 0; is_there = refl }
 upper_row-there Auipc = record { place = 1; is_there = refl }
 
 pub upper_opcode-fits : (op : UpperOp) → upper_opcode op < 128
 upper_opcode-fits Lui = lit< tt
 upper_opcode-fits Auipc = lit< tt
+
+pub jal_row-there : IsRow jal_row
+unfolding table
+jal_row-there = record { place = 60; is_there = refl }
+
+pub jalr_row-there : IsRow jalr_row
+unfolding table
+jalr_row-there = record { place = 61; is_there = refl }
+
+pub fence_row-there : IsRow fence_row
+unfolding table
+fence_row-there = record { place = 62; is_there = refl }
+
+pub ecall_row-there : IsRow (word_row ecall_word Ecall)
+unfolding table
+ecall_row-there = record { place = 63; is_there = refl }
+
+pub ebreak_row-there : IsRow (word_row ebreak_word Ebreak)
+unfolding table
+ebreak_row-there = record { place = 64; is_there = refl }

@@ -23,7 +23,7 @@ use Rattle.rv_code.proofs.Rows.{first-fit-holds}
 WritesBack : Row → Type 0
 WritesBack r = (w : ℕ) → w < 2 ^ 32 → fits w r ≡ true → encode (r.instruction w) ≡ Some w
 
-and-parts : (a b : Bool) → a && b ≡ true → (a ≡ true) × (b ≡ true)
+pub and-parts : (a b : Bool) → a && b ≡ true → (a ≡ true) × (b ≡ true)
 and-parts true b e = (refl, e)
 and-parts false b e = absurd (cc)
 
@@ -43,25 +43,37 @@ rs2-small : (w : ℕ) → nat_lt (field w 24 20) 32 ≡ true
 rs2-small w = lt-ltb _ _ (omega arith)
 
 -- funct3 and the opcode of a word that fits
-record HasCode (w : ℕ) (c : Code) : Type 0 where
-  funct3 : field w 14 12 ≡ c.funct3
-  opcode : field w 6 0 ≡ c.opcode
+pub record HasCode (w : ℕ) (c : Code) : Type 0 where
+  pub funct3 : field w 14 12 ≡ c.funct3
+  pub opcode : field w 6 0 ≡ c.opcode
 
-code-of : (w : ℕ) (c : Code) → has_fields w (fixed_code c) ≡ true → HasCode w c
+pub code-of : (w : ℕ) (c : Code) → has_fields w (fixed_code c) ≡ true → HasCode w c
 code-of w c e =
     let p = and-parts (nat_eq (field w 14 12) c.funct3) (nat_eq (field w 6 0) c.opcode && true) e in
     let q = and-parts (nat_eq (field w 6 0) c.opcode) true p.1 in
     record { funct3 = eqb-true _ _ p.0; opcode = eqb-true _ _ q.0 }
 
-op-back : (op : OpOp) → WritesBack (op_row op)
-unfolding WritesBack
-op-back op w h e =
+-- the same, and the bits above k bits from bit 20 on
+pub record HasFullCode (w k : ℕ) (c : FullCode) : Type 0 where
+  pub upper : field w 31 (20 + k) ≡ c.upper
+  pub funct3 : field w 14 12 ≡ c.funct3
+  pub opcode : field w 6 0 ≡ c.opcode
+
+pub op-code-of : (op : OpOp) (w : ℕ) → fits w (op_row op) ≡ true → HasFullCode w 5 (op_code op)
+op-code-of op w e =
     let c = op_code op in
     let p = and-parts (nat_eq (field w 31 25) c.upper) _ e in
     let q = and-parts (nat_eq (field w 14 12) c.funct3) (nat_eq (field w 6 0) c.opcode && true) p.1 in
     let r = and-parts (nat_eq (field w 6 0) c.opcode) true q.1 in
+    record { upper = eqb-true _ _ p.0; funct3 = eqb-true _ _ q.0; opcode = eqb-true _ _ r.0 }
+
+op-back : (op : OpOp) → WritesBack (op_row op)
+unfolding WritesBack
+op-back op w h e =
+    let c = op_code op in
+    let k = op-code-of op w e in
     encodes (Op op (field w 11 7) (field w 19 15) (field w 24 20)) w (both _ _ (rd-small w) (both _ _ (rs1-small w) (rs2-small w))) refl
-    (r_word-whole w c.upper c.funct3 c.opcode h (eqb-true _ _ p.0) (eqb-true _ _ q.0) (eqb-true _ _ r.0))
+    (r_word-whole w c.upper c.funct3 c.opcode h k.upper k.funct3 k.opcode)
 
 i-whole : (w : ℕ) (c : Code) → w < 2 ^ 32 → has_fields w (fixed_code c) ≡ true → (has_bits 12 (i_immediate w) ≡ true) × (i_word (bits_of_integer 12 (i_immediate w)) (field w 19 15) c (field w 11 7) ≡ w)
 i-whole w c h e =
@@ -126,13 +138,7 @@ jal-back w h e =
     encodes (Jal (field w 11 7) (j_immediate w)) w (rd-small w) (both _ _ (has_bits-integer 21 (j_bits w) (omega arith) b) (integer_of_bits-even 21 (j_bits w) (omega arith) b m))
     (ap (λ x. j_word x (field w 11 7) jal_opcode) (bits_of_integer-integer 21 (j_bits w) b) ∙ j_word-whole w jal_opcode h o)
 
--- the parts of what a shift's row fixes
-record HasFullCode (w k : ℕ) (c : FullCode) : Type 0 where
-  upper : field w 31 (20 + k) ≡ c.upper
-  funct3 : field w 14 12 ≡ c.funct3
-  opcode : field w 6 0 ≡ c.opcode
-
-shift-code-of : (op : ShiftOp) (w : ℕ) → fits w (shift_row op) ≡ true → HasFullCode w (amount_bits op) (shift_code op)
+pub shift-code-of : (op : ShiftOp) (w : ℕ) → fits w (shift_row op) ≡ true → HasFullCode w (amount_bits op) (shift_code op)
 shift-code-of op w e =
     let c = shift_code op in
     let p = and-parts (nat_eq (field w 31 (20 + amount_bits op)) c.upper) _ e in
@@ -188,6 +194,7 @@ together : {xs ys : List Row} → EachWritesBack xs → EachWritesBack ys → Ea
 together {xs} {ys} h k = record { each = All-append WritesBack xs ys h.each k.each }
 
 all-write-back : EachWritesBack table
+unfolding table
 all-write-back =
     let upper : EachWritesBack (map upper_row every_upper) = record { each = mapped upper_row every_upper upper-back } in
     let branch : EachWritesBack (map branch_row every_branch) = record { each = mapped branch_row every_branch branch-back } in

@@ -1,6 +1,6 @@
 -- The table and the machine at a few words.
 use Rattle.std.proofs.Common.{◌≡◌, ℕ, ◌-◌, ◌^◌, List, [], ◌∷◌, Some, None, pos, negsuc, refl}
-use Rattle.rv_code.specs.Table.{decode, row}
+use Rattle.rv_code.specs.Table.{decode, row, table}
 use Rattle.rv_code.specs.Encode.{encode}
 use Rattle.rv_code.specs.Bytes.{number_of}
 use Rattle.rv_code.specs.Arithmetic.{operation}
@@ -18,23 +18,23 @@ addi-off : encode (OpImm Addi 10 0 (pos 2048)) ≡ None
 addi-off = refl
 
 addi-read : decode 0x02a00513 ≡ Some (OpImm Addi 10 0 (pos 42))
-unfolding decode row
+unfolding decode row table
 addi-read = refl
 
 mul-read : decode 0x02c58533 ≡ Some (Op Mul 10 11 12)
-unfolding decode row
+unfolding decode row table
 mul-read = refl
 
 no-mul : decode 0x04c58533 ≡ None
-unfolding decode row
+unfolding decode row table
 no-mul = refl
 
 branch-read : decode 0x212be763 ≡ Some (Branch Bltu 23 18 (pos 526))
-unfolding decode row
+unfolding decode row table
 branch-read = refl
 
 jal-read : decode 0xad08c6ef ≡ Some (Jal 13 (negsuc 474415))
-unfolding decode row
+unfolding decode row table
 jal-read = refl
 
 least-by-minus-one : operation Div (2 ^ 63) (2 ^ 64 - 1) ≡ 2 ^ 63
@@ -47,9 +47,9 @@ image : List ℕ → List Segment
 image bytes = record { address = 65536; flags = 5; bytes = bytes } ∷ []
 
 exits-7 : run 3 (loaded 65536 (image (0x93 ∷ 0x08 ∷ 0xd0 ∷ 0x05 ∷ 0x13 ∷ 0x05 ∷ 0x70 ∷ 0x00 ∷ 0x73 ∷ 0x00 ∷ 0x00 ∷ 0x00 ∷ [])) []) ≡ Exited 7 []
-unfolding image run step decode row number_of
+unfolding image run step decode row table number_of
 exits-7 = refl
 
 undefined : run 9 (loaded 65536 (image (0 ∷ 0 ∷ 0 ∷ 0 ∷ [])) []) ≡ Trapped Undefined
-unfolding image run step decode row number_of
+unfolding image run step decode row table number_of
 undefined = refl

@@ -5,3 +5,7 @@ pub mod Rows
 pub mod Codes
 pub mod Words
 pub mod Decoded
+pub mod Search
+pub mod Found
+pub mod ByteLaws
+pub mod Bounds

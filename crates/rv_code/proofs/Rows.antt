@@ -1,8 +1,9 @@
 -- A word fits at most one row of the table.
-use Rattle.std.proofs.Common.{◌≡◌, ℕ, zero, suc, ◌+◌, ◌≤◌, Bool, true, false, cond, not, ◌&&◌, ◌||◌, List, [], ◌∷◌, Some, refl, sym, ap, ◌∙◌, subst, arith, ◌⊎◌, inl, inr, nat_eq, eqb-true, eq-eqb}
+use Rattle.std.proofs.Common.{◌≡◌, ℕ, zero, suc, ◌+◌, ◌≤◌, Bool, true, false, cond, not, ◌&&◌, ◌||◌, List, [], ◌∷◌, Some, refl, sym, ap, ◌∙◌, subst, arith, ◌⊎◌, inl, inr, nat_eq, eqb-true, eq-eqb, None, IsTrue, ◌↔◌, slice_index_or}
 use Rattle.std.specs.Prelude.{slice_get}
 use Rattle.std.specs.List.{All, count_by}
 use Rattle.std.proofs.lemmas.List.Elements.{All-head, All-tail}
+use Rattle.std.proofs.lemmas.Option.{slice_get-get_or}
 use Rattle.std.proofs.lemmas.List.Sums.{sum_by-cons}
 use Rattle.rv_code.specs.Table.{field, Fixed, Row, has_fields, fits, first_fit, table}
 
@@ -39,6 +40,7 @@ are_all_apart [] = true
 are_all_apart (r ∷ rows) = is_apart_from r rows && are_all_apart rows
 
 table-apart : are_all_apart table ≡ true
+unfolding table
 table-apart = refl
 
 clash-never : (w : ℕ) (f g : Fixed) → clashes f g ≡ true → nat_eq (field w f.high f.low) f.value ≡ true → nat_eq (field w g.high g.low) g.value ≡ true → ⊥
@@ -126,3 +128,28 @@ first-fit-holds P w (s ∷ rows) r h e =
       | inl p ↦ (let x : s ≡ r = (let u = rw p at e in cc) in (subst P x (All-head P s rows h), ap (fits w) (sym x) ∙ p))
       | inr p ↦ first-fit-holds P w rows r (All-tail P s rows h) (rw p at e)
     ]
+
+-- each row that the word fits is the first one
+pub all-first-fit : (w : ℕ) → All (λ r. IsTrue (fits w r) → first_fit w table ≡ Some r) table
+all-first-fit w k d h p = first-fit-at w k (slice_index_or table k d) (slice_get-get_or table k d h) p
+
+none-counted : (w : ℕ) (rows : List Row) → first_fit w rows ≡ None → count_by (fits w) rows ≡ 0
+none-counted w [] e = refl
+none-counted w (r ∷ rows) e =
+    elim (true-or-false (fits w r)) [
+      inl p ↦ (let u = rw p at e in absurd (cc))
+    | inr p ↦ (let rest = rw p at e in rw (p, none-counted w rows rest) refl) ]
+
+counted-none : (w : ℕ) (rows : List Row) → count_by (fits w) rows ≡ 0 → first_fit w rows ≡ None
+counted-none w [] e = refl
+counted-none w (r ∷ rows) e =
+    let split : cond (fits w r) 1 0 + count_by (fits w) rows ≡ 0 = sym (sum_by-cons (λ x. cond (fits w x) 1 0) r rows) ∙ e in
+    by-head (fits w r) refl split (counted-none w rows)
+  where
+    by-head : (b : Bool) → fits w r ≡ b → cond b 1 0 + count_by (fits w) rows ≡ 0 → (count_by (fits w) rows ≡ 0 → first_fit w rows ≡ None) → first_fit w (r ∷ rows) ≡ None
+    by-head true p s rest = absurd (omega arith)
+    by-head false p s rest = rw p (rest (omega arith))
+
+-- no row is found exactly where the word fits none
+pub first-fit-none : (w : ℕ) → (first_fit w table ≡ None) ↔ (count_by (fits w) table ≡ 0)
+first-fit-none w = (none-counted w table, counted-none w table)

@@ -13,20 +13,20 @@ use Rattle.rv_code.specs.Encode.{word_of, encode, is_encodable, is_in_format, ha
 use Rattle.rv_code.proofs.Integers.{integer_of_bits-bits, bits_of_integer-below, bits_of_integer-even, bits_of_integer-pages}
 use Rattle.rv_code.proofs.Fields.{HasRFields, HasIFields, HasSFields, HasBFields, HasUFields, HasJFields, HasShiftFields, shift_word-fields-5, shift_word-fields-6, r_word-fields, i_word-fields, s_word-fields, b_word-fields, u_word-fields, j_word-fields}
 use Rattle.rv_code.proofs.Rows.{first-fit-at}
-use Rattle.rv_code.proofs.Codes.{IsRow, FitsCode, op_row-there, op_imm_row-there, shift_row-there, load_row-there, store_row-there, branch_row-there, upper_row-there, op_code-fits, op_imm_code-fits, load_code-fits, store_code-fits, branch_code-fits, upper_opcode-fits}
+use Rattle.rv_code.proofs.Codes.{IsRow, FitsCode, op_row-there, op_imm_row-there, shift_row-there, load_row-there, store_row-there, branch_row-there, upper_row-there, jal_row-there, jalr_row-there, fence_row-there, ecall_row-there, ebreak_row-there, op_code-fits, op_imm_code-fits, load_code-fits, store_code-fits, branch_code-fits, upper_opcode-fits}
 
 and-parts : (a b : Bool) → a && b ≡ true → (a ≡ true) × (b ≡ true)
 and-parts true b e = (refl, e)
 and-parts false b e = absurd (cc)
 
-both : (a b : Bool) → a ≡ true → b ≡ true → a && b ≡ true
+pub both : (a b : Bool) → a ≡ true → b ≡ true → a && b ≡ true
 both a b p q = rw (p, q) refl
 
-found : (w : ℕ) (r : Row) (i : Inst) → IsRow r → fits w r ≡ true → r.instruction w ≡ i → decode w ≡ Some i
+pub found : (w : ℕ) (r : Row) (i : Inst) → IsRow r → fits w r ≡ true → r.instruction w ≡ i → decode w ≡ Some i
 unfolding decode row
 found w r i h p e = rw (first-fit-at w h.place r h.is_there p) (ap Some e)
 
-code-fits : (w : ℕ) (c : Code) → field w 14 12 ≡ c.funct3 → field w 6 0 ≡ c.opcode → has_fields w (fixed_code c) ≡ true
+pub code-fits : (w : ℕ) (c : Code) → field w 14 12 ≡ c.funct3 → field w 6 0 ≡ c.opcode → has_fields w (fixed_code c) ≡ true
 code-fits w c p q = both _ _ (eq-eqb _ _ p) (both _ _ (eq-eqb _ _ q) refl)
 
 -- ---- an instruction is read from the fields of its format
@@ -59,7 +59,7 @@ upper-read op rd imm w b f =
 
 jal-read : (rd : ℕ) (imm : ℤ) (w : ℕ) → has_bits 21 imm ≡ true → HasJFields w (bits_of_integer 21 imm) rd jal_opcode → decode w ≡ Some (Jal rd imm)
 jal-read rd imm w b f =
-    found w jal_row (Jal rd imm) (record { place = 60; is_there = refl }) (both _ _ (eq-eqb _ _ f.opcode_is) refl)
+    found w jal_row (Jal rd imm) jal_row-there (both _ _ (eq-eqb _ _ f.opcode_is) refl)
     (rw (f.rd_is, f.imm_is, integer_of_bits-bits 21 imm (omega arith) b) refl)
 
 -- ---- the word of an instruction has these fields
@@ -121,10 +121,10 @@ word-reads i e = let p = and-parts (has_registers i) (is_in_format i) e in by-ki
         let m = and-parts (has_bits 21 imm) (is_multiple 2 imm) b in
         let f = j_word-fields (bits_of_integer 21 imm) rd jal_opcode (bits_of_integer-below 21 imm (omega arith) m.0) (bits_of_integer-even 21 imm (omega arith) m.0 m.1) (ltb-true _ _ r) (omega arith) in
         record { decodes = jal-read rd imm _ m.0 f; below = f.below }
-    by-kind (Jalr rd rs1 imm) r b = let x = i-word-reads Jalr jalr_code rd rs1 imm (record { place = 61; is_there = refl }) (record { funct3 = omega arith; opcode = omega arith }) r b in record { decodes = x.0; below = x.1 }
-    by-kind (Fence rd rs1 imm) r b = let x = i-word-reads Fence fence_code rd rs1 imm (record { place = 62; is_there = refl }) (record { funct3 = omega arith; opcode = omega arith }) r b in record { decodes = x.0; below = x.1 }
-    by-kind Ecall r b = record { decodes = found ecall_word (word_row ecall_word Ecall) Ecall (record { place = 63; is_there = refl }) refl refl; below = omega arith }
-    by-kind Ebreak r b = record { decodes = found ebreak_word (word_row ebreak_word Ebreak) Ebreak (record { place = 64; is_there = refl }) refl refl; below = omega arith }
+    by-kind (Jalr rd rs1 imm) r b = let x = i-word-reads Jalr jalr_code rd rs1 imm jalr_row-there (record { funct3 = omega arith; opcode = omega arith }) r b in record { decodes = x.0; below = x.1 }
+    by-kind (Fence rd rs1 imm) r b = let x = i-word-reads Fence fence_code rd rs1 imm fence_row-there (record { funct3 = omega arith; opcode = omega arith }) r b in record { decodes = x.0; below = x.1 }
+    by-kind Ecall r b = record { decodes = found ecall_word (word_row ecall_word Ecall) Ecall ecall_row-there refl refl; below = omega arith }
+    by-kind Ebreak r b = record { decodes = found ebreak_word (word_row ebreak_word Ebreak) Ebreak ebreak_row-there refl refl; below = omega arith }
 
 pub decode-word_of : (i : Inst) → is_encodable i ≡ true → decode (word_of i) ≡ Some i
 decode-word_of i e = (word-reads i e).decodes

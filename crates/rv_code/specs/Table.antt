@@ -293,7 +293,7 @@ abbrev pub single_rows : List Row
 single_rows = jal_row ∷ jalr_row ∷ fence_row ∷ word_row ecall_word Ecall ∷ word_row ebreak_word Ebreak ∷ []
 
 -- all rows
-abbrev pub table : List Row
+unfoldable pub table : List Row
 table =
     map upper_row every_upper
     ++ map branch_row every_branch

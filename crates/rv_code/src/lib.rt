@@ -2,9 +2,11 @@
 #![tactic(auto)]
 
 pub mod cause;
+pub mod decoding;
 pub mod encoding;
 pub mod instruction;
 
 pub use cause::Cause;
+pub use decoding::decode;
 pub use encoding::encode;
 pub use instruction::{BranchOp, Inst, LoadOp, OpImmOp, OpOp, Reg, ShiftOp, StoreOp, UpperOp};

@@ -1,4 +1,4 @@
--- What an operation gives fits 64 bits.
+-- What an operation gives is below 2 ^ 64.
 use Rattle.std.proofs.Common.{ℕ, zero, suc, ◌-◌, ◌/◌, ◌%◌, ◌^◌, ◌<◌, ◌≤◌, Bool, true, false, ℤ, pos, negsuc, ◌*ℤ◌, int_rem, int_div, arith, eqb, if◌then◌else◌, w64}
 use Rattle.std.specs.Int.{int_shr}
 use Rattle.std.proofs.lemmas.Int.{ints, of_z-to_z}
@@ -34,8 +34,8 @@ shr-below (negsuc n) k h = omega arith
 signed-below : (n k : ℕ) → n < 2 ^ 64 → unsigned (int_shr (signed n) k) < 2 ^ 64
 signed-below n k h = shr-below (signed n) k (omega (arith, of_z-to_z w64 n h))
 
-signed32-below : (n k : ℕ) → unsigned (int_shr (signed_word n) k) < 2 ^ 64
-signed32-below n k = shr-below (signed_word n) k (word-below n)
+signed_word-below : (n k : ℕ) → unsigned (int_shr (signed_word n) k) < 2 ^ 64
+signed_word-below n k = shr-below (signed_word n) k (word-below n)
 
 abs-signed : (n : ℕ) → n < 2 ^ 64 → unsigned_abs (signed n) ≤ 2 ^ 63
 abs-signed n h = omega (arith, ints)
@@ -73,7 +73,7 @@ operation-below Addw a b p q = word-below _
 operation-below Subw a b p q = word-below _
 operation-below Sllw a b p q = word-below _
 operation-below Srlw a b p q = word-below _
-operation-below Sraw a b p q = signed32-below a (b % 32)
+operation-below Sraw a b p q = signed_word-below a (b % 32)
 operation-below Mul a b p q = omega arith
 operation-below Mulh a b p q = high-below (signed a) (signed b) (abs-signed a p) (omega (arith, abs-signed b q))
 operation-below Mulhsu a b p q = high-below (signed a) (pos b) (abs-signed a p) (omega arith)
@@ -103,7 +103,7 @@ shift_operation-below Srli a k p = omega (arith, shr_le a k)
 shift_operation-below Srai a k p = signed-below a k p
 shift_operation-below Slliw a k p = word-below _
 shift_operation-below Srliw a k p = word-below _
-shift_operation-below Sraiw a k p = signed32-below a k
+shift_operation-below Sraiw a k p = signed_word-below a k
 
 pub upper_value-below : (o : UpperOp) (pc : ℕ) (z : ℤ) → unsigned z < 2 ^ 64 → upper_value o pc z < 2 ^ 64
 upper_value-below Lui pc z q = q
