@@ -208,21 +208,12 @@ module _ (base : ℕ) (code : List Inst) (m : Meaning) where
       related = s.related;
       reached = s.reached;
       moments = λ j lt.
-<<<<<<< HEAD
-          let b = between j (omega arith) in
-          ⊎_elim
-          (λ p. record { now = b.0; runs = b.1; shown = c; reached = h; output = p ∙ o; pace = omega arith })
-          (λ p. shows-next state c next count j b.0 b.1 h' (p ∙ o') (omega arith) (omega (arith, m.ample)))
-          b.2;
-      paid = paid;
-=======
           let b = s.between j (omega arith) in
           ⊎_elim
           (λ p. record { now = b.0; runs = b.1; shown = c; reached = s.started; output = p ∙ s.before; pace = omega (arith, s.short) })
           (λ p. shows-next state c s.next s.count j b.0 b.1 s.reached (p ∙ s.output) (omega arith) (omega (arith, m.ample, s.paid)))
           b.2;
       paid = s.paid;
->>>>>>> 9cb644bbd306e133965d12326e15d88c116e4951
     }
 
     -- a stretch without output, and then an instruction that exits
