@@ -144,7 +144,8 @@ pub(crate) fn words_of_items(
     requires labels { All (NamesBelow (length spots.now)) items.now }
     requires room { total items.now < 2 ^ 28 }
     requires spots { (l : ℕ) → l < length spots.now → slice_index spots.now l ≡ spot items.now l }
-    ensures { IfOk result (λ words. map Some words.items ≡ map encode (code_of items.now)) }
+    ensures words { IfOk result (λ words. map Some words.items ≡ map encode (code_of items.now)) }
+    ensures len { IfOk result (λ words. vec_len words ≡ total items.now) }
 {
     let mut words = Vec::new(alloc);
     for item in items {
