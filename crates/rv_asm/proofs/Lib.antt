@@ -19,4 +19,5 @@ pub mod Messages
 pub mod Distances
 pub mod Labels
 pub mod LabelsKept
+pub mod LabelsArrive
 mod Examples

@@ -6,6 +6,8 @@ mod assemble;
 mod far;
 pub mod item;
 mod resolve;
+#[cfg(test)]
+mod tests;
 
 pub use asm::{Asm, Code};
 pub use item::{Item, Label};
