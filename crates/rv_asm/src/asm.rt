@@ -1,6 +1,6 @@
 //! The assembler: instructions and labels in, words out.
 
-ghost use Rattle.std.specs.Prelude.{◌≡◌, ◌≢◌, ℕ, ◌<◌, ◌+◌, ◌*◌, [], ◌∷◌, ◌++◌, IfOk, OnOk, OnErr, IsTrue, All, Ok, Some, false, map, length};
+ghost use Rattle.std.specs.Prelude.{◌≡◌, ◌≢◌, ℕ, ◌<◌, ◌+◌, ◌*◌, [], ◌∷◌, ◌++◌, IfOk, OnOk, OnErr, IsTrue, All, Ok, Some, false, map, vec_len};
 ghost use Rattle.rv_code.specs.Encode.{is_in_format, encode};
 ghost use Rattle.rv_asm.specs.Assembly.{total, is_placed, is_mark, code_of, NamesBelow, IsSound};
 ghost use Rattle.rv_asm.specs.Arrivals.{LabelsStand, JumpsArrive, TakenBranchesArrive, OtherBranchesPass, AddressesLoad};
@@ -141,6 +141,7 @@ impl Asm {
     pub fn finish(self) -> Result<Code, Memory>
         requires { 4 * total self.items < 1073741824 }
         ensures words { IfOk result (λ code. map Some code.words.items ≡ map encode (code_of self.items)) }
+        ensures size { IfOk result (λ code. vec_len code.words ≡ total self.items) }
 
         // What a machine that runs these words does at the items.
         ensures labels { OnOk result (LabelsStand self.items) }

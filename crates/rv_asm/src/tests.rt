@@ -13,13 +13,14 @@ const ZERO: Reg = Reg(0);
 
 const COUNT: Reg = Reg(5);
 
+#[tactic(auto, using(crate::proofs::LabelsKept::pushes))]
 // Appends an instruction that does nothing, many times.
 fn append_nothing(asm: &mut Asm, times: usize) -> Result<(), Memory>
     ensures labels { OnOk result (asm.new.labels ≡ asm.old.labels) }
     ensures total { OnOk result (total asm.new.items ≡ total asm.old.items + times) }
     ensures placed { OnOk result ((l : ℕ) → is_placed asm.new.items l ≡ is_placed asm.old.items l) }
 {
-    for _ in 0..times {
+    for _index in 0..times {
         asm.emit(Inst::OpImm {
             op: OpImmOp::Addi,
             rd: ZERO,
@@ -30,6 +31,7 @@ fn append_nothing(asm: &mut Asm, times: usize) -> Result<(), Memory>
     Ok(())
 }
 
+#[tactic(auto, using(crate::proofs::LabelsKept::pushes))]
 // Counts down from 3, in a loop of more than 4096 bytes, and then has the loop's address in register 10.
 fn counts_down(alloc: Global) -> Result<Code, Memory> {
     let mut asm = Asm::new(alloc)?;
