@@ -21,3 +21,4 @@ pub mod Labels
 pub mod LabelsKept
 pub mod LabelsArrive
 mod Examples
+mod LabelsExample
