@@ -20,3 +20,4 @@ pub mod Distances
 pub mod Labels
 pub mod LabelsKept
 mod Examples
+pub mod Appended

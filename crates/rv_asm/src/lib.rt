@@ -5,6 +5,7 @@ pub mod asm;
 mod assemble;
 mod far;
 pub mod item;
+pub mod pieces;
 mod resolve;
 
 pub use asm::{Asm, Code};
