@@ -1,11 +1,10 @@
 -- The decimal of a number: its recursion, its length, and that its digits spell the number.
-use Rattle.std.proofs.Common.{◌≡◌, ℕ, zero, suc, ◌+◌, ◌-◌, ◌*◌, ◌/◌, ◌%◌, ◌^◌, ◌<◌, ◌≤◌, Bool, true, false, cond, ◌&&◌, eqb, List, [], ◌∷◌, ◌++◌, length, Some, None, Option, refl, sym, ap, ◌∙◌, arith, rules, length-append, lit≤, lit<, nat_lt, ℤ, pos, negsuc}
+use Rattle.std.proofs.Common.{◌≡◌, ℕ, zero, suc, ◌+◌, ◌/◌, ◌%◌, ◌^◌, ◌<◌, ◌≤◌, true, false, eqb, List, [], ◌∷◌, ◌++◌, length, Some, refl, ap, ◌∙◌, arith, rules, length-append, lit<, nat_lt, pos}
 use Rattle.std.specs.Fmt.{decimal}
-use Rattle.std.specs.Option.{option_map, option_and_then}
 use Rattle.std.specs.Str.{all_ascii_digits}
 use Rattle.std.proofs.lemmas.Fmt.{AppendsLastDigit, decimal_from_appends, length-decimal-le_succ, length-decimal-le, decimal_nonempty, digits_decimal, digits_value-decimal}
 use Rattle.std.proofs.lemmas.Str.Parse.{IsNumeralModel, numerals_by_weight, tells_all_ascii_digits}
-use Rattle.acg_base.specs.Decimals.{decimal_within, unsigned_decimal_of, decimal_of, number_of, spelled_number, spelled_integer, spelled_i64, fits_i64}
+use Rattle.acg_base.specs.Decimals.{decimal_within, unsigned_decimal_of, number_of, spelled_number, spelled_integer}
 
 decimal_within-digit : (places number : ℕ) → number < 10 → decimal_within (suc places) number ≡ (48 + number) ∷ []
 unfolding decimal_within
@@ -26,11 +25,12 @@ decimal_within-spare : (more less number : ℕ) → number < more → number < l
 decimal_within-spare zero less number h k = absurd (omega arith)
 decimal_within-spare (suc more) zero number h k = absurd (omega arith)
 decimal_within-spare (suc more) (suc less) number h k =
-    elim (nat_lt number 10) as (λ t. nat_lt number 10 ≡ t → decimal_within (suc more) number ≡ decimal_within (suc less) number)
-    [ true ↦ λ e. let small : number < 10 = search rules in rw (decimal_within-digit more number small, decimal_within-digit less number small) refl
-    | false ↦ λ e. let large : 10 ≤ number = search rules in
-        let same : decimal_within more (number / 10) ≡ decimal_within less (number / 10) = decimal_within-spare more less (number / 10) (omega arith) (omega arith) in
-        rw (decimal_within-step more number large, decimal_within-step less number large, same) refl ] refl
+    elim (nat_lt number 10) as (λ t. nat_lt number 10 ≡ t → decimal_within (suc more) number ≡ decimal_within (suc less) number) [
+      | true ↦ λ e. let small : number < 10 = search rules in rw (decimal_within-digit more number small, decimal_within-digit less number small) refl
+      | false ↦ λ e. let large : 10 ≤ number = search rules in
+          let same : decimal_within more (number / 10) ≡ decimal_within less (number / 10) = decimal_within-spare more less (number / 10) (omega arith) (omega arith) in
+          rw (decimal_within-step more number large, decimal_within-step less number large, same) refl
+    ] refl
 
 -- the recursion of the decimal: a number below ten is its one digit
 pub unsigned_decimal_of-digit : (number : ℕ) → number < 10 → unsigned_decimal_of number ≡ (48 + number) ∷ []

@@ -1,5 +1,5 @@
 -- `parse` reads exactly the integers that bytes spell with no plus.
-use Rattle.std.proofs.Common.{◌≡◌, ◌≢◌, ℕ, zero, suc, ◌<◌, ◌≤◌, ◌^◌, Bool, true, false, eqb, List, [], ◌∷◌, length, get_or, Some, None, Option, Ok, Err, Result, refl, sym, ap, ◌∙◌, arith, rules, nat_lt, ℤ, pos, neg_ℤ, w64}
+use Rattle.std.proofs.Common.{◌≡◌, ◌≢◌, ℕ, zero, suc, ◌<◌, ◌≤◌, ◌^◌, true, false, eqb, List, [], ◌∷◌, length, get_or, Some, None, Ok, Err, Result, refl, sym, ap, ◌∙◌, arith, rules, ℤ, pos, neg_ℤ, w64}
 use Rattle.std.specs.Result.{result_ok, OkIff}
 use Rattle.std.specs.Str.{all_ascii_digits, IsUtf8, IsAscii}
 use Rattle.std.specs.Str.Parse.{ParsesSigned}
@@ -7,9 +7,9 @@ use Rattle.std.proofs.lemmas.Str.{IsUtf8-from_ascii}
 use Rattle.std.proofs.lemmas.Str.Ascii.{IsAscii-nil}
 use Rattle.std.proofs.lemmas.Fmt.{IsAscii-from_digits}
 use Rattle.std.proofs.lemmas.Str.Parse.{parse_signed_minus, parse_signed_plain}
-use Rattle.acg_base.specs.Decimals.{number_of, spelled_number, spelled_i64, fits_i64}
+use Rattle.acg_base.specs.Decimals.{number_of, spelled_i64}
 use Rattle.acg_base.proofs.DecimalLemmas.{spelling}
-use Rattle.acg_base.proofs.SpellingLemmas.{Spells, spelled_i64-minus, spelled_i64-plain, spelled_i64-minus_of, spelled_i64-plain_of}
+use Rattle.acg_base.proofs.SpellingLemmas.{spelled_i64-minus, spelled_i64-plain, spelled_i64-minus_of, spelled_i64-plain_of}
 
 -- nothing is spelled where a spelled integer would be absurd
 spells_nothing : (bytes : List ℕ) → ((integer : ℤ) → spelled_i64 bytes ≡ Some integer → ⊥) → None ≡ spelled_i64 bytes
@@ -18,16 +18,18 @@ spells_nothing bytes none =
 
 from_minus : {E : Type 0} (bytes : List ℕ) (r : Result ℤ E) → ParsesSigned w64 10 (45 ∷ bytes) r → result_ok r ≡ spelled_i64 (45 ∷ bytes)
 from_minus {E} bytes r h =
-    elim r as (λ (q : Result ℤ E). OkIff q ((all_ascii_digits bytes ≡ true) × (0 < length bytes) × (number_of bytes ≤ 2 ^ 63)) (neg_ℤ (pos (number_of bytes))) → result_ok q ≡ spelled_i64 (45 ∷ bytes))
-    [ Ok x ↦ λ o. ap Some o.1 ∙ sym (spelled_i64-minus_of bytes o.0.0 o.0.1 o.0.2)
-    | Err e ↦ λ o. spells_nothing (45 ∷ bytes) (λ integer s. let p = spelled_i64-minus bytes integer s in o (p.1.digits, p.1.some, rw (sym p.1.value) p.2)) ]
+    elim r as (λ (q : Result ℤ E). OkIff q ((all_ascii_digits bytes ≡ true) × (0 < length bytes) × (number_of bytes ≤ 2 ^ 63)) (neg_ℤ (pos (number_of bytes))) → result_ok q ≡ spelled_i64 (45 ∷ bytes)) [
+      | Ok x ↦ λ o. ap Some o.1 ∙ sym (spelled_i64-minus_of bytes o.0.0 o.0.1 o.0.2)
+      | Err e ↦ λ o. spells_nothing (45 ∷ bytes) (λ integer s. let p = spelled_i64-minus bytes integer s in o (p.1.digits, p.1.some, rw (sym p.1.value) p.2))
+    ]
     (parse_signed_minus spelling w64 (45 ∷ bytes) r h refl)
 
 from_plain : {E : Type 0} (byte : ℕ) (bytes : List ℕ) (r : Result ℤ E) → ParsesSigned w64 10 (byte ∷ bytes) r → byte ≢ 43 → byte ≢ 45 → eqb byte 45 ≡ false → result_ok r ≡ spelled_i64 (byte ∷ bytes)
 from_plain {E} byte bytes r h plus minus apart =
-    elim r as (λ (q : Result ℤ E). OkIff q ((all_ascii_digits (byte ∷ bytes) ≡ true) × (0 < length (byte ∷ bytes)) × (number_of (byte ∷ bytes) < 2 ^ 63)) (pos (number_of (byte ∷ bytes))) → result_ok q ≡ spelled_i64 (byte ∷ bytes))
-    [ Ok x ↦ λ o. ap Some o.1 ∙ sym (spelled_i64-plain_of byte bytes apart o.0.0 o.0.2)
-    | Err e ↦ λ o. spells_nothing (byte ∷ bytes) (λ integer s. let p = spelled_i64-plain byte bytes integer apart s in o (p.1.digits, p.1.some, rw (sym p.1.value) p.2)) ]
+    elim r as (λ (q : Result ℤ E). OkIff q ((all_ascii_digits (byte ∷ bytes) ≡ true) × (0 < length (byte ∷ bytes)) × (number_of (byte ∷ bytes) < 2 ^ 63)) (pos (number_of (byte ∷ bytes))) → result_ok q ≡ spelled_i64 (byte ∷ bytes)) [
+      | Ok x ↦ λ o. ap Some o.1 ∙ sym (spelled_i64-plain_of byte bytes apart o.0.0 o.0.2)
+      | Err e ↦ λ o. spells_nothing (byte ∷ bytes) (λ integer s. let p = spelled_i64-plain byte bytes integer apart s in o (p.1.digits, p.1.some, rw (sym p.1.value) p.2))
+    ]
     (parse_signed_plain spelling w64 (byte ∷ bytes) r h plus minus)
 
 from_nothing : {E : Type 0} (r : Result ℤ E) → ParsesSigned w64 10 [] r → result_ok r ≡ None
@@ -39,9 +41,10 @@ from_nothing {E} r h =
 pub spelled_i64-from_parse : {E : Type 0} (bytes : List ℕ) (r : Result ℤ E) → ParsesSigned w64 10 bytes r → get_or bytes 0 0 ≢ 43 → result_ok r ≡ spelled_i64 bytes
 spelled_i64-from_parse [] r h plus = from_nothing r h
 spelled_i64-from_parse {E} (byte ∷ bytes) r h plus =
-    elim (eqb byte 45) as (λ t. eqb byte 45 ≡ t → result_ok r ≡ spelled_i64 (byte ∷ bytes))
-    [ true ↦ λ e. let is : byte ≡ 45 = search rules in rw is (from_minus bytes r (rw is at h))
-    | false ↦ λ e. from_plain byte bytes r h plus (let apart : byte ≢ 45 = search rules in apart) e ] refl
+    elim (eqb byte 45) as (λ t. eqb byte 45 ≡ t → result_ok r ≡ spelled_i64 (byte ∷ bytes)) [
+      | true ↦ λ e. let is : byte ≡ 45 = search rules in rw is (from_minus bytes r (rw is at h))
+      | false ↦ λ e. from_plain byte bytes r h plus (let apart : byte ≢ 45 = search rules in apart) e
+    ] refl
 
 ascii-cons : (byte : ℕ) (bytes : List ℕ) → byte < 128 → IsAscii bytes → IsAscii (byte ∷ bytes)
 ascii-cons byte bytes small rest zero = small
@@ -51,13 +54,14 @@ ascii-cons byte bytes small rest (suc i) = rest i
 spelled_ascii : (bytes : List ℕ) (integer : ℤ) → spelled_i64 bytes ≡ Some integer → IsAscii bytes
 spelled_ascii [] integer s = IsAscii-nil
 spelled_ascii (byte ∷ bytes) integer s =
-    elim (eqb byte 45) as (λ t. eqb byte 45 ≡ t → IsAscii (byte ∷ bytes))
-    [ true ↦ λ e. let is : byte ≡ 45 = search rules in
-        let p = spelled_i64-minus bytes integer (rw is at s) in
-        let digits : IsAscii bytes = IsAscii-from_digits bytes (spelling.to bytes p.1.digits) in
-        rw is (ascii-cons 45 bytes (omega arith) digits)
-    | false ↦ λ e. let p = spelled_i64-plain byte bytes integer e s in
-        IsAscii-from_digits (byte ∷ bytes) (spelling.to (byte ∷ bytes) p.1.digits) ] refl
+    elim (eqb byte 45) as (λ t. eqb byte 45 ≡ t → IsAscii (byte ∷ bytes)) [
+      | true ↦ λ e. let is : byte ≡ 45 = search rules in
+          let p = spelled_i64-minus bytes integer (rw is at s) in
+          let digits : IsAscii bytes = IsAscii-from_digits bytes (spelling.to bytes p.1.digits) in
+          rw is (ascii-cons 45 bytes (omega arith) digits)
+      | false ↦ λ e. let p = spelled_i64-plain byte bytes integer e s in
+          IsAscii-from_digits (byte ∷ bytes) (spelling.to (byte ∷ bytes) p.1.digits)
+    ] refl
 
 -- bytes that are no text spell nothing
 pub spelled_i64-no_text : (bytes : List ℕ) → (IsUtf8 bytes → ⊥) → spelled_i64 bytes ≡ None

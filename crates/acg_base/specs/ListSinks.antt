@@ -1,6 +1,6 @@
 -- A sink in memory, as its callers see it.
 use Rattle.std.specs.Prelude.{ℕ, ◌+◌, ◌-◌, ◌||◌, Bool, List, [], ◌++◌, length, take, nat_lt, if◌then◌else◌}
-use Rattle.acg_base.specs.MapStores.{counted, is_listed}
+use Rattle.acg_base.specs.Outside.{counted, is_listed}
 
 -- the room for bytes, the bytes written, the numbers of the writes that are to fail, and the counts of calls and of faults
 pub record SinkState : Type 0 where
@@ -9,6 +9,10 @@ pub record SinkState : Type 0 where
   pub failing : List ℕ
   pub writes : ℕ
   pub faults : ℕ
+
+-- an empty sink at its start
+abbrev pub fresh : ℕ → List ℕ → SinkState
+fresh room failing = record { room = room; bytes = []; failing = failing; writes = 0; faults = 0 }
 
 -- the next write fails before it appends: its number is listed
 abbrev pub is_to_fail : SinkState → Bool
@@ -23,9 +27,5 @@ abbrev pub after_write : SinkState → List ℕ → SinkState
 after_write sink piece = record sink {
   bytes = if is_to_fail sink then sink.bytes else sink.bytes ++ take (sink.room - length sink.bytes) piece;
   writes = counted sink.writes;
-  faults = if write_fails sink piece then counted sink.faults else sink.faults
+  faults = if write_fails sink piece then counted sink.faults else sink.faults;
 }
-
--- an empty sink at its start
-abbrev pub fresh : ℕ → List ℕ → SinkState
-fresh room failing = record { room = room; bytes = []; failing = failing; writes = 0; faults = 0 }

@@ -1,10 +1,9 @@
 -- A store in memory, as its callers see it.
-use Rattle.std.specs.Prelude.{ℕ, suc, option_map, ◌+◌, ◌-◌, ◌^◌, ◌==◌, ◌||◌, Bool, List, [], ◌∷◌, min, map, Option, Some, None, is_none, if◌then◌else◌}
-use Rattle.std.specs.List.{list_any}
+use Rattle.std.specs.Prelude.{ℕ, suc, ◌||◌, Bool, List, [], ◌∷◌, Option, Some, None, is_none, if◌then◌else◌, Vec}
+use Rattle.std.specs.Option.{option_map}
 use Rattle.std.specs.Str.{bytes_eq}
 use Rattle.std.specs.declared.alloc.Global.{Global}
-use Rattle.std.specs.Prelude.{Vec}
-use Rattle.acg_base.specs.Outside.{Contents}
+use Rattle.acg_base.specs.Outside.{Contents, counted, is_listed}
 
 -- a file: its name and its bytes
 abbrev pub File : Type 0
@@ -29,13 +28,22 @@ abbrev pub content_of : List File → Contents
 content_of [] name = None
 content_of (file ∷ files) name = if bytes_eq file.0 name then Some file.1 else content_of files name
 
--- one more, where a count stays at the greatest value of 64 bits
-abbrev pub counted : ℕ → ℕ
-counted count = min (count + 1) (2 ^ 64 - 1)
+-- the place of the first file of that name
+abbrev pub place_in : List File → List ℕ → Option ℕ
+place_in [] name = None
+place_in (file ∷ files) name = if bytes_eq file.0 name then Some 0 else option_map suc (place_in files name)
 
--- the number of the call stands in the list
-abbrev pub is_listed : List ℕ → ℕ → Bool
-is_listed numbers call = list_any (λ number. number == call) numbers
+-- a store of these files at its start, with the numbers of the reads and writes that are to fail
+abbrev pub fresh : List File → List ℕ → List ℕ → MapState
+fresh files reads writes = record {
+  files = files;
+  failing_reads = reads;
+  failing_writes = writes;
+  reads = 0;
+  writes = 0;
+  failed_reads = 0;
+  failed_writes = 0;
+}
 
 -- the next read of the name fails: its number is listed, or the name isn't there
 abbrev pub read_fails : MapState → List ℕ → Bool
@@ -49,7 +57,7 @@ write_fails store = is_listed store.failing_writes store.writes
 abbrev pub after_read : MapState → List ℕ → MapState
 after_read store name = record store {
   reads = counted store.reads;
-  failed_reads = if read_fails store name then counted store.failed_reads else store.failed_reads
+  failed_reads = if read_fails store name then counted store.failed_reads else store.failed_reads;
 }
 
 -- the store after a write that leaves these files: the call is counted, and its fault
@@ -57,22 +65,5 @@ abbrev pub after_write : MapState → List File → MapState
 after_write store files = record store {
   files = files;
   writes = counted store.writes;
-  failed_writes = if write_fails store then counted store.failed_writes else store.failed_writes
+  failed_writes = if write_fails store then counted store.failed_writes else store.failed_writes;
 }
-
--- a store of these files at its start, with the numbers of the reads and writes that are to fail
-abbrev pub fresh : List File → List ℕ → List ℕ → MapState
-fresh files reads writes = record {
-  files = files;
-  failing_reads = reads;
-  failing_writes = writes;
-  reads = 0;
-  writes = 0;
-  failed_reads = 0;
-  failed_writes = 0
-}
-
--- the place of the first file of that name
-abbrev pub place_in : List File → List ℕ → Option ℕ
-place_in [] name = None
-place_in (file ∷ files) name = if bytes_eq file.0 name then Some 0 else option_map suc (place_in files name)

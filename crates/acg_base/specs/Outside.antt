@@ -1,5 +1,6 @@
 -- What lies outside a request: contents by name, what was written, and counts of faults.
-use Rattle.std.specs.Prelude.{◌≡◌, ◌≢◌, ℕ, ◌+◌, ◌-◌, ◌^◌, ◌<◌, ◌≤◌, ◌⊎◌, List, ◌++◌, length, take, Option}
+use Rattle.std.specs.Prelude.{◌≡◌, ◌≢◌, ℕ, ◌+◌, ◌-◌, ◌^◌, ◌<◌, ◌≤◌, ◌==◌, ◌⊎◌, Bool, List, ◌++◌, length, min, take, Option}
+use Rattle.std.specs.List.{list_any}
 
 -- what a store has at each name: its bytes, or nothing where the name isn't there
 abbrev pub Contents : Type 0
@@ -33,3 +34,11 @@ Grew old new = old < new
 -- a count grew in the call, or stands at the greatest value of 64 bits, where it stays
 abbrev pub Rose : ℕ → ℕ → Type 0
 Rose old new = Grew old new ⊎ (new ≡ 2 ^ 64 - 1)
+
+-- one more, where a count stays at the greatest value of 64 bits
+abbrev pub counted : ℕ → ℕ
+counted count = min (count + 1) (2 ^ 64 - 1)
+
+-- the number of the call stands in the list
+abbrev pub is_listed : List ℕ → ℕ → Bool
+is_listed numbers call = list_any (λ number. number == call) numbers

@@ -18,8 +18,11 @@ pub struct FolderStore<R: Files + Drop> {
 }
 
 impl<R: Files + Drop> FolderStore<R> {
-    /// The files that the runtime reaches.
-    pub fn new(rt: R) -> FolderStore<R> {
+    /// The files that the runtime reaches, with no fault so far.
+    pub fn new(rt: R) -> FolderStore<R>
+        ensures reads { ⟦<FolderStore<R> as Store>⟧.failed_reads result ≡ 0 }
+        ensures writes { ⟦<FolderStore<R> as Store>⟧.failed_writes result ≡ 0 }
+    {
         FolderStore {
             rt,
             failed_reads: 0,

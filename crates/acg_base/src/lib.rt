@@ -1,6 +1,7 @@
 //! What every crate of the compiler generator stands on: words, names, limits and statuses, decimals, stores and sinks.
 #![tactic(auto)]
 
+mod call_numbers;
 mod capacity;
 mod decimal;
 mod folder_store;
@@ -31,3 +32,8 @@ pub use sink::{Sink, SinkError};
 pub use status::Status;
 pub use store::{Store, StoreError};
 pub use words::Words;
+
+#[cfg(test)]
+mod callers;
+#[cfg(test)]
+mod tests;

@@ -2,7 +2,7 @@
 
 ghost use Rattle.std.specs.Prelude.{◌≡◌, IfOk};
 
-use crate::map_store::is_listed;
+use crate::call_numbers::is_listed;
 use crate::memory::Memory;
 use crate::sink::{Sink, SinkError};
 use std::alloc::Global;
@@ -25,11 +25,11 @@ impl Model for ListSink {
     ghost Value = { SinkState };
 
     ghost view = { λ sink. record {
-        room = sink.room;
-        bytes = sink.bytes.items;
-        failing = sink.failing.items;
-        writes = sink.writes;
-        faults = sink.faults
+      room = sink.room;
+      bytes = sink.bytes.items;
+      failing = sink.failing.items;
+      writes = sink.writes;
+      faults = sink.faults;
     } };
 
     ghost invariant = { λ sink. (length sink.bytes.items ≤ sink.room) × (sink.room ≤ vec_capacity sink.bytes) };

@@ -2,9 +2,10 @@
 
 ghost use Rattle.std.specs.Prelude.{◌≡◌, ◌↔◌, ◌+◌, ◌<◌, ◌++◌, [], map, length, Some, IsTrue, IsErrOf, IfSome, OnOk, OnErr};
 ghost use Rattle.std.specs.Option.{option_copied};
-ghost use Rattle.acg_base.specs.Outside.{SameElsewhere, front};
-ghost use Rattle.acg_base.specs.MapStores.{plain_file, content_of, place_in, is_listed as is_listed_in};
+ghost use Rattle.acg_base.specs.Outside.{SameElsewhere};
+ghost use Rattle.acg_base.specs.MapStores.{plain_file, content_of, place_in};
 
+use crate::call_numbers::is_listed;
 use crate::name::Name;
 use crate::store::{Store, StoreError};
 use std::alloc::Global;
@@ -32,13 +33,13 @@ impl Model for MapStore {
     ghost Value = { MapState };
 
     ghost view = { λ store. record {
-        files = map plain_file store.files.items;
-        failing_reads = store.failing_reads.items;
-        failing_writes = store.failing_writes.items;
-        reads = store.reads;
-        writes = store.writes;
-        failed_reads = store.failed_reads;
-        failed_writes = store.failed_writes
+      files = map plain_file store.files.items;
+      failing_reads = store.failing_reads.items;
+      failing_writes = store.failing_writes.items;
+      reads = store.reads;
+      writes = store.writes;
+      failed_reads = store.failed_reads;
+      failed_writes = store.failed_writes;
     } };
 }
 
@@ -74,7 +75,7 @@ fn put(files: &mut Vec<(Name, Vec<u8>)>, name: Name, bytes: Vec<u8>) -> Result<(
     ensures others { OnOk result (SameElsewhere (content_of (map plain_file files.old.items))
         (content_of (map plain_file files.new.items)) name) }
     ensures err { OnErr result (files.new.items ≡ files.old.items) }
-    ensures memory { IsErrOf result StoreError.Failed → ⊥ }
+    ensures memory { ¬ (IsErrOf result StoreError.Failed) }
 {
     match place_of(files.as_slice(), &name) {
         Some(place) => {
@@ -86,13 +87,6 @@ fn put(files: &mut Vec<(Name, Vec<u8>)>, name: Name, bytes: Vec<u8>) -> Result<(
             Ok(())
         }
     }
-}
-
-// Whether the number of the call stands in the list.
-pub(crate) fn is_listed(numbers: &[u32], call: u64) -> bool
-    ensures { result ≡ is_listed_in numbers.now call }
-{
-    numbers.iter().any(|number| u64::from(*number) == call)
 }
 
 impl MapStore {

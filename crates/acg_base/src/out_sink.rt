@@ -1,5 +1,7 @@
 //! Standard output.
 
+ghost use Rattle.std.specs.Prelude.{◌≡◌};
+
 use crate::sink::{Sink, SinkError};
 use std::io;
 use std::io::Write;
@@ -12,8 +14,10 @@ pub struct OutSink<R: Print + Drop> {
 }
 
 impl<R: Print + Drop> OutSink<R> {
-    /// The standard output of the runtime.
-    pub fn new(rt: R) -> OutSink<R> {
+    /// The standard output of the runtime, with no fault so far.
+    pub fn new(rt: R) -> OutSink<R>
+        ensures { ⟦<OutSink<R> as Sink>⟧.faults result ≡ 0 }
+    {
         OutSink { rt, faults: 0 }
     }
 }

@@ -56,6 +56,7 @@ with_effect e t = record { place = []; effect = e; made = []; tree = t }
 -- completed with nothing; failed
 abbrev pub done : Tree
 done = Ended (Done [] NoBinds)
+
 abbrev pub failed : Tree
 failed = Ended Fail
 

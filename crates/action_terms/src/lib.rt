@@ -2,4 +2,10 @@
 //! stands in `specs/`, as definitions alone; the code here makes graphs of nodes.
 #![tactic(auto)]
 
+mod bodies;
+pub mod builder;
+pub mod graph;
 pub mod kinds;
+mod linking;
+mod places;
+pub mod pushed;

@@ -4,7 +4,7 @@ use Rattle.std.proofs.lemmas.List.Elements.{All-nil, All-cons}
 use Rattle.rv_code.specs.Bytes.{bytes_of}
 use Rattle.rv_code.specs.Encode.{is_encodable, encode, word_of}
 use Rattle.rv_code.specs.declared.instruction.Inst.{Inst}
-use Rattle.rv_asm.specs.Conventions.{code_bytes, instruction_bytes}
+use Rattle.rv_asm.specs.Conventions.{code_bytes, instruction_bytes, program_segments, compiled_segments}
 
 -- each instruction encodes, as nested pairs
 abbrev pub EachEncodes : List Inst → Type 0
@@ -49,3 +49,9 @@ words-encoded (w ∷ words) (i ∷ code) e =
     let first : encode i ≡ Some w = cc in
     let rest : map Some words ≡ map encode code = cc in
     encodings-cons w words i code first (words-encoded words code rest)
+
+-- so the segments are those of the code
+pub program_segments-encoded :
+    (words : List ℕ) (code : List Inst) (stack units : ℕ) → AreEncodings words code →
+    program_segments words stack units ≡ compiled_segments code stack units
+program_segments-encoded words code stack units a = rw (a.bytes, a.size) refl

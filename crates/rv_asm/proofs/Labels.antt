@@ -12,6 +12,9 @@ pub total-append : (a b : List Item) → total (a ++ b) ≡ total a + total b
 total-append [] b = sym (zero-add (total b))
 total-append (i ∷ a) b = omega (arith, total-append a b)
 
+pub total-push : (items : List Item) (x : Item) → total (items ++ x ∷ []) ≡ total items + size x
+total-push items x = total-append items (x ∷ []) ∙ omega arith
+
 pub total-take_more : (xs : List Item) (i : ℕ) (d : Item) → i < length xs → total (take (i + 1) xs) ≡ total (take i xs) + size (get_or xs i d)
 total-take_more xs i d h = ap total (take_more xs i d h) ∙ total-append (take i xs) (get_or xs i d ∷ []) ∙ omega arith
 

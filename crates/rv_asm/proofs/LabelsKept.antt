@@ -4,11 +4,13 @@ use Rattle.std.specs.Prelude.{All}
 use Rattle.std.proofs.lemmas.List.Elements.{All-push, All-head, All-tail}
 use Rattle.rv_asm.specs.declared.item.Item.{Item}
 use Rattle.rv_asm.specs.declared.item.Item.TheVariants.{Plain, Mark, Jump, BranchTo, Address}
+use Rattle.rv_asm.proofs.Labels.{total-push}
 use Rattle.rv_asm.specs.Assembly.{is_placed, is_mark, are_placed_once, open_labels, NamesBelow, IsSound, IsKept}
 
 -- ---- placed labels
 
-placed-push : (items : List Item) (x : Item) (l : ℕ) → is_mark x ≡ false → is_placed (items ++ x ∷ []) l ≡ is_placed items l
+-- what is no mark places nothing
+pub placed-push : (items : List Item) (x : Item) (l : ℕ) → is_mark x ≡ false → is_placed (items ++ x ∷ []) l ≡ is_placed items l
 placed-push [] (Plain i) l h = refl
 placed-push [] (Mark k) l h = absurd (cc)
 placed-push [] (Jump k) l h = refl
@@ -26,7 +28,7 @@ or-swap true false c = refl
 or-swap false true c = refl
 or-swap false false c = refl
 
-placed-mark : (items : List Item) (m l : ℕ) → is_placed (items ++ Mark m ∷ []) l ≡ eqb m l || is_placed items l
+pub placed-mark : (items : List Item) (m l : ℕ) → is_placed (items ++ Mark m ∷ []) l ≡ eqb m l || is_placed items l
 placed-mark [] m l = refl
 placed-mark (Plain i ∷ is) m l = placed-mark is m l
 placed-mark (Mark k ∷ is) m l = ap (λ p. eqb k l || p) (placed-mark is m l) ∙ or-swap (eqb k l) (eqb m l) (is_placed is l)
@@ -192,3 +194,6 @@ module _ (items : List Item) (labels count room more : ℕ) (kept : IsKept items
     numbered = omega (arith, kept.numbered, length-push items (Mark m));
     room = omega (arith, IsKept-open m h p, kept.room, length-push items (Mark m));
   }
+
+-- what the items are after a call
+pub ruleset pushes = (total-push, placed-push, placed-mark)

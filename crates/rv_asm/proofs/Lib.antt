@@ -19,5 +19,6 @@ pub mod Messages
 pub mod Distances
 pub mod Labels
 pub mod LabelsKept
+pub mod LabelsArrive
 mod Examples
 pub mod Appended

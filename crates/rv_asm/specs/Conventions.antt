@@ -86,4 +86,12 @@ region_segment base bytes = record { address = base; flags = 6; bytes = bytes }
 
 -- the segments of a compiled program at the start of a run
 abbrev pub compiled_segments : List Inst → ℕ → ℕ → List Segment
-compiled_segments code stack units = code_segment code ∷ region_segment (region_address (4 * length code)) (replicate (region_size stack units) 0) ∷ []
+compiled_segments code stack units =
+    code_segment code ∷ region_segment (region_address (4 * length code)) (replicate (region_size stack units) 0) ∷ []
+
+-- the same by the words of the code's instructions
+abbrev pub program_segments : List ℕ → ℕ → ℕ → List Segment
+program_segments words stack units =
+    record { address = code_address; flags = 1; bytes = instruction_bytes words }
+    ∷ region_segment (region_address (4 * length words)) (replicate (region_size stack units) 0)
+    ∷ []

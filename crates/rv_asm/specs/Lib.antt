@@ -5,3 +5,4 @@ pub mod Meanings
 pub mod Pieces
 pub mod Messages
 pub mod Assembly
+pub mod Arrivals

@@ -1,8 +1,9 @@
 //! The assembler: instructions and labels in, words out.
 
-ghost use Rattle.std.specs.Prelude.{◌≡◌, ◌≢◌, ℕ, ◌<◌, ◌+◌, ◌*◌, [], ◌∷◌, ◌++◌, IfOk, OnOk, OnErr, IsTrue, All, Ok, Some, false, map, length};
+ghost use Rattle.std.specs.Prelude.{◌≡◌, ◌≢◌, ℕ, ◌<◌, ◌+◌, ◌*◌, [], ◌∷◌, ◌++◌, IfOk, OnOk, OnErr, IsTrue, All, Ok, Some, false, map, vec_len};
 ghost use Rattle.rv_code.specs.Encode.{is_in_format, encode};
 ghost use Rattle.rv_asm.specs.Assembly.{total, is_placed, is_mark, code_of, NamesBelow, IsSound};
+ghost use Rattle.rv_asm.specs.Arrivals.{LabelsStand, JumpsArrive, TakenBranchesArrive, OtherBranchesPass, AddressesLoad};
 ghost use Rattle.rv_asm.specs.declared.item.Item.TheVariants.{Plain, Mark, Jump, BranchTo, Address};
 
 use crate::assemble::words_of_items;
@@ -139,7 +140,15 @@ impl Asm {
     /// their end.
     pub fn finish(self) -> Result<Code, Memory>
         requires { 4 * total self.items < 1073741824 }
-        ensures { IfOk result (λ code. map Some code.words.items ≡ map encode (code_of self.items)) }
+        ensures words { IfOk result (λ code. map Some code.words.items ≡ map encode (code_of self.items)) }
+        ensures size { IfOk result (λ code. vec_len code.words ≡ total self.items) }
+
+        // What a machine that runs these words does at the items.
+        ensures labels { OnOk result (LabelsStand self.items) }
+        ensures jumps { OnOk result (JumpsArrive self.items) }
+        ensures taken { OnOk result (TakenBranchesArrive self.items) }
+        ensures passed { OnOk result (OtherBranchesPass self.items) }
+        ensures addresses { OnOk result (AddressesLoad self.items) }
     {
         let spots = spots(self.alloc, &self.items, self.labels)?;
         let words = words_of_items(self.alloc, &self.items, &spots)?;

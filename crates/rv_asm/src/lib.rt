@@ -7,6 +7,8 @@ mod far;
 pub mod item;
 pub mod pieces;
 mod resolve;
+#[cfg(test)]
+mod tests;
 
 pub use asm::{Asm, Code};
 pub use item::{Item, Label};

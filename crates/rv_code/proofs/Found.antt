@@ -87,7 +87,7 @@ op-numbers u n op =
     let at : (v : ℕ) → v ≡ u → op_code op ≡ full_code v n 0b0110011 → R = λ v e h. subst (λ x. op_code op ≡ full_code x n 0b0110011) e h in
     chosen-by R u 0b0000000 (base_op_of n) _ (Some op) (λ v h. at _ v (base-op n op h))
     (chosen-by R u 0b0100000 (other_op_of n) _ (Some op) (λ v h. at _ v (other-op n op h))
-     (chosen-by R u 0b0000001 (product_op_of n) None (Some op) (λ v h. at _ v (product-op n op h)) (λ h. absurd (cc))))
+    (chosen-by R u 0b0000001 (product_op_of n) None (Some op) (λ v h. at _ v (product-op n op h)) (λ h. absurd (cc))))
 
 word-op-numbers : (u n : ℕ) (op : OpOp) → word_op_of u n ≡ Some op → op_code op ≡ full_code u n 0b0111011
 word-op-numbers u n op =
@@ -95,7 +95,7 @@ word-op-numbers u n op =
     let at : (v : ℕ) → v ≡ u → op_code op ≡ full_code v n 0b0111011 → R = λ v e h. subst (λ x. op_code op ≡ full_code x n 0b0111011) e h in
     chosen-by R u 0b0000000 (base_word_op_of n) _ (Some op) (λ v h. at _ v (base-word-op n op h))
     (chosen-by R u 0b0100000 (other_word_op_of n) _ (Some op) (λ v h. at _ v (other-word-op n op h))
-     (chosen-by R u 0b0000001 (product_word_op_of n) None (Some op) (λ v h. at _ v (product-word-op n op h)) (λ h. absurd (cc))))
+    (chosen-by R u 0b0000001 (product_word_op_of n) None (Some op) (λ v h. at _ v (product-word-op n op h)) (λ h. absurd (cc))))
 
 shift-numbers : (u n : ℕ) (op : ShiftOp) → shift_of u n ≡ Some op → IsShift op 6 u n 0b0010011
 shift-numbers u n op =
@@ -218,17 +218,17 @@ found-decoded w i =
     let o = field w 6 0 in
     chosen-by R o 0b0110011 (op_at w) _ (Some i) (op-at w i)
     (chosen-by R o 0b0111011 (word_op_at w) _ (Some i) (word-op-at w i)
-     (chosen-by R o 0b0010011 (immediate_at w) _ (Some i) (immediate-at w i)
-      (chosen-by R o 0b0011011 (word_immediate_at w) _ (Some i) (word-immediate-at w i)
-       (chosen-by R o 0b0000011 (load_at w) _ (Some i) (load-at w i)
-        (chosen-by R o 0b0100011 (store_at w) _ (Some i) (store-at w i)
-         (chosen-by R o 0b1100011 (branch_at w) _ (Some i) (branch-at w i)
-          (chosen-by R o 0b0110111 (Some (Upper Lui (field w 11 7) (u_immediate w))) _ (Some i) (upper-at Lui w i)
-           (chosen-by R o 0b0010111 (Some (Upper Auipc (field w 11 7) (u_immediate w))) _ (Some i) (upper-at Auipc w i)
-            (chosen-by R o 0b1101111 (Some (Jal (field w 11 7) (j_immediate w))) _ (Some i) (jal-at w i)
-             (chosen-by R o 0b1100111 (jalr_at w) _ (Some i) (jalr-at w i)
-              (chosen-by R o 0b0001111 (fence_at w) _ (Some i) (fence-at w i)
-               (chosen-by R o 0b1110011 (system_at w) None (Some i) (λ _ h. system-at w i h) (λ h. absurd (cc))))))))))))))
+    (chosen-by R o 0b0010011 (immediate_at w) _ (Some i) (immediate-at w i)
+    (chosen-by R o 0b0011011 (word_immediate_at w) _ (Some i) (word-immediate-at w i)
+    (chosen-by R o 0b0000011 (load_at w) _ (Some i) (load-at w i)
+    (chosen-by R o 0b0100011 (store_at w) _ (Some i) (store-at w i)
+    (chosen-by R o 0b1100011 (branch_at w) _ (Some i) (branch-at w i)
+    (chosen-by R o 0b0110111 (Some (Upper Lui (field w 11 7) (u_immediate w))) _ (Some i) (upper-at Lui w i)
+    (chosen-by R o 0b0010111 (Some (Upper Auipc (field w 11 7) (u_immediate w))) _ (Some i) (upper-at Auipc w i)
+    (chosen-by R o 0b1101111 (Some (Jal (field w 11 7) (j_immediate w))) _ (Some i) (jal-at w i)
+    (chosen-by R o 0b1100111 (jalr_at w) _ (Some i) (jalr-at w i)
+    (chosen-by R o 0b0001111 (fence_at w) _ (Some i) (fence-at w i)
+    (chosen-by R o 0b1110011 (system_at w) None (Some i) (λ _ h. system-at w i h) (λ h. absurd (cc))))))))))))))
 
 -- ---- both ways
 

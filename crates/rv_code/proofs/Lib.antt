@@ -7,5 +7,6 @@ pub mod Words
 pub mod Decoded
 pub mod Search
 pub mod Found
-pub mod ByteLaws
+pub mod Bytes
 pub mod Bounds
+mod Results

@@ -137,8 +137,9 @@ none-counted : (w : ℕ) (rows : List Row) → first_fit w rows ≡ None → cou
 none-counted w [] e = refl
 none-counted w (r ∷ rows) e =
     elim (true-or-false (fits w r)) [
-      inl p ↦ (let u = rw p at e in absurd (cc))
-    | inr p ↦ (let rest = rw p at e in rw (p, none-counted w rows rest) refl) ]
+      | inl p ↦ (let u = rw p at e in absurd (cc))
+      | inr p ↦ (let rest = rw p at e in rw (p, none-counted w rows rest) refl)
+    ]
 
 counted-none : (w : ℕ) (rows : List Row) → count_by (fits w) rows ≡ 0 → first_fit w rows ≡ None
 counted-none w [] e = refl

@@ -178,8 +178,8 @@ unfolding search
 singles-found =
     record {
       each =
-        All-from_recursion IsFound single_rows
-        (jal-found, (jalr-found, (fence-found, (word-found ecall_word Ecall (omega arith) refl, (word-found ebreak_word Ebreak (omega arith) refl, tt)))));
+          All-from_recursion IsFound single_rows
+          (jal-found, (jalr-found, (fence-found, (word-found ecall_word Ecall (omega arith) refl, (word-found ebreak_word Ebreak (omega arith) refl, tt)))));
     }
 
 pub all-found : EachFound table

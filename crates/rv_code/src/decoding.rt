@@ -6,9 +6,7 @@ ghost use Rattle.rv_code.specs.Table.{field, rd_field, rs1_field, rs2_field, int
 ghost use Rattle.rv_code.specs.Encode.{encode};
 ghost use Rattle.rv_code.specs.Search.{base_op_of, other_op_of, product_op_of, op_of, base_word_op_of, other_word_op_of, product_word_op_of, word_op_of, shift_of, word_shift_of, op_imm_of, load_of, store_of, branch_of, funct3_field, op_at, word_op_at, shift_at, word_shift_at, op_imm_at, immediate_at, word_immediate_at, load_at, store_at, branch_at, jalr_at, fence_at, system_at, search};
 
-use crate::instruction::{
-    BranchOp, Inst, LoadOp, OpImmOp, OpOp, Reg, ShiftOp, StoreOp, UpperOp,
-};
+use crate::instruction::{BranchOp, Inst, LoadOp, OpImmOp, OpOp, Reg, ShiftOp, StoreOp, UpperOp};
 
 // ---- fields
 

@@ -1,4 +1,4 @@
-use Rattle.std.proofs.Common.{◌≡◌, ◌+◌, ◌≤◌, length, take, vec_len}
+use Rattle.std.proofs.Common.{◌≡◌, ◌+◌, ◌≤◌, length, take}
 use Rattle.acg_base.proofs.folder_store.append_file.Given as goal
 
 abbrev pub invariant-loop-left : goal.invariant-loop-left
