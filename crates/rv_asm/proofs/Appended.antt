@@ -52,7 +52,7 @@ copy_words-next l l1 l2 n i scratch source from target to z1 z2 h e1 e2 f g =
     let store = Store Sd target scratch (pos (8 * (to + i))) in
     let rest = copy_words (n - (i + 1)) scratch source (from + (i + 1)) target (to + (i + 1)) in
     let a : l2 ≡ appended (appended l (load ∷ [])) (store ∷ []) =
-        g ∙ ap (λ z. appended l1 (Store Sd target scratch z ∷ [])) e2 ∙ ap (λ k. appended k (store ∷ [])) (f ∙ ap (λ z. appended l (Load Ld scratch source z ∷ [])) e1) in
+    g ∙ ap (λ z. appended l1 (Store Sd target scratch z ∷ [])) e2 ∙ ap (λ k. appended k (store ∷ [])) (f ∙ ap (λ z. appended l (Load Ld scratch source z ∷ [])) e1) in
     let b = appended-appended (appended l (load ∷ [])) (store ∷ []) rest in
     let d = appended-appended l (load ∷ []) (store ∷ rest) in
     let m : n - i - 1 ≡ n - (i + 1) = omega arith in
@@ -60,5 +60,5 @@ copy_words-next l l1 l2 n i scratch source from target to z1 z2 h e1 e2 f g =
     let q : to + i + 1 ≡ to + (i + 1) = omega arith in
     let some = copy_words-some (n - i) scratch source (from + i) target (to + i) (omega arith) in
     let whole : load ∷ store ∷ rest ≡ copy_words (n - i) scratch source (from + i) target (to + i) =
-        sym (some ∙ rw (m, p, q) refl) in
+    sym (some ∙ rw (m, p, q) refl) in
     ap (λ k. appended k rest) a ∙ b ∙ d ∙ ap (appended l) whole

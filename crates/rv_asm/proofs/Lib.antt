@@ -22,3 +22,4 @@ pub mod LabelsKept
 pub mod LabelsArrive
 mod Examples
 pub mod Appended
+pub mod Sending

@@ -135,12 +135,12 @@ module _ (base : ℕ) (code : List Inst) (m : Meaning) where
   pub moments-entry : (n : ℕ) (entry : WordState) (f : CodeFollows entry) → Moment f.IsAt n entry n
   moments-entry n entry f = ⊎_elim
       (λ lt.
-          let q = quiet-moment base code f.first entry f.state f.runs f.quiet n (omega arith) in
-          inl (record { now = q.0; runs = q.1; shown = f.initial; reached = f.reached; output = q.2 ∙ sym f.quiet ∙ f.output; pace = omega (arith, f.paid, m.ample) }))
+      let q = quiet-moment base code f.first entry f.state f.runs f.quiet n (omega arith) in
+      inl (record { now = q.0; runs = q.1; shown = f.initial; reached = f.reached; output = q.2 ∙ sym f.quiet ∙ f.output; pace = omega (arith, f.paid, m.ample) }))
       (λ le.
-          let q : f.first + (n - f.first) ≡ n = omega arith in
-          subst (λ k. Moment f.IsAt k entry k) q
-          (behind f.IsAt f.first (n - f.first) (f.first + (n - f.first)) entry f.state f.runs (moments f.IsAt f.turn (n - f.first) f.first f.state f.initial f.related f.reached f.paid)))
+      let q : f.first + (n - f.first) ≡ n = omega arith in
+      subst (λ k. Moment f.IsAt k entry k) q
+      (behind f.IsAt f.first (n - f.first) (f.first + (n - f.first)) entry f.state f.runs (moments f.IsAt f.turn (n - f.first) f.first f.state f.initial f.related f.reached f.paid)))
       (cases_lt n f.first)
 
   -- ---- what makes an advance and a stop

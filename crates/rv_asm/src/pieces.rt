@@ -94,7 +94,15 @@ fn offset(words: u8, more: u8) -> i32
 
 /// Appends two instructions for each of `n` words: the first is `from` words behind the address in `source`, and goes
 /// to `to` words behind the address in `target`, by way of the register `scratch`.
-pub fn copy_words(asm: &mut Asm, n: u8, scratch: Reg, source: Reg, from: u8, target: Reg, to: u8) -> Result<(), Memory>
+pub fn copy_words(
+    asm: &mut Asm,
+    n: u8,
+    scratch: Reg,
+    source: Reg,
+    from: u8,
+    target: Reg,
+    to: u8,
+) -> Result<(), Memory>
     requires from { from + n ≤ 256 }
     requires to { to + n ≤ 256 }
     ensures ok { OnOk result (asm.new ≡ appended asm.old (copy_words n scratch source from target to)) }

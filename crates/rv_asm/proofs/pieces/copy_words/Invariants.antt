@@ -1,5 +1,5 @@
 -- What is left to append, behind what was, is the whole piece.
-use Rattle.std.proofs.Common.{◌≡◌, ◌+◌, ◌-◌, ◌≤◌}
+use Rattle.std.proofs.Common.{◌≡◌, ◌+◌, ◌-◌}
 use Rattle.rv_asm.specs.Pieces.{appended, copy_words}
 use Rattle.rv_asm.proofs.pieces.copy_words.Given as goal
 
