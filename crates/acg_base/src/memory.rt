@@ -2,7 +2,7 @@
 
 ghost use Rattle.std.specs.Prelude.{◌≡◌};
 
-use std::alloc::AllocError;
+use std::alloc::{AllocError, AllocFailed};
 use thiserror::Error;
 
 /// Memory ran out.
@@ -14,6 +14,14 @@ impl From<AllocError> for Memory {
     ghost from_gives = { λ _ memory. memory ≡ record {} };
 
     fn from(_error: AllocError) -> Memory {
+        Memory
+    }
+}
+
+impl<T: Drop> From<AllocFailed<T>> for Memory {
+    ghost from_gives = { λ _ memory. memory ≡ record {} };
+
+    fn from(_error: AllocFailed<T>) -> Memory {
         Memory
     }
 }

@@ -9,7 +9,7 @@ use Rattle.rv_code.specs.Machine.{State, Segment, Outcome, Ran, Trapped, registe
 use Rattle.rv_code.specs.declared.cause.Cause.TheVariants.{Load as CauseLoad, Store as CauseStore}
 use Rattle.rv_code.specs.declared.instruction.Inst.{Inst}
 use Rattle.rv_code.proofs.Words.{word_of-below, decode-word_of}
-use Rattle.rv_code.proofs.Bytes.{number-bytes, length-bytes}
+use Rattle.rv_code.proofs.ByteLaws.{number-bytes, length-bytes}
 use Rattle.rv_asm.specs.Conventions.{IsImage, code_bytes, code_segment, region_segment}
 use Rattle.rv_asm.specs.WordMachine.{WordState, WordStep, Goes, Exits, Stuck, IsBounded, put, register_list, word_bytes, instruction_at, word_index, received_word, sets, jumps, loads, stores, sends, receives, calls, machine_state}
 use Rattle.rv_asm.proofs.Registers.{put-below, register-register_list, with_register-register_list}

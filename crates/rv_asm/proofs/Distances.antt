@@ -6,7 +6,9 @@ use Rattle.rv_code.specs.Encode.{has_bits, is_multiple}
 use Rattle.rv_asm.specs.Assembly.{far_high, far_low, address_of}
 
 -- from the address of one instruction the two parts lead to another
-pub far-adds : (from to : ℕ) → from < 2 ^ 28 → to < 2 ^ 28 → wrap (wrap (address_of from + unsigned (far_high from to)) + unsigned (far_low from to)) ≡ address_of to
+pub far-adds :
+    (from to : ℕ) → from < 2 ^ 28 → to < 2 ^ 28 →
+    wrap (wrap (address_of from + unsigned (far_high from to)) + unsigned (far_low from to)) ≡ address_of to
 far-adds from to a b = grind (arith, ints)
 
 pub far_high-bits : (from to : ℕ) → from < 2 ^ 28 → to < 2 ^ 28 → has_bits 32 (far_high from to) ≡ true

@@ -1,5 +1,5 @@
 -- What an assembler keeps, at each of its calls.
-use Rattle.std.proofs.Common.{◌≡◌, ℕ, zero, suc, ◌+◌, ◌-◌, ◌<◌, ◌≤◌, Bool, true, false, not, ◌&&◌, ◌||◌, List, [], ◌∷◌, ◌++◌, length, refl, sym, ap, ◌∙◌, arith, eqb, eq-eqb, eqb-true, length-append, add-one}
+use Rattle.std.proofs.Common.{◌≡◌, ℕ, zero, suc, ◌+◌, ◌-◌, ◌<◌, ◌≤◌, Bool, true, false, not, ◌&&◌, ◌||◌, List, [], ◌∷◌, ◌++◌, length, refl, sym, ap, ◌∙◌, subst, arith, eqb, eq-eqb, eqb-true, length-append, add-one}
 use Rattle.std.specs.Prelude.{All}
 use Rattle.std.proofs.lemmas.List.Elements.{All-push, All-head, All-tail}
 use Rattle.rv_asm.specs.declared.item.Item.{Item}
@@ -10,7 +10,8 @@ use Rattle.rv_asm.specs.Assembly.{is_placed, is_mark, are_placed_once, open_labe
 -- ---- placed labels
 
 -- what is no mark places nothing
-pub placed-push : (items : List Item) (x : Item) (l : ℕ) → is_mark x ≡ false → is_placed (items ++ x ∷ []) l ≡ is_placed items l
+pub placed-push :
+    (items : List Item) (x : Item) (l : ℕ) → is_mark x ≡ false → is_placed (items ++ x ∷ []) l ≡ is_placed items l
 placed-push [] (Plain i) l h = refl
 placed-push [] (Mark k) l h = absurd (cc)
 placed-push [] (Jump k) l h = refl
@@ -60,7 +61,9 @@ or-false : (a b : Bool) → a || b ≡ false → (a ≡ false) × (b ≡ false)
 or-false true b e = absurd (cc)
 or-false false b e = (refl, e)
 
-once-push : (items : List Item) (x : Item) → is_mark x ≡ false → are_placed_once items ≡ true → are_placed_once (items ++ x ∷ []) ≡ true
+once-push :
+    (items : List Item) (x : Item) → is_mark x ≡ false → are_placed_once items ≡ true →
+    are_placed_once (items ++ x ∷ []) ≡ true
 once-push [] (Plain i) h e = refl
 once-push [] (Mark k) h e = absurd (cc)
 once-push [] (Jump k) h e = refl
@@ -74,7 +77,9 @@ once-push (Jump k ∷ is) x h e = once-push is x h e
 once-push (BranchTo o a b k ∷ is) x h e = once-push is x h e
 once-push (Address d k ∷ is) x h e = once-push is x h e
 
-once-mark : (items : List Item) (m : ℕ) → is_placed items m ≡ false → are_placed_once items ≡ true → are_placed_once (items ++ Mark m ∷ []) ≡ true
+once-mark :
+    (items : List Item) (m : ℕ) → is_placed items m ≡ false → are_placed_once items ≡ true →
+    are_placed_once (items ++ Mark m ∷ []) ≡ true
 once-mark [] m h e = refl
 once-mark (Plain i ∷ is) m h e = once-mark is m h e
 once-mark (Mark k ∷ is) m h e =
@@ -108,7 +113,9 @@ once-split (Mark k ∷ a) b l e =
     let p = and-true (not (is_placed (a ++ (Mark l ∷ b)) k)) (are_placed_once (a ++ (Mark l ∷ b))) e in
     pick (eqb k l) refl p.0 (once-split a b l p.1)
   where
-    pick : (t : Bool) → eqb k l ≡ t → not (is_placed (a ++ (Mark l ∷ b)) k) ≡ true → is_placed a l ≡ false → t || is_placed a l ≡ false
+    pick :
+        (t : Bool) → eqb k l ≡ t → not (is_placed (a ++ (Mark l ∷ b)) k) ≡ true → is_placed a l ≡ false →
+        t || is_placed a l ≡ false
     pick true t h p =
         let here : is_placed (a ++ (Mark l ∷ b)) k ≡ true = rw (eqb-true k l t) (placed-split a b l) in absurd (cc)
     pick false t h p = p
@@ -118,7 +125,9 @@ once-split (Address d k ∷ a) b l e = once-split a b l e
 
 -- ---- labels that aren't placed
 
-open-push : (items : List Item) (x : Item) (n : ℕ) → is_mark x ≡ false → open_labels (items ++ x ∷ []) n ≡ open_labels items n
+open-push :
+    (items : List Item) (x : Item) (n : ℕ) → is_mark x ≡ false →
+    open_labels (items ++ x ∷ []) n ≡ open_labels items n
 open-push items x zero h = refl
 open-push items x (suc n) h = rw (placed-push items x n h, open-push items x n h) refl
 
@@ -128,11 +137,15 @@ open-mark_above items m (suc n) h =
     let differs : eqb m n ≡ false = grind (arith, h) in
     rw (placed-mark items m n, differs, open-mark_above items m n (omega arith)) refl
 
-open-mark : (items : List Item) (m n : ℕ) → m < n → is_placed items m ≡ false → open_labels (items ++ Mark m ∷ []) n + 1 ≡ open_labels items n
+open-mark :
+    (items : List Item) (m n : ℕ) → m < n → is_placed items m ≡ false →
+    open_labels (items ++ Mark m ∷ []) n + 1 ≡ open_labels items n
 open-mark items m zero h p = absurd (omega arith)
 open-mark items m (suc n) h p = pick (eqb m n) refl (λ below. open-mark items m n below p)
   where
-    pick : (t : Bool) → eqb m n ≡ t → (m < n → open_labels (items ++ Mark m ∷ []) n + 1 ≡ open_labels items n) → open_labels (items ++ Mark m ∷ []) (suc n) + 1 ≡ open_labels items (suc n)
+    pick :
+        (t : Bool) → eqb m n ≡ t → (m < n → open_labels (items ++ Mark m ∷ []) n + 1 ≡ open_labels items n) →
+        open_labels (items ++ Mark m ∷ []) (suc n) + 1 ≡ open_labels items (suc n)
     pick true t r =
         let same : m ≡ n = eqb-true m n t in
         let unplaced : is_placed items n ≡ false = rw (← same) p in
@@ -153,14 +166,16 @@ names-more n (Jump l) h = omega arith
 names-more n (BranchTo o a b l) h = omega arith
 names-more n (Address d l) h = omega arith
 
-pub length-push : (items : List Item) (x : Item) → length (items ++ x ∷ []) ≡ length items + 1
+length-push : (items : List Item) (x : Item) → length (items ++ x ∷ []) ≡ length items + 1
 length-push items x = length-append items (x ∷ [])
 
-module _ (items : List Item) (labels count room more : ℕ) (kept : IsKept items labels count room) where
+module _ (items new : List Item) (labels count room more : ℕ) (kept : IsKept items labels count room) where
   -- a new label
-  pub IsKept-label : length items + (count + 1) ≤ more → IsKept items (labels + 1) (count + 1) more
-  IsKept-label h =
-      let unplaced : open_labels items (labels + 1) ≡ 1 + open_labels items labels = rw (add-one, placed-above labels items kept.names) refl in
+  pub IsKept-label : new ≡ items → length items + (count + 1) ≤ more → IsKept new (labels + 1) (count + 1) more
+  IsKept-label e h =
+      let unplaced : open_labels items (labels + 1) ≡ 1 + open_labels items labels =
+      rw (add-one, placed-above labels items kept.names) refl in
+      subst (λ is. IsKept is (labels + 1) (count + 1) more) (sym e)
       record {
         sound = kept.sound;
         names = λ k d w. names-more labels _ (kept.names k d w);
@@ -171,29 +186,37 @@ module _ (items : List Item) (labels count room more : ℕ) (kept : IsKept items
       }
 
   -- an item that is no mark
-  pub IsKept-push : (x : Item) → is_mark x ≡ false → IsSound x → NamesBelow labels x → length (items ++ x ∷ []) + count ≤ more → IsKept (items ++ x ∷ []) labels count more
-  IsKept-push x unmarked sound names h = record {
-    sound = All-push IsSound items x kept.sound sound;
-    names = All-push (NamesBelow labels) items x kept.names names;
-    once = once-push items x unmarked kept.once;
-    counted = kept.counted ∙ sym (open-push items x labels unmarked);
-    numbered = omega (arith, kept.numbered, length-push items x);
-    room = h;
-  }
+  pub IsKept-push :
+      (x : Item) → new ≡ items ++ x ∷ [] → is_mark x ≡ false → IsSound x → NamesBelow labels x →
+      length items + (count + 1) ≤ more → IsKept new labels count more
+  IsKept-push x e unmarked sound names h =
+      subst (λ is. IsKept is labels count more) (sym e)
+      record {
+        sound = All-push IsSound items x kept.sound sound;
+        names = All-push (NamesBelow labels) items x kept.names names;
+        once = once-push items x unmarked kept.once;
+        counted = kept.counted ∙ sym (open-push items x labels unmarked);
+        numbered = omega (arith, kept.numbered, length-push items x);
+        room = omega (arith, h, length-push items x);
+      }
 
   -- a mark
   pub IsKept-open : (m : ℕ) → m < labels → is_placed items m ≡ false → 0 < count
   IsKept-open m h p = omega (arith, open-some items m labels h p, kept.counted)
 
-  pub IsKept-mark : (m : ℕ) → m < labels → is_placed items m ≡ false → room ≤ more → IsKept (items ++ Mark m ∷ []) labels (count - 1) more
-  IsKept-mark m h p r = record {
-    sound = All-push IsSound items (Mark m) kept.sound tt;
-    names = All-push (NamesBelow labels) items (Mark m) kept.names h;
-    once = once-mark items m p kept.once;
-    counted = omega (arith, open-mark items m labels h p, kept.counted);
-    numbered = omega (arith, kept.numbered, length-push items (Mark m));
-    room = omega (arith, IsKept-open m h p, kept.room, length-push items (Mark m));
-  }
+  pub IsKept-mark :
+      (m : ℕ) → new ≡ items ++ Mark m ∷ [] → m < labels → is_placed items m ≡ false → room ≤ more →
+      IsKept new labels (count - 1) more
+  IsKept-mark m e h p r =
+      subst (λ is. IsKept is labels (count - 1) more) (sym e)
+      record {
+        sound = All-push IsSound items (Mark m) kept.sound tt;
+        names = All-push (NamesBelow labels) items (Mark m) kept.names h;
+        once = once-mark items m p kept.once;
+        counted = omega (arith, open-mark items m labels h p, kept.counted);
+        numbered = omega (arith, kept.numbered, length-push items (Mark m));
+        room = omega (arith, IsKept-open m h p, kept.room, length-push items (Mark m));
+      }
 
 -- what the items are after a call
 pub ruleset pushes = (total-push, placed-push, placed-mark)

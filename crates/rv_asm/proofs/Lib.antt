@@ -23,3 +23,4 @@ pub mod LabelsArrive
 mod Examples
 pub mod Appended
 pub mod Sending
+mod LabelsExample

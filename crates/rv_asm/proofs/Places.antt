@@ -4,7 +4,7 @@ use Rattle.std.proofs.lemmas.Option.{slice_get_within}
 use Rattle.rv_code.specs.Bytes.{bytes_of}
 use Rattle.rv_code.specs.Encode.{word_of}
 use Rattle.rv_code.specs.declared.instruction.Inst.{Inst}
-use Rattle.rv_code.proofs.Bytes.{length-bytes}
+use Rattle.rv_code.proofs.ByteLaws.{length-bytes}
 use Rattle.rv_asm.specs.Conventions.{code_bytes}
 use Rattle.rv_asm.specs.WordMachine.{instruction_at, word_index, Has}
 

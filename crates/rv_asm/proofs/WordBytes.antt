@@ -3,7 +3,7 @@ use Rattle.std.proofs.Common.{◌≡◌, ℕ, zero, suc, ◌+◌, ◌*◌, ◌<�
 use Rattle.std.proofs.lemmas.List.{replicate-append-replicate, drop-append-le, length-drop, length-take}
 use Rattle.std.proofs.lemmas.List.Elements.{All-append, All-drop, All-take}
 use Rattle.rv_code.specs.Bytes.{number_of, bytes_of, put_at}
-use Rattle.rv_code.proofs.Bytes.{length-bytes, bytes-number, bytes-small, number-below}
+use Rattle.rv_code.proofs.ByteLaws.{length-bytes, bytes-number, bytes-small, number-below}
 use Rattle.rv_asm.specs.WordMachine.{word_bytes, received_word}
 
 pub length-word_bytes : (ws : List ℕ) → length (word_bytes ws) ≡ 8 * length ws

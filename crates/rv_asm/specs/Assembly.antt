@@ -7,6 +7,7 @@ use Rattle.rv_code.specs.declared.instruction.OpImmOp.TheVariants.{Addi}
 use Rattle.rv_code.specs.declared.instruction.UpperOp.TheVariants.{Auipc}
 use Rattle.rv_code.specs.declared.instruction.BranchOp.{BranchOp}
 use Rattle.rv_code.specs.declared.instruction.BranchOp.TheVariants.{Beq, Bne, Blt, Bge, Bltu, Bgeu}
+use Rattle.rv_asm.specs.Conventions.{code_address}
 use Rattle.rv_asm.specs.declared.item.Item.{Item}
 use Rattle.rv_asm.specs.declared.item.Item.TheVariants.{Plain, Mark, Jump, BranchTo, Address}
 
@@ -23,6 +24,7 @@ size (Jump l) = 2
 size (BranchTo o a b l) = 3
 size (Address d l) = 2
 
+-- how many instructions some items become
 abbrev pub total : List Item → ℕ
 total [] = 0
 total (i ∷ is) = size i + total is
@@ -41,9 +43,9 @@ is_placed (i ∷ is) l = is_placed is l
 
 -- ---- instructions
 
--- code stands from 65536 on: the address of the instruction behind n others
+-- the address of the instruction that stands behind n others
 abbrev pub address_of : ℕ → ℕ
-address_of n = 65536 + 4 * n
+address_of n = code_address + 4 * n
 
 -- the bytes from one instruction to another, plus a number that keeps the sum and its rounding above 0
 abbrev pub biased_distance : (from to : ℕ) → ℕ
@@ -81,6 +83,7 @@ instructions at n (Jump l) = far_jump n (at l)
 instructions at n (BranchTo o a b l) = Branch (opposite o) a b (pos 12) ∷ far_jump (n + 1) (at l)
 instructions at n (Address d l) = far_address d n (at l)
 
+-- what some items become behind n instructions
 abbrev pub code_from : (at : ℕ → ℕ) → (n : ℕ) → List Item → List Inst
 code_from at n [] = []
 code_from at n (i ∷ is) = instructions at n i ++ code_from at (n + size i) is

@@ -1,4 +1,5 @@
-//! An assembler for compiled code.
+//! An assembler for compiled code: instructions and labels in, words out. The definitions and lemmas about compiled
+//! code that runs, on a machine of words and on that of the instruction table, stand in specs/ and proofs/.
 #![tactic(auto)]
 
 pub mod asm;

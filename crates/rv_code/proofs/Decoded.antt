@@ -1,8 +1,7 @@
 -- What a word is decoded to has that word.
-use Rattle.std.proofs.Common.{◌≡◌, ℕ, ◌+◌, ◌*◌, ◌%◌, ◌^◌, ◌<◌, Bool, true, false, ◌&&◌, List, ◌++◌, map, Option, Some, None, refl, ap, subst, ◌∙◌, arith, eqb-true, lt-ltb, nat_lt, nat_eq, get_or}
+use Rattle.std.proofs.Common.{◌≡◌, ℕ, ◌+◌, ◌*◌, ◌%◌, ◌^◌, ◌<◌, true, ◌&&◌, Option, Some, None, refl, ap, subst, ◌∙◌, arith, eqb-true, lt-ltb, nat_lt, nat_eq}
 use Rattle.std.specs.List.{All}
 use Rattle.std.specs.Prelude.{option_map}
-use Rattle.std.proofs.lemmas.List.Elements.{All-append, All-map, All-from_recursion}
 use Rattle.rv_code.specs.declared.instruction.Inst.{Inst}
 use Rattle.rv_code.specs.declared.instruction.Inst.TheVariants.{Op, OpImm, Shift, Load, Store, Branch, Upper, Jal, Jalr, Fence, Ecall, Ebreak}
 use Rattle.rv_code.specs.declared.instruction.OpOp.{OpOp}
@@ -13,25 +12,20 @@ use Rattle.rv_code.specs.declared.instruction.LoadOp.{LoadOp}
 use Rattle.rv_code.specs.declared.instruction.StoreOp.{StoreOp}
 use Rattle.rv_code.specs.declared.instruction.BranchOp.{BranchOp}
 use Rattle.rv_code.specs.declared.instruction.UpperOp.{UpperOp}
-use Rattle.rv_code.specs.Table.{Row, Code, FullCode, field, has_fields, fits, fixed_code, op_code, op_imm_code, shift_code, amount_bits, load_code, store_code, branch_code, jalr_code, fence_code, upper_opcode, jal_opcode, ecall_word, ebreak_word, op_row, op_imm_row, shift_row, load_row, store_row, branch_row, upper_row, jal_row, jalr_row, fence_row, word_row, every_upper, every_branch, every_load, every_store, every_op_imm, every_shift, every_op, single_rows, table, i_immediate, s_immediate, b_immediate, u_immediate, j_immediate, row, decode, first_fit}
+use Rattle.rv_code.specs.Table.{Row, Code, FullCode, field, has_fields, fits, fixed_code, op_code, op_imm_code, shift_code, amount_bits, load_code, store_code, branch_code, jalr_code, fence_code, upper_opcode, jal_opcode, ecall_word, ebreak_word, op_row, op_imm_row, shift_row, load_row, store_row, branch_row, upper_row, jal_row, jalr_row, fence_row, word_row, table, i_immediate, s_immediate, b_immediate, u_immediate, j_immediate, row, decode, first_fit}
 use Rattle.rv_code.specs.Encode.{word_of, encode, is_in_format, has_registers, bits_of_integer, has_bits, i_word, s_word, b_word, u_word, j_word}
+use Rattle.rv_code.proofs.Bools.{and-parts, both}
 use Rattle.rv_code.proofs.Integers.{bits_of_integer-integer, has_bits-integer, integer_of_bits-even, integer_of_bits-pages}
 use Rattle.rv_code.proofs.Fields.{r_word-whole, i_word-whole, s_word-whole, b_word-whole, u_word-whole, j_word-whole, shift_word-whole-5, shift_word-whole-6, b_bits, j_bits}
 use Rattle.rv_code.proofs.Rows.{first-fit-holds}
+use Rattle.rv_code.proofs.EachRow.{every-row}
 
 -- what the row makes of a word has that word
 WritesBack : Row → Type 0
 WritesBack r = (w : ℕ) → w < 2 ^ 32 → fits w r ≡ true → encode (r.instruction w) ≡ Some w
 
-pub and-parts : (a b : Bool) → a && b ≡ true → (a ≡ true) × (b ≡ true)
-and-parts true b e = (refl, e)
-and-parts false b e = absurd (cc)
-
 encodes : (i : Inst) (w : ℕ) → has_registers i ≡ true → is_in_format i ≡ true → word_of i ≡ w → encode i ≡ Some w
 encodes i w r f e = rw (r, f) (ap Some e)
-
-both : (a b : Bool) → a ≡ true → b ≡ true → a && b ≡ true
-both a b p q = rw (p, q) refl
 
 rd-small : (w : ℕ) → nat_lt (field w 11 7) 32 ≡ true
 rd-small w = lt-ltb _ _ (omega arith)
@@ -178,33 +172,23 @@ word-back word i b c w h e =
     let same : word ≡ w = omega arith in
     c ∙ ap Some same
 
-mapped : {X : Type 0} (f : X → Row) (xs : List X) → ((x : X) → WritesBack (f x)) → All WritesBack (map f xs)
-mapped f xs h = All-map WritesBack f xs (λ k d l. h (get_or xs k d))
-
-singles : All WritesBack single_rows
-singles =
-    All-from_recursion WritesBack single_rows
-    (jal-back, (jalr-back, (fence-back, (word-back ecall_word Ecall (omega arith) refl, (word-back ebreak_word Ebreak (omega arith) refl, tt)))))
-
--- rows that write back; a record, so that the lists are known from it
-record EachWritesBack (rows : List Row) : Type 0 where
-  each : All WritesBack rows
-
-together : {xs ys : List Row} → EachWritesBack xs → EachWritesBack ys → EachWritesBack (xs ++ ys)
-together {xs} {ys} h k = record { each = All-append WritesBack xs ys h.each k.each }
-
-all-write-back : EachWritesBack table
-unfolding table
+all-write-back : All WritesBack table
 all-write-back =
-    let upper : EachWritesBack (map upper_row every_upper) = record { each = mapped upper_row every_upper upper-back } in
-    let branch : EachWritesBack (map branch_row every_branch) = record { each = mapped branch_row every_branch branch-back } in
-    let load : EachWritesBack (map load_row every_load) = record { each = mapped load_row every_load load-back } in
-    let store : EachWritesBack (map store_row every_store) = record { each = mapped store_row every_store store-back } in
-    let op_imm : EachWritesBack (map op_imm_row every_op_imm) = record { each = mapped op_imm_row every_op_imm op_imm-back } in
-    let shift : EachWritesBack (map shift_row every_shift) = record { each = mapped shift_row every_shift shift-back } in
-    let op : EachWritesBack (map op_row every_op) = record { each = mapped op_row every_op op-back } in
-    let single : EachWritesBack single_rows = record { each = singles } in
-    together (together (together (together (together (together (together upper branch) load) store) op_imm) shift) op) single
+    every-row WritesBack
+    (record {
+      upper = upper-back;
+      branch = branch-back;
+      load = load-back;
+      store = store-back;
+      op_imm = op_imm-back;
+      shift = shift-back;
+      op = op-back;
+      jal = jal-back;
+      jalr = jalr-back;
+      fence = fence-back;
+      ecall = word-back ecall_word Ecall (omega arith) refl;
+      ebreak = word-back ebreak_word Ebreak (omega arith) refl;
+    })
 
 -- what a word is decoded to has that word
 pub encode-decode : (w : ℕ) (i : Inst) → w < 2 ^ 32 → decode w ≡ Some i → encode i ≡ Some w
@@ -214,6 +198,6 @@ encode-decode w i h e = by-row (first_fit w table) refl e
     by-row : (r : Option Row) → first_fit w table ≡ r → option_map (λ x. x.instruction w) r ≡ Some i → encode i ≡ Some w
     by-row None f e = absurd (cc)
     by-row (Some r) f e =
-        let k = first-fit-holds WritesBack w table r all-write-back.each f in
+        let k = first-fit-holds WritesBack w table r all-write-back f in
         let same : r.instruction w ≡ i = cc in
         subst (λ j. encode j ≡ Some w) same (k.0 w h k.1)

@@ -20,7 +20,8 @@ use Rattle.rv_code.specs.Encode.{encode}
 use Rattle.rv_code.proofs.Rows.{first-fit-holds, first-fit-none, all-first-fit}
 use Rattle.rv_code.proofs.Decoded.{encode-decode}
 use Rattle.rv_code.proofs.Codes.{op_row-there, op_imm_row-there, shift_row-there, load_row-there, store_row-there, branch_row-there, upper_row-there, jal_row-there, jalr_row-there, fence_row-there, ecall_row-there, ebreak_row-there}
-use Rattle.rv_code.proofs.Words.{found, both, code-fits}
+use Rattle.rv_code.proofs.Bools.{both}
+use Rattle.rv_code.proofs.Words.{found, code-fits}
 use Rattle.rv_code.proofs.Search.{IsFound, all-found}
 
 -- ---- the numbers of the operation that is found
@@ -239,7 +240,7 @@ decoded-found w i h e = by-row (first_fit w table) refl e
     by-row : (r : Option Row) → first_fit w table ≡ r → option_map (λ x. x.instruction w) r ≡ Some i → search (field w 6 0) w ≡ Some i
     by-row None f e = absurd (cc)
     by-row (Some r) f e =
-        let k = first-fit-holds IsFound w table r all-found.each f in
+        let k = first-fit-holds IsFound w table r all-found f in
         let same : r.instruction w ≡ i = cc in
         k.0 w h k.1 ∙ ap Some same
 

@@ -1,11 +1,8 @@
 -- Results of operations on processors, as qemu computes them.
 use Rattle.std.proofs.Common.{◌≡◌, ℕ, Bool, true, ◌&&◌, nat_eq, List, [], ◌∷◌, ℤ, pos, negsuc, refl}
 use Rattle.rv_code.specs.Arithmetic.{operation, immediate_operation, shift_operation}
-use Rattle.rv_code.specs.declared.instruction.OpOp.{OpOp}
 use Rattle.rv_code.specs.declared.instruction.OpOp.TheVariants.{Add, Sub, Sll, Slt, Sltu, Xor, Srl, Sra, Or, And, Addw, Subw, Sllw, Srlw, Sraw, Mul, Mulh, Mulhsu, Mulhu, Div, Divu, Rem, Remu, Mulw, Divw, Divuw, Remw, Remuw}
-use Rattle.rv_code.specs.declared.instruction.OpImmOp.{OpImmOp}
 use Rattle.rv_code.specs.declared.instruction.OpImmOp.TheVariants.{Addi, Slti, Sltiu, Xori, Ori, Andi, Addiw}
-use Rattle.rv_code.specs.declared.instruction.ShiftOp.{ShiftOp}
 use Rattle.rv_code.specs.declared.instruction.ShiftOp.TheVariants.{Slli, Srli, Srai, Slliw, Srliw, Sraiw}
 
 -- the two operands of an operation, and its result

@@ -1,7 +1,6 @@
 -- The way by opcodes comes to the row of the table.
-use Rattle.std.proofs.Common.{◌≡◌, ℕ, ◌+◌, ◌<◌, ◌^◌, true, ◌&&◌, Some, List, ◌++◌, map, refl, subst, arith, eqb-true, nat_eq, get_or}
+use Rattle.std.proofs.Common.{◌≡◌, ℕ, ◌+◌, ◌<◌, ◌^◌, true, ◌&&◌, Some, refl, subst, arith, eqb-true, nat_eq}
 use Rattle.std.specs.List.{All}
-use Rattle.std.proofs.lemmas.List.Elements.{All-append, All-map, All-from_recursion}
 use Rattle.rv_code.specs.declared.instruction.Inst.{Inst}
 use Rattle.rv_code.specs.declared.instruction.Inst.TheVariants.{Op, Shift, Ecall, Ebreak}
 use Rattle.rv_code.specs.declared.instruction.OpOp.{OpOp}
@@ -18,9 +17,11 @@ use Rattle.rv_code.specs.declared.instruction.BranchOp.{BranchOp}
 use Rattle.rv_code.specs.declared.instruction.BranchOp.TheVariants.{Beq, Bne, Blt, Bge, Bltu, Bgeu}
 use Rattle.rv_code.specs.declared.instruction.UpperOp.{UpperOp}
 use Rattle.rv_code.specs.declared.instruction.UpperOp.TheVariants.{Lui, Auipc}
-use Rattle.rv_code.specs.Table.{Row, field, fits, op_code, op_imm_code, shift_code, amount_bits, load_code, store_code, branch_code, jalr_code, fence_code, upper_opcode, jal_opcode, ecall_word, ebreak_word, op_row, op_imm_row, shift_row, load_row, store_row, branch_row, upper_row, jal_row, jalr_row, fence_row, word_row, every_upper, every_branch, every_load, every_store, every_op_imm, every_shift, every_op, single_rows, table}
+use Rattle.rv_code.specs.Table.{Row, field, fits, op_code, op_imm_code, shift_code, amount_bits, load_code, store_code, branch_code, jalr_code, fence_code, upper_opcode, jal_opcode, ecall_word, ebreak_word, op_row, op_imm_row, shift_row, load_row, store_row, branch_row, upper_row, jal_row, jalr_row, fence_row, word_row, table}
 use Rattle.rv_code.specs.Search.{search}
-use Rattle.rv_code.proofs.Decoded.{HasCode, HasFullCode, op-code-of, shift-code-of, code-of, and-parts}
+use Rattle.rv_code.proofs.Bools.{and-parts}
+use Rattle.rv_code.proofs.EachRow.{every-row}
+use Rattle.rv_code.proofs.Decoded.{HasCode, HasFullCode, op-code-of, shift-code-of, code-of}
 
 -- ---- every row is found
 
@@ -163,33 +164,21 @@ word-found : (word : ℕ) (i : Inst) → word < 2 ^ 32 → search (field word 6 
 unfolding IsFound
 word-found word i b f w h e = subst (λ v. search (field v 6 0) v ≡ Some i) (same-word w word i h b e) f
 
-mapped : {X : Type 0} (f : X → Row) (xs : List X) → ((x : X) → IsFound (f x)) → All IsFound (map f xs)
-mapped f xs h = All-map IsFound f xs (λ k d l. h (get_or xs k d))
-
--- rows that are found; a record, so that the lists are known from it
-pub record EachFound (rows : List Row) : Type 0 where
-  pub each : All IsFound rows
-
-together : {xs ys : List Row} → EachFound xs → EachFound ys → EachFound (xs ++ ys)
-together {xs} {ys} h k = record { each = All-append IsFound xs ys h.each k.each }
-
-singles-found : EachFound single_rows
+pub all-found : All IsFound table
 unfolding search
-singles-found =
-    record {
-      each =
-          All-from_recursion IsFound single_rows
-          (jal-found, (jalr-found, (fence-found, (word-found ecall_word Ecall (omega arith) refl, (word-found ebreak_word Ebreak (omega arith) refl, tt)))));
-    }
-
-pub all-found : EachFound table
-unfolding table
 all-found =
-    let upper : EachFound (map upper_row every_upper) = record { each = mapped upper_row every_upper upper-found } in
-    let branch : EachFound (map branch_row every_branch) = record { each = mapped branch_row every_branch branch-found } in
-    let load : EachFound (map load_row every_load) = record { each = mapped load_row every_load load-found } in
-    let store : EachFound (map store_row every_store) = record { each = mapped store_row every_store store-found } in
-    let op_imm : EachFound (map op_imm_row every_op_imm) = record { each = mapped op_imm_row every_op_imm op_imm-found } in
-    let shift : EachFound (map shift_row every_shift) = record { each = mapped shift_row every_shift shift-found } in
-    let op : EachFound (map op_row every_op) = record { each = mapped op_row every_op op-found } in
-    together (together (together (together (together (together (together upper branch) load) store) op_imm) shift) op) singles-found
+    every-row IsFound
+    (record {
+      upper = upper-found;
+      branch = branch-found;
+      load = load-found;
+      store = store-found;
+      op_imm = op_imm-found;
+      shift = shift-found;
+      op = op-found;
+      jal = jal-found;
+      jalr = jalr-found;
+      fence = fence-found;
+      ecall = word-found ecall_word Ecall (omega arith) refl;
+      ebreak = word-found ebreak_word Ebreak (omega arith) refl;
+    })

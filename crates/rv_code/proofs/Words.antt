@@ -10,17 +10,11 @@ use Rattle.rv_code.specs.declared.instruction.BranchOp.{BranchOp}
 use Rattle.rv_code.specs.declared.instruction.UpperOp.{UpperOp}
 use Rattle.rv_code.specs.Table.{Row, Code, field, has_fields, fits, fixed_code, op_code, op_imm_code, shift_code, amount_bits, load_code, store_code, branch_code, jalr_code, fence_code, upper_opcode, jal_opcode, ecall_word, ebreak_word, op_row, shift_row, store_row, branch_row, upper_row, i_row, jal_row, word_row, row, decode}
 use Rattle.rv_code.specs.Encode.{word_of, encode, is_encodable, is_in_format, has_registers, bits_of_integer, has_bits, is_multiple, i_word}
+use Rattle.rv_code.proofs.Bools.{and-parts, both}
 use Rattle.rv_code.proofs.Integers.{integer_of_bits-bits, bits_of_integer-below, bits_of_integer-even, bits_of_integer-pages}
 use Rattle.rv_code.proofs.Fields.{HasRFields, HasIFields, HasSFields, HasBFields, HasUFields, HasJFields, HasShiftFields, shift_word-fields-5, shift_word-fields-6, r_word-fields, i_word-fields, s_word-fields, b_word-fields, u_word-fields, j_word-fields}
 use Rattle.rv_code.proofs.Rows.{first-fit-at}
 use Rattle.rv_code.proofs.Codes.{IsRow, FitsCode, op_row-there, op_imm_row-there, shift_row-there, load_row-there, store_row-there, branch_row-there, upper_row-there, jal_row-there, jalr_row-there, fence_row-there, ecall_row-there, ebreak_row-there, op_code-fits, op_imm_code-fits, load_code-fits, store_code-fits, branch_code-fits, upper_opcode-fits}
-
-and-parts : (a b : Bool) → a && b ≡ true → (a ≡ true) × (b ≡ true)
-and-parts true b e = (refl, e)
-and-parts false b e = absurd (cc)
-
-pub both : (a b : Bool) → a ≡ true → b ≡ true → a && b ≡ true
-both a b p q = rw (p, q) refl
 
 pub found : (w : ℕ) (r : Row) (i : Inst) → IsRow r → fits w r ≡ true → r.instruction w ≡ i → decode w ≡ Some i
 unfolding decode row

@@ -98,6 +98,7 @@ has_registers (Fence rd rs1 imm) = nat_lt rd 32 && nat_lt rs1 32
 has_registers Ecall = true
 has_registers Ebreak = true
 
+-- registers are numbers of registers, and the immediate or amount is within its format
 abbrev pub is_encodable : Inst → Bool
 is_encodable inst = has_registers inst && is_in_format inst
 

@@ -22,6 +22,7 @@ pub record State : Type 0 where
   pub input : List ℕ
   pub output : List ℕ
 
+-- what an instruction leads to: the next state, an exit with a code and all output, or a trap
 pub data Outcome : Type 0 where
   Ran : State → Outcome
   Exited : (code : ℕ) (output : List ℕ) → Outcome
@@ -53,6 +54,7 @@ holds flag address size s = has_flag s.flags flag && (nat_le s.address address &
 abbrev pub holder : List Segment → (flag address size : ℕ) → Option ℕ
 holder segments flag address size = position (holds flag address size) segments
 
+-- a segment without bytes, which stands for none
 abbrev pub empty_segment : Segment
 empty_segment = record { address = 0; flags = 0; bytes = [] }
 

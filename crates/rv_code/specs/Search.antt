@@ -176,12 +176,15 @@ word_shift_of funct7 funct3 =
 
 -- ---- the instruction of a word with an opcode
 
+-- bits 14 to 12
 abbrev pub funct3_field : ℕ → ℕ
 funct3_field word = field word 14 12
 
+-- opcode 0110011
 abbrev pub op_at : ℕ → Option Inst
 op_at word = option_map (λ op. Op op (rd_field word) (rs1_field word) (rs2_field word)) (op_of (field word 31 25) (funct3_field word))
 
+-- opcode 0111011
 abbrev pub word_op_at : ℕ → Option Inst
 word_op_at word =
     option_map (λ op. Op op (rd_field word) (rs1_field word) (rs2_field word)) (word_op_of (field word 31 25) (funct3_field word))
@@ -190,14 +193,17 @@ word_op_at word =
 abbrev pub is_shift : (funct3 : ℕ) → Bool
 is_shift funct3 = nat_eq funct3 0b001 || nat_eq funct3 0b101
 
+-- a shift with opcode 0010011
 abbrev pub shift_at : ℕ → Option Inst
 shift_at word =
     option_map (λ op. Shift op (rd_field word) (rs1_field word) (field word 25 20)) (shift_of (field word 31 26) (funct3_field word))
 
+-- a shift with opcode 0011011
 abbrev pub word_shift_at : ℕ → Option Inst
 word_shift_at word =
     option_map (λ op. Shift op (rd_field word) (rs1_field word) (field word 24 20)) (word_shift_of (field word 31 25) (funct3_field word))
 
+-- another operation with opcode 0010011
 abbrev pub op_imm_at : ℕ → Option Inst
 op_imm_at word = option_map (λ op. OpImm op (rd_field word) (rs1_field word) (i_immediate word)) (op_imm_of (funct3_field word))
 
@@ -210,12 +216,15 @@ abbrev pub word_immediate_at : ℕ → Option Inst
 word_immediate_at word =
     if nat_eq (funct3_field word) 0b000 then Some (OpImm Addiw (rd_field word) (rs1_field word) (i_immediate word)) else word_shift_at word
 
+-- opcode 0000011
 abbrev pub load_at : ℕ → Option Inst
 load_at word = option_map (λ op. Load op (rd_field word) (rs1_field word) (i_immediate word)) (load_of (funct3_field word))
 
+-- opcode 0100011
 abbrev pub store_at : ℕ → Option Inst
 store_at word = option_map (λ op. Store op (rs1_field word) (rs2_field word) (s_immediate word)) (store_of (funct3_field word))
 
+-- opcode 1100011
 abbrev pub branch_at : ℕ → Option Inst
 branch_at word = option_map (λ op. Branch op (rs1_field word) (rs2_field word) (b_immediate word)) (branch_of (funct3_field word))
 

@@ -27,12 +27,15 @@ field word high low = word / 2 ^ low % 2 ^ (high + 1 - low)
 abbrev pub integer_of_bits : (k n : ℕ) → ℤ
 integer_of_bits k n = if nat_lt n (2 ^ (k - 1)) then pos n else negsuc (2 ^ k - 1 - n)
 
+-- the destination register
 abbrev pub rd_field : ℕ → ℕ
 rd_field word = field word 11 7
 
+-- the first source register
 abbrev pub rs1_field : ℕ → ℕ
 rs1_field word = field word 19 15
 
+-- the second source register
 abbrev pub rs2_field : ℕ → ℕ
 rs2_field word = field word 24 20
 
@@ -71,9 +74,11 @@ pub record FullCode : Type 0 where
   pub funct3 : ℕ
   pub opcode : ℕ
 
+-- these two numbers
 abbrev pub code : (funct3 opcode : ℕ) → Code
 code funct3 opcode = record { funct3 = funct3; opcode = opcode }
 
+-- these three numbers
 abbrev pub full_code : (upper funct3 opcode : ℕ) → FullCode
 full_code upper funct3 opcode = record { upper = upper; funct3 = funct3; opcode = opcode }
 
@@ -136,6 +141,7 @@ op_imm_code Ori = code 0b110 0b0010011
 op_imm_code Andi = code 0b111 0b0010011
 op_imm_code Addiw = code 0b000 0b0011011
 
+-- funct3 and opcode
 abbrev pub load_code : LoadOp → Code
 load_code Lb = code 0b000 0b0000011
 load_code Lh = code 0b001 0b0000011
@@ -145,12 +151,14 @@ load_code Lbu = code 0b100 0b0000011
 load_code Lhu = code 0b101 0b0000011
 load_code Lwu = code 0b110 0b0000011
 
+-- funct3 and opcode
 abbrev pub store_code : StoreOp → Code
 store_code Sb = code 0b000 0b0100011
 store_code Sh = code 0b001 0b0100011
 store_code Sw = code 0b010 0b0100011
 store_code Sd = code 0b011 0b0100011
 
+-- funct3 and opcode
 abbrev pub branch_code : BranchOp → Code
 branch_code Beq = code 0b000 0b1100011
 branch_code Bne = code 0b001 0b1100011
@@ -159,9 +167,11 @@ branch_code Bge = code 0b101 0b1100011
 branch_code Bltu = code 0b110 0b1100011
 branch_code Bgeu = code 0b111 0b1100011
 
+-- funct3 and opcode
 abbrev pub jalr_code : Code
 jalr_code = code 0b000 0b1100111
 
+-- funct3 and opcode
 abbrev pub fence_code : Code
 fence_code = code 0b000 0b0001111
 
@@ -170,6 +180,7 @@ abbrev pub upper_opcode : UpperOp → ℕ
 upper_opcode Lui = 0b0110111
 upper_opcode Auipc = 0b0010111
 
+-- opcode
 abbrev pub jal_opcode : ℕ
 jal_opcode = 0b1101111
 
@@ -177,6 +188,7 @@ jal_opcode = 0b1101111
 abbrev pub ecall_word : ℕ
 ecall_word = 0x0000_0073
 
+-- the whole word
 abbrev pub ebreak_word : ℕ
 ebreak_word = 0x0010_0073
 
@@ -193,9 +205,11 @@ pub record Row : Type 0 where
   pub fixed : List Fixed
   pub instruction : ℕ → Inst
 
+-- the bits from high to low have a value
 abbrev pub fixed_field : (high low value : ℕ) → Fixed
 fixed_field high low value = record { high = high; low = low; value = value }
 
+-- funct3 and the opcode are fixed
 abbrev pub fixed_code : Code → List Fixed
 fixed_code c = fixed_field 14 12 c.funct3 ∷ fixed_field 6 0 c.opcode ∷ []
 
@@ -223,12 +237,15 @@ abbrev pub i_row : Code → (ℕ → ℕ → ℤ → Inst) → Row
 i_row c make =
     record { fixed = fixed_code c; instruction = λ word. make (rd_field word) (rs1_field word) (i_immediate word) }
 
+-- an operation with an immediate
 abbrev pub op_imm_row : OpImmOp → Row
 op_imm_row op = i_row (op_imm_code op) (OpImm op)
 
+-- a load
 abbrev pub load_row : LoadOp → Row
 load_row op = i_row (load_code op) (Load op)
 
+-- the jump to a register
 abbrev pub jalr_row : Row
 jalr_row = i_row jalr_code Jalr
 
@@ -268,27 +285,35 @@ word_row word inst =
 
 -- ---- the table
 
+-- every operation with an upper immediate
 abbrev pub every_upper : List UpperOp
 every_upper = Lui ∷ Auipc ∷ []
 
+-- every branch
 abbrev pub every_branch : List BranchOp
 every_branch = Beq ∷ Bne ∷ Blt ∷ Bge ∷ Bltu ∷ Bgeu ∷ []
 
+-- every load
 abbrev pub every_load : List LoadOp
 every_load = Lb ∷ Lh ∷ Lw ∷ Ld ∷ Lbu ∷ Lhu ∷ Lwu ∷ []
 
+-- every store
 abbrev pub every_store : List StoreOp
 every_store = Sb ∷ Sh ∷ Sw ∷ Sd ∷ []
 
+-- every operation with an immediate
 abbrev pub every_op_imm : List OpImmOp
 every_op_imm = Addi ∷ Slti ∷ Sltiu ∷ Xori ∷ Ori ∷ Andi ∷ Addiw ∷ []
 
+-- every shift by a constant
 abbrev pub every_shift : List ShiftOp
 every_shift = Slli ∷ Srli ∷ Srai ∷ Slliw ∷ Srliw ∷ Sraiw ∷ []
 
+-- every operation on two registers
 abbrev pub every_op : List OpOp
 every_op = Add ∷ Sub ∷ Sll ∷ Slt ∷ Sltu ∷ Xor ∷ Srl ∷ Sra ∷ Or ∷ And ∷ Addw ∷ Subw ∷ Sllw ∷ Srlw ∷ Sraw ∷ Mul ∷ Mulh ∷ Mulhsu ∷ Mulhu ∷ Div ∷ Divu ∷ Rem ∷ Remu ∷ Mulw ∷ Divw ∷ Divuw ∷ Remw ∷ Remuw ∷ []
 
+-- the rows of instructions that have one operation
 abbrev pub single_rows : List Row
 single_rows = jal_row ∷ jalr_row ∷ fence_row ∷ word_row ecall_word Ecall ∷ word_row ebreak_word Ebreak ∷ []
 
@@ -311,6 +336,7 @@ abbrev pub has_fields : ℕ → List Fixed → Bool
 has_fields word [] = true
 has_fields word (f ∷ fields) = nat_eq (field word f.high f.low) f.value && has_fields word fields
 
+-- the word has what the row fixes
 abbrev pub fits : ℕ → Row → Bool
 fits word row = has_fields word row.fixed
 

@@ -8,25 +8,31 @@ use Rattle.rv_asm.proofs.Labels.{spot_le-total, total-take_more, instructions-sa
 use Rattle.rv_asm.proofs.assemble.words_of_items.Goals as goal
 
 pub append_item-requires-clause-spots : goal.append_item-requires-clause-spots
-append_item-requires-clause-spots c = λ l h. omega (arith, c.requires.spots l h, spot_le-total c.args.items.now l, c.requires.room)
+append_item-requires-clause-spots c =
+    λ l h. omega (arith, c.requires.spots l h, spot_le-total c.args.items.now l, c.requires.room)
 
 pub loop-item-preserved : goal.loop-item-preserved
 loop-item-preserved c =
     let xs = c.args.items.now in
+    let labels = length c.args.spots.now in
+    let at = slice_index c.args.spots.now in
     let i = c.loop-item.item-index in
+    let n = vec_len c.loop-item.words in
     let x = c.item-item.result in
+    let invariant = c.loop-item.invariant in
     let within : i < length xs = omega arith in
     let before = code_from (spot xs) 0 (take i xs) in
-    let names : NamesBelow (length c.args.spots.now) x =
-    subst (NamesBelow (length c.args.spots.now)) (sym c.item-item.is) (All-get_or (NamesBelow (length c.args.spots.now)) xs i x within c.requires.labels) in
-    let here : instructions (slice_index c.args.spots.now) (vec_len c.loop-item.words) x ≡ instructions (spot xs) (total (take i xs)) (get_or xs i x) =
-    instructions-same (slice_index c.args.spots.now) (spot xs) (length c.args.spots.now) (vec_len c.loop-item.words) x c.requires.spots names
-    ∙ ap (λ n. instructions (spot xs) n x) c.loop-item.invariant.len ∙ ap (instructions (spot xs) (total (take i xs))) c.item-item.is in
+    let names : NamesBelow labels x =
+    subst (NamesBelow labels) (sym c.item-item.is) (All-get_or (NamesBelow labels) xs i x within c.requires.labels) in
+    let here : instructions at n x ≡ instructions (spot xs) (total (take i xs)) (get_or xs i x) =
+    instructions-same at (spot xs) labels n x c.requires.spots names ∙ ap (λ n. instructions (spot xs) n x) invariant.len
+    ∙ ap (instructions (spot xs) (total (take i xs))) c.item-item.is in
     record {
-      len = c.in_ok-append_item.ensures.len ∙ ap (λ n. n + size x) c.loop-item.invariant.len ∙ ap (λ y. total (take i xs) + size y) c.item-item.is ∙ sym (total-take_more xs i x within);
+      len =
+          c.in_ok-append_item.ensures.len ∙ ap (λ n. n + size x) invariant.len
+          ∙ ap (λ y. total (take i xs) + size y) c.item-item.is ∙ sym (total-take_more xs i x within);
       words =
-          c.in_ok-append_item.ensures.words
-          ∙ ap (λ w. w ++ map encode (instructions (slice_index c.args.spots.now) (vec_len c.loop-item.words) x)) c.loop-item.invariant.words
-          ∙ sym (map-append encode before (instructions (slice_index c.args.spots.now) (vec_len c.loop-item.words) x))
-          ∙ ap (λ is. map encode (before ++ is)) here ∙ ap (map encode) (sym (code-take_more (spot xs) xs i x within));
+          c.in_ok-append_item.ensures.words ∙ ap (λ w. w ++ map encode (instructions at n x)) invariant.words
+          ∙ sym (map-append encode before (instructions at n x)) ∙ ap (λ is. map encode (before ++ is)) here
+          ∙ ap (map encode) (sym (code-take_more (spot xs) xs i x within));
     }

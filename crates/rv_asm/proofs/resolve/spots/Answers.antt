@@ -11,10 +11,14 @@ use Rattle.rv_asm.specs.Assembly.{size, total, spot, NamesBelow}
 use Rattle.rv_asm.proofs.Labels.{back-total, back-spot, back-other}
 use Rattle.rv_asm.proofs.resolve.spots.Goals as goal
 
-set-here : (spots : List ℕ) (m here k rest : ℕ) → m < length spots → slice_index spots k ≡ here + rest → slice_index (slice_set spots m here) k ≡ here + (if eqb m k then 0 else rest)
+set-here :
+    (spots : List ℕ) (m here k rest : ℕ) → m < length spots → slice_index spots k ≡ here + rest →
+    slice_index (slice_set spots m here) k ≡ here + (if eqb m k then 0 else rest)
 set-here spots m here k rest h e = grind (arith, common_steps, nat_tests)
 
-mark-names : (labels : ℕ) (xs : List Item) (i : ℕ) (d : Item) (m : ℕ) → All (NamesBelow labels) xs → i < length xs → get_or xs i d ≡ Mark m → m < labels
+mark-names :
+    (labels : ℕ) (xs : List Item) (i : ℕ) (d : Item) (m : ℕ) → All (NamesBelow labels) xs → i < length xs →
+    get_or xs i d ≡ Mark m → m < labels
 mark-names labels xs i d m below within here = subst (NamesBelow labels) here (All-get_or (NamesBelow labels) xs i d within below)
 
 pub loop-index-preserved-in-Mark : goal.loop-index-preserved-in-Mark
@@ -31,7 +35,9 @@ loop-index-preserved-in-Mark c =
     record {
       before = omega arith;
       len = c.loop-index.invariant.len;
-      spots = λ k h. set-here c.loop-index.spots.items m c.loop-index.before k (spot (drop i xs) k) made (c.loop-index.invariant.spots k h) ∙ ap (λ n. c.loop-index.before + n) (sym (back-spot xs i some within _ (Mark m) here k));
+      spots = λ k h.
+          set-here c.loop-index.spots.items m c.loop-index.before k (spot (drop i xs) k) made (c.loop-index.invariant.spots k h)
+          ∙ ap (λ n. c.loop-index.before + n) (sym (back-spot xs i some within _ (Mark m) here k));
     }
 
 pub loop-index-preserved : goal.loop-index-preserved
@@ -43,9 +49,16 @@ loop-index-preserved c =
     let within : i ≤ length xs = omega arith in
     let here : get_or xs (i - 1) x ≡ x = sym c.item-item.is in
     let words : total (take (i - 1) xs) + size x ≡ total (take i xs) = back-total xs i some within x x here in
-    let other = λ (m : ℕ) (e : x ≡ Mark m). c.in_default.not-Mark m (sym (get_or_read xs (i - 1) x (omega arith) c.item-item.is _) ∙ e) in
+    let same = get_or_read xs (i - 1) x (omega arith) c.item-item.is in
+    let other = λ (m : ℕ) (e : x ≡ Mark m). c.in_default.not-Mark m (sym (same _) ∙ e) in
     record {
       before = omega (arith, c.words_of-before.ensures.is);
       len = c.loop-index.invariant.len;
-      spots = λ k h. omega (arith, c.loop-index.invariant.spots k h, back-other xs i some within x x here other k, c.words_of-before.ensures.is);
+      spots = λ k h.
+          omega (
+            arith,
+            c.loop-index.invariant.spots k h,
+            back-other xs i some within x x here other k,
+            c.words_of-before.ensures.is,
+          );
     }

@@ -1,7 +1,8 @@
-use Rattle.std.proofs.Common.{◌≡◌, ◌++◌, [], ◌∷◌, ◌-◌, ◌<◌, false, vec_capacity, arith, subst, sym, ap, ◌∙◌}
+-- There is room for a mark, and what is kept stays so behind it.
+use Rattle.std.proofs.Common.{◌≡◌, ◌++◌, [], ◌∷◌, ◌<◌, false, vec_capacity, arith, subst, sym, ap, ◌∙◌}
 use Rattle.std.specs.Prelude.{is_ok, if◌then◌else◌}
 use Rattle.rv_asm.specs.declared.item.Item.TheVariants.{Mark}
-use Rattle.rv_asm.specs.Assembly.{IsKept, is_placed}
+use Rattle.rv_asm.specs.Assembly.{is_placed}
 use Rattle.rv_asm.proofs.LabelsKept.{IsKept-mark, IsKept-open}
 use Rattle.rv_asm.proofs.asm.Asm.place.Goals as goal
 use Rattle.rv_asm.proofs.asm.Asm.place.Goals.{After-push}
@@ -15,7 +16,8 @@ unplaced c = subst (λ v. is_placed v.items c.args.label ≡ false) (sym c.self.
 some-open : (c : After-push) → 0 < c.self.inside.open_count
 some-open c =
     let a = c.self.inside in
-    IsKept-open a.items.items a.labels a.open_count (vec_capacity a.items) (vec_capacity c.push.new.self) c.self.invariant c.args.label (made c) (unplaced c)
+    IsKept-open a.items.items a.items.items a.labels a.open_count (vec_capacity a.items) (vec_capacity a.items) c.self.invariant
+    c.args.label (made c) (unplaced c)
 
 pub unwrap-requires : goal.unwrap-requires
 unwrap-requires c = c.push.ensures.succeeds (omega (arith, some-open c, c.self.invariant.room))
@@ -27,6 +29,9 @@ pub invariant_of-self : goal.invariant_of-self
 invariant_of-self c =
     let a = c.self.inside in
     let p = (goal.at.invariant_of-self c).After-push in
-    let pushed : c.push.new.self.items ≡ a.items.items ++ Mark c.args.label ∷ [] =
-    c.push.ensures.items ∙ ap (λ r. if is_ok r then a.items.items ++ Mark c.args.label ∷ [] else a.items.items) c.unwrap.ensures in
-    subst (λ xs. IsKept xs a.labels (a.open_count - 1) (vec_capacity c.push.new.self)) (sym pushed) (IsKept-mark a.items.items a.labels a.open_count (vec_capacity a.items) (vec_capacity c.push.new.self) c.self.invariant c.args.label (made p) (unplaced p) c.push.ensures.capacity)
+    let more = vec_capacity c.push.new.self in
+    let marked = a.items.items ++ Mark c.args.label ∷ [] in
+    let pushed : c.push.new.self.items ≡ marked =
+    c.push.ensures.items ∙ ap (λ r. if is_ok r then marked else a.items.items) c.unwrap.ensures in
+    IsKept-mark a.items.items c.push.new.self.items a.labels a.open_count (vec_capacity a.items) more c.self.invariant
+    c.args.label pushed (made p) (unplaced p) c.push.ensures.capacity

@@ -1,0 +1,148 @@
+//! The prelude: the first instructions, and the entries that the code of every action calls.
+
+ghost use Rattle.std.specs.Prelude.{◌≡◌, ℕ, ◌+◌, ◌<◌, ◌≤◌, [], ◌∷◌, ◌++◌, IfOk, OnOk, map, false};
+ghost use Rattle.rv_asm.specs.Assembly.{is_placed};
+ghost use Rattle.rv_asm.specs.Pieces.{exit_with, send_word};
+ghost use Rattle.rv_asm.specs.declared.item.Item.TheVariants.{Plain, Mark, Jump};
+ghost use Rattle.rv_codegen.specs.Blocks.{completed_label, failed_label, fail_label, send_label, start_label, end_label, set_registers, send_entry, prelude};
+
+use crate::constant::add_immediate;
+use acg_base::Memory;
+use rv_asm::{Asm, Label};
+use rv_code::{Inst, OpOp, Reg, ShiftOp, StoreOp, UpperOp};
+
+const ZERO: Reg = Reg(0);
+
+/// Holds the address to return to.
+pub(crate) const RETURN: Reg = Reg(1);
+
+/// Holds the address of the frame.
+const FRAME: Reg = Reg(2);
+
+/// Holds the address of the region.
+const REGION: Reg = Reg(3);
+
+/// Holds the first argument of a call, and the integer to be sent.
+pub(crate) const ARGUMENT: Reg = Reg(10);
+
+/// The labels of the entries.
+#[derive(Clone, Copy)]
+pub(crate) struct Entries {
+    pub(crate) completed: Label,
+    pub(crate) failed: Label,
+    pub(crate) fail: Label,
+    pub(crate) send: Label,
+    pub(crate) start: Label,
+    pub(crate) end: Label,
+}
+
+/// The labels of the entries, as the first of an assembler.
+pub(crate) fn make_entries(asm: &mut Asm) -> Result<Entries, Memory>
+    requires { asm.old.labels ≡ 0 }
+    ensures completed { IfOk result (λ e. e.completed ≡ completed_label) }
+    ensures failed { IfOk result (λ e. e.failed ≡ failed_label) }
+    ensures fail { IfOk result (λ e. e.fail ≡ fail_label) }
+    ensures send { IfOk result (λ e. e.send ≡ send_label) }
+    ensures start { IfOk result (λ e. e.start ≡ start_label) }
+    ensures end { IfOk result (λ e. e.end ≡ end_label) }
+    ensures asm { OnOk result (asm.new ≡ record asm.old { labels = 6 }) }
+{
+    Ok(Entries {
+        completed: asm.label()?,
+        failed: asm.label()?,
+        fail: asm.label()?,
+        send: asm.label()?,
+        start: asm.label()?,
+        end: asm.label()?,
+    })
+}
+
+/// Appends what sets the registers of the region and of the frame, and goes to the start.
+fn append_registers(asm: &mut Asm, start: Label, end: Label) -> Result<(), Memory>
+    requires start { start < asm.old.labels }
+    requires end { end < asm.old.labels }
+    ensures { start ≡ start_label → end ≡ end_label → OnOk result (asm.new ≡ record asm.old { items = asm.old.items ++ set_registers }) }
+{
+    asm.address(REGION, end)?;
+    asm.emit(add_immediate(REGION, REGION, 2047))?;
+    asm.emit(add_immediate(REGION, REGION, 2047))?;
+    asm.emit(add_immediate(REGION, REGION, 1))?;
+    asm.emit(Inst::Shift {
+        op: ShiftOp::Srli,
+        rd: REGION,
+        rs1: REGION,
+        amount: 12,
+    })?;
+    asm.emit(Inst::Shift {
+        op: ShiftOp::Slli,
+        rd: REGION,
+        rs1: REGION,
+        amount: 12,
+    })?;
+    asm.emit(Inst::Upper {
+        op: UpperOp::Lui,
+        rd: FRAME,
+        imm: 4096,
+    })?;
+    asm.emit(Inst::Op {
+        op: OpOp::Add,
+        rd: FRAME,
+        rs1: FRAME,
+        rs2: REGION,
+    })?;
+    asm.jump(start)
+}
+
+/// Appends an exit with a code.
+fn append_exit(asm: &mut Asm, code: u8) -> Result<(), Memory>
+    ensures { OnOk result (asm.new ≡ record asm.old { items = asm.old.items ++ map Plain (exit_with code) }) }
+{
+    asm.emit(add_immediate(ARGUMENT, ZERO, i32::from(code)))?;
+    asm.emit(add_immediate(Reg(17), ZERO, 93))?;
+    asm.emit(Inst::Ecall)
+}
+
+/// Appends the entry that sends.
+fn append_send(asm: &mut Asm) -> Result<(), Memory>
+    ensures { OnOk result (asm.new ≡ record asm.old { items = asm.old.items ++ map Plain send_entry }) }
+{
+    asm.emit(Inst::Store {
+        op: StoreOp::Sd,
+        rs1: REGION,
+        rs2: ARGUMENT,
+        imm: 0,
+    })?;
+    asm.emit(add_immediate(Reg(11), REGION, 0))?;
+    asm.emit(add_immediate(Reg(12), ZERO, 8))?;
+    asm.emit(add_immediate(Reg(17), ZERO, 64))?;
+    asm.emit(add_immediate(ARGUMENT, ZERO, 1))?;
+    asm.emit(Inst::Ecall)?;
+    asm.emit(Inst::Jalr {
+        rd: ZERO,
+        rs1: RETURN,
+        imm: 0,
+    })
+}
+
+/// Appends the first instructions and the entries.
+pub(crate) fn append_prelude(asm: &mut Asm, entries: Entries) -> Result<(), Memory>
+    requires empty { asm.old.items ≡ [] }
+    requires made { 6 ≤ asm.old.labels }
+    requires completed { entries.completed ≡ completed_label }
+    requires failed { entries.failed ≡ failed_label }
+    requires fail { entries.fail ≡ fail_label }
+    requires send { entries.send ≡ send_label }
+    requires start { entries.start ≡ start_label }
+    requires end { entries.end ≡ end_label }
+    ensures { OnOk result (asm.new ≡ record asm.old { items = prelude }) }
+{
+    append_registers(asm, entries.start, entries.end)?;
+    asm.place(entries.completed);
+    append_exit(asm, 0)?;
+    asm.place(entries.failed);
+    append_exit(asm, 1)?;
+    asm.place(entries.fail);
+    asm.jump(entries.failed)?;
+    asm.place(entries.send);
+    append_send(asm)
+}
