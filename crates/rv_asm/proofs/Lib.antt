@@ -21,4 +21,6 @@ pub mod Labels
 pub mod LabelsKept
 pub mod LabelsArrive
 mod Examples
+pub mod Appended
+pub mod Sending
 mod LabelsExample

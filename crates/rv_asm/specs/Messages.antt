@@ -1,8 +1,8 @@
 -- A small program that sends messages in order and exits, and what each moment of its run shows.
-use Rattle.std.specs.Prelude.{◌≡◌, ℕ, ◌+◌, ◌*◌, ◌≤◌, List, [], ◌∷◌, ◌++◌, length, take}
-use Rattle.rv_code.specs.Machine.{State, Outcome, Ran, Exited, Trapped, run}
+use Rattle.std.specs.Prelude.{◌≡◌, ℕ, ◌+◌, ◌*◌, ◌≤◌, ◌<◌, All, List, [], ◌∷◌, ◌++◌, length, take}
+use Rattle.rv_code.specs.Machine.{State, Outcome, Ran, Exited, Trapped, run, loaded}
 use Rattle.rv_code.specs.declared.instruction.Inst.{Inst}
-use Rattle.rv_asm.specs.Conventions.{region_register}
+use Rattle.rv_asm.specs.Conventions.{region_register, code_address, program_segments}
 use Rattle.rv_asm.specs.Pieces.{load_constant, send_word, exit_with}
 use Rattle.rv_asm.specs.WordMachine.{word_bytes}
 
@@ -25,3 +25,12 @@ IsMoment ms n (Trapped cause) = ⊥
 -- from this state the machine sends the messages
 abbrev pub SendsMessages : List ℕ → State → Type 0
 SendsMessages ms start = (n : ℕ) → IsMoment ms n (run n start)
+
+-- a program of these words sends the messages, whatever the capacity and the input
+abbrev pub SendsAlways : List ℕ → List ℕ → Type 0
+SendsAlways ms words =
+    (stack units : ℕ) (input : List ℕ) →
+    stack ≤ 16777216 →
+    units ≤ 4194304 →
+    All (λ b. b < 256) input →
+    SendsMessages ms (loaded code_address (program_segments words stack units) input)

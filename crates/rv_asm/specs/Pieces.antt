@@ -1,6 +1,7 @@
 -- Short pieces of code that generated code is made of.
-use Rattle.std.specs.Prelude.{ℕ, zero, suc, ◌+◌, ◌-◌, ◌*◌, ◌/◌, ◌%◌, ◌^◌, nat_lt, nat_le, if◌then◌else◌, List, [], ◌∷◌, ◌++◌, ℤ, pos, negsuc}
+use Rattle.std.specs.Prelude.{ℕ, zero, suc, ◌+◌, ◌-◌, ◌*◌, ◌/◌, ◌%◌, ◌^◌, nat_lt, nat_le, if◌then◌else◌, List, [], ◌∷◌, ◌++◌, ℤ, pos, negsuc, IsTrue, map}
 use Rattle.rv_code.specs.Table.{integer_of_bits}
+use Rattle.rv_code.specs.Encode.{has_bits}
 use Rattle.rv_code.specs.declared.instruction.Inst.{Inst}
 use Rattle.rv_code.specs.declared.instruction.Inst.TheVariants.{OpImm, Shift, Load, Store, Upper, Ecall}
 use Rattle.rv_code.specs.declared.instruction.LoadOp.TheVariants.{Ld}
@@ -8,7 +9,9 @@ use Rattle.rv_code.specs.declared.instruction.OpImmOp.TheVariants.{Addi}
 use Rattle.rv_code.specs.declared.instruction.ShiftOp.TheVariants.{Slli}
 use Rattle.rv_code.specs.declared.instruction.StoreOp.TheVariants.{Sd}
 use Rattle.rv_code.specs.declared.instruction.UpperOp.TheVariants.{Lui}
+use Rattle.rv_asm.specs.Assembly.{Listing}
 use Rattle.rv_asm.specs.Conventions.{region_register}
+use Rattle.rv_asm.specs.declared.item.Item.TheVariants.{Plain}
 
 -- ---- a constant of 64 bits in a register
 
@@ -60,3 +63,13 @@ send_word register place =
 -- an exit with a code below 256
 abbrev pub exit_with : ℕ → List Inst
 exit_with code = OpImm Addi 10 0 (pos code) ∷ OpImm Addi 17 0 (pos 93) ∷ Ecall ∷ []
+
+-- ---- pieces that are emitted
+
+-- an assembler's listing with a piece behind it
+abbrev pub appended : Listing → List Inst → Listing
+appended listing piece = record listing { items = listing.items ++ map Plain piece }
+
+-- an immediate of 12 bits
+abbrev pub fits_immediate : ℤ → Type 0
+fits_immediate z = IsTrue (has_bits 12 z)

@@ -6,6 +6,10 @@ pub mod asm;
 mod assemble;
 mod far;
 pub mod item;
+pub mod pieces;
+#[cfg(test)]
+mod pieces_tests;
+pub mod program;
 mod resolve;
 #[cfg(test)]
 mod tests;
