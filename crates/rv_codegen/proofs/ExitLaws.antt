@@ -1,6 +1,6 @@
 -- Where nodes go on: each part of a node in the node, where no number is a part of two nodes.
 use Rattle.std.proofs.Common.{◌≡◌, ◌≢◌, ◌⊎◌, ℕ, zero, suc, ◌+◌, ◌*◌, ◌<◌, ◌≤◌, List, [], ◌∷◌, length, get_or, set, replicate, Option, None, Some, refl, sym, ap, ◌∙◌, arith, inl, inr, length-set, get_or-set_same, add-zero, add-one, drop}
-use Rattle.std.proofs.lemmas.List.{get_or-set_other, get_or-replicate, length-replicate, drop_more}
+use Rattle.std.proofs.lemmas.List.{get_or-set_other, get_or-replicate, length-replicate, drop_more, get_or_default}
 use Rattle.std.specs.Prelude.{slice_get}
 use Rattle.action_terms.specs.Actions.{Join, Chain, Node, Both, Phases, Action}
 use Rattle.rv_codegen.specs.Blocks.{completed_label, middle_of, stop_of, with_exits, exits_from, exits_of}
@@ -95,9 +95,9 @@ module _ (a : Action) (tree : HasTree a) where
   root-exit some = exits_from-other a 0 0 (replicate (length a) completed_label) (λ j n e p. tree.root j n e p) ∙ get_or-replicate (length a) 0 completed_label 0 some
 
 -- the exits of one node more, of works from number k on
-pub exits_from-next : (works : List Work) (k : ℕ) (w : Work) (exits : List ℕ) → k < length works → w ≡ get_or works k w → exits_from (k + 1) (action_of_works (drop (k + 1) works)) (with_exits (node_of_work w) k exits) ≡ exits_from k (action_of_works (drop k works)) exits
-exits_from-next works k w exits lt is =
-    let e : drop k works ≡ w ∷ drop (k + 1) works = drop_more works k w lt ∙ ap (λ x. x ∷ drop (k + 1) works) (sym is) in
-    rw (e, add-one) refl
+pub exits_from-next : (works : List Work) (k : ℕ) (d : Work) (exits : List ℕ) → k < length works → exits_from (k + 1) (action_of_works (drop (k + 1) works)) (with_exits (node_of_work (get_or works k d)) k exits) ≡ exits_from k (action_of_works (drop k works)) exits
+exits_from-next works k d exits lt = let e = drop_more works k d lt in rw (e, add-one) refl
 
-pub ruleset exits_step = (exits_from-next)
+-- a label that was read is the one at its place
+pub label-at : (labels : List ℕ) (i l n : ℕ) → i < length labels → l ≡ get_or labels i l → get_or labels i 0 ≡ n → l ≡ n
+label-at labels i l n lt is at = is ∙ get_or_default labels i l 0 lt ∙ at

@@ -15,8 +15,8 @@ pub jump-runs : (base : ℕ) (code : List Inst) (c : WordState) (from to : ℕ) 
 jump-runs base code c from to a b at h = far_jump-runs base code from to a b c at (subst (λ n. Has code n (far_jump from to)) (sym at) h)
 
 -- the state after the address of a place was put into register d + 1
-abbrev pub addressed : WordState → (d to : ℕ) → WordState
-addressed c d to = record c { pc = c.pc + 4 + 4; registers = put c.registers (suc d) (address_of to) }
+abbrev pub addressed : WordState → (d from to : ℕ) → WordState
+addressed c d from to = record c { pc = address_of (from + 2); registers = put c.registers (suc d) (address_of to) }
 
-pub address-runs : (base : ℕ) (code : List Inst) (c : WordState) (d from to : ℕ) → from < 2 ^ 28 → to < 2 ^ 28 → c.pc ≡ address_of from → Has code (address_of from) (far_address (suc d) from to) → run_words base code 2 c ≡ Goes (addressed c d to)
+pub address-runs : (base : ℕ) (code : List Inst) (c : WordState) (d from to : ℕ) → from < 2 ^ 28 → to < 2 ^ 28 → c.pc ≡ address_of from → Has code (address_of from) (far_address (suc d) from to) → run_words base code 2 c ≡ Goes (addressed c d from to)
 address-runs base code c d from to a b at h = far_address-runs base code from to a b c at d (subst (λ n. Has code n (far_address (suc d) from to)) (sym at) h)

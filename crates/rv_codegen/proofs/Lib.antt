@@ -10,5 +10,4 @@ pub mod ExitLaws
 pub mod Standing
 pub mod Entering
 pub mod Right
-pub mod Immediates
 pub mod Fresh

@@ -149,7 +149,7 @@ module _ (a : Action) (ok : IsCompilable a) (small : 4 * total (action_items a) 
     unfolding entry first
     enters =
         let end = spot items end_label in
-        let s1 = addressed entry 2 end in
+        let s1 = addressed entry 2 0 end in
         let r1 = address-runs base code entry 2 0 end (omega arith) (near-spot end_label) refl stood.address in
         let here : s1.registers 3 ≡ 65536 + 4 * length code = ap address_of (stood.end ∙ sym length-items) in
         let s2 = round_up-runs base (4 * length code) code s1 (omega (arith, length-items, small)) here stood.round in

@@ -72,11 +72,10 @@ module _ (base : ℕ) (code : List Inst) (p : Places) (near : AreNear p) (aligne
       let loads = load_constant-runs base code 10 word c (omega arith) s.fits (subst (λ x. Has code x (load_constant 10 word)) (sym at) s.load) in
       let c1 = record c { pc = c.pc + 4 * n; registers = put c.registers 10 word } in
       let at1 : c1.pc ≡ address_of s.call = omega (arith, at, s.behind_load) in
-      let c2 = addressed c1 0 (p.middle k) in
-      let at2 : c2.pc ≡ address_of (s.call + 2) = omega (arith, at1) in
+      let c2 = addressed c1 0 s.call (p.middle k) in
       let back = address-runs base code c1 0 s.call (p.middle k) (omega (arith, s.near_call)) (near.middle k) at1 s.back in
       let c3 = jumped c2 (s.call + 2) p.send in
-      let enters = jump-runs base code c2 (s.call + 2) p.send s.near_call near.send at2 s.enter in
+      let enters = jump-runs base code c2 (s.call + 2) p.send s.near_call near.send refl s.enter in
       let sent = send_entry-runs base code c3 (address_of (p.middle k)) (record { aligned = aligned; below = omega arith; region = region; inside = some }) refl (omega arith) (omega (arith, near.middle k)) entry in
       let c5 = jumped sent.to (p.middle k) (p.exit k) in
       let leaves = jump-runs base code sent.to (p.middle k) (p.exit k) (near.middle k) (near.exit k) sent.at s.leave in

@@ -7,7 +7,7 @@ use Rattle.rv_code.specs.declared.instruction.OpImmOp.TheVariants.{Addi}
 use Rattle.rv_code.specs.declared.instruction.ShiftOp.TheVariants.{Slli, Srli}
 use Rattle.rv_code.specs.declared.instruction.UpperOp.TheVariants.{Lui}
 use Rattle.rv_asm.specs.Conventions.{integer_word}
-use Rattle.rv_asm.specs.Pieces.{send_word, exit_with, load_constant, low_part}
+use Rattle.rv_asm.specs.Pieces.{send_word, exit_with, load_constant}
 use Rattle.rv_asm.specs.declared.item.Item.{Item}
 use Rattle.rv_asm.specs.declared.item.Item.TheVariants.{Plain, Mark, Jump, Address}
 use Rattle.action_terms.specs.Actions.{NumberLiteral, And, AndThen, Complete, Failing, Send, Node, Simple, Both, Phases, Action}
@@ -64,12 +64,6 @@ prelude =
     ++ ((Mark failed_label ∷ map Plain (exit_with 1))
     ++ ((Mark fail_label ∷ Jump failed_label ∷ [])
     ++ (Mark send_label ∷ map Plain send_entry))))
-
--- ---- constants
-
--- what follows for each 12 bits of a constant behind its first part
-abbrev pub last_part : (rd value : ℕ) → List Inst
-last_part rd value = Shift Slli rd rd 12 ∷ OpImm Addi rd rd (low_part value) ∷ []
 
 -- ---- nodes
 

@@ -1,5 +1,5 @@
 -- What the code of a node has to do, and the node that does so.
-use Rattle.std.specs.Prelude.{◌≡◌, ℕ, ◌<◌, List, map}
+use Rattle.std.specs.Prelude.{◌≡◌, ℕ, suc, ◌<◌, Bool, true, false, if◌then◌else◌, List, [], ◌∷◌, map}
 use Rattle.action_terms.specs.Actions.{NumberLiteral, And, AndThen, Complete, Failing, Send, Node, Simple, Both, Phases, Action}
 use Rattle.rv_codegen.specs.declared.work.Work.{Work}
 use Rattle.rv_codegen.specs.declared.work.Work.TheVariants as work
@@ -19,3 +19,20 @@ abbrev pub HasPartsBelow : ℕ → Work → Type 0
 HasPartsBelow n (work.And l r) = (l < n) × (r < n)
 HasPartsBelow n (work.AndThen l r) = (l < n) × (r < n)
 HasPartsBelow n _ = Unit {0}
+
+-- whether the code of a node can be generated: its kind, and each yielder of it, is built
+abbrev pub is_built_node : Node → Bool
+is_built_node (Simple Complete) = true
+is_built_node (Simple Failing) = true
+is_built_node (Simple (Send (NumberLiteral z))) = true
+is_built_node (Both And l r) = true
+is_built_node (Phases AndThen l r) = true
+is_built_node _ = false
+
+-- the numbers, from k on, of the nodes whose code can't be generated
+abbrev pub unbuilt_from : ℕ → Action → List ℕ
+unbuilt_from k [] = []
+unbuilt_from k (n ∷ a) = if is_built_node n then unbuilt_from (suc k) a else k ∷ unbuilt_from (suc k) a
+
+abbrev pub unbuilt : Action → List ℕ
+unbuilt a = unbuilt_from 0 a

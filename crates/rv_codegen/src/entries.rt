@@ -2,14 +2,15 @@
 
 ghost use Rattle.std.specs.Prelude.{◌≡◌, ℕ, ◌+◌, ◌<◌, ◌≤◌, [], ◌∷◌, ◌++◌, IfOk, OnOk, map, false};
 ghost use Rattle.rv_asm.specs.Assembly.{is_placed};
-ghost use Rattle.rv_asm.specs.Pieces.{exit_with, send_word};
+ghost use Rattle.rv_code.specs.declared.instruction.Inst.TheVariants.{OpImm};
+ghost use Rattle.rv_code.specs.declared.instruction.OpImmOp.TheVariants.{Addi};
 ghost use Rattle.rv_asm.specs.declared.item.Item.TheVariants.{Plain, Mark, Jump};
 ghost use Rattle.rv_codegen.specs.Blocks.{completed_label, failed_label, fail_label, send_label, start_label, end_label, set_registers, send_entry, prelude};
 
-use crate::constant::add_immediate;
 use acg_base::Memory;
+use rv_asm::pieces::{exit_with, send_word};
 use rv_asm::{Asm, Label};
-use rv_code::{Inst, OpOp, Reg, ShiftOp, StoreOp, UpperOp};
+use rv_code::{Inst, OpImmOp, OpOp, Reg, ShiftOp, UpperOp};
 
 const ZERO: Reg = Reg(0);
 
@@ -57,6 +58,18 @@ pub(crate) fn make_entries(asm: &mut Asm) -> Result<Entries, Memory>
     })
 }
 
+/// The sum of a register and an immediate.
+fn add_immediate(rd: Reg, imm: i32) -> Inst
+    ensures { result ≡ OpImm Addi rd rd imm }
+{
+    Inst::OpImm {
+        op: OpImmOp::Addi,
+        rd,
+        rs1: rd,
+        imm,
+    }
+}
+
 /// Appends what sets the registers of the region and of the frame, and goes to the start.
 fn append_registers(asm: &mut Asm, start: Label, end: Label) -> Result<(), Memory>
     requires start { start < asm.old.labels }
@@ -64,9 +77,9 @@ fn append_registers(asm: &mut Asm, start: Label, end: Label) -> Result<(), Memor
     ensures { start ≡ start_label → end ≡ end_label → OnOk result (asm.new ≡ record asm.old { items = asm.old.items ++ set_registers }) }
 {
     asm.address(REGION, end)?;
-    asm.emit(add_immediate(REGION, REGION, 2047))?;
-    asm.emit(add_immediate(REGION, REGION, 2047))?;
-    asm.emit(add_immediate(REGION, REGION, 1))?;
+    asm.emit(add_immediate(REGION, 2047))?;
+    asm.emit(add_immediate(REGION, 2047))?;
+    asm.emit(add_immediate(REGION, 1))?;
     asm.emit(Inst::Shift {
         op: ShiftOp::Srli,
         rd: REGION,
@@ -93,30 +106,11 @@ fn append_registers(asm: &mut Asm, start: Label, end: Label) -> Result<(), Memor
     asm.jump(start)
 }
 
-/// Appends an exit with a code.
-fn append_exit(asm: &mut Asm, code: u8) -> Result<(), Memory>
-    ensures { OnOk result (asm.new ≡ record asm.old { items = asm.old.items ++ map Plain (exit_with code) }) }
-{
-    asm.emit(add_immediate(ARGUMENT, ZERO, i32::from(code)))?;
-    asm.emit(add_immediate(Reg(17), ZERO, 93))?;
-    asm.emit(Inst::Ecall)
-}
-
 /// Appends the entry that sends.
 fn append_send(asm: &mut Asm) -> Result<(), Memory>
     ensures { OnOk result (asm.new ≡ record asm.old { items = asm.old.items ++ map Plain send_entry }) }
 {
-    asm.emit(Inst::Store {
-        op: StoreOp::Sd,
-        rs1: REGION,
-        rs2: ARGUMENT,
-        imm: 0,
-    })?;
-    asm.emit(add_immediate(Reg(11), REGION, 0))?;
-    asm.emit(add_immediate(Reg(12), ZERO, 8))?;
-    asm.emit(add_immediate(Reg(17), ZERO, 64))?;
-    asm.emit(add_immediate(ARGUMENT, ZERO, 1))?;
-    asm.emit(Inst::Ecall)?;
+    send_word(asm, ARGUMENT, 0)?;
     asm.emit(Inst::Jalr {
         rd: ZERO,
         rs1: RETURN,
@@ -138,9 +132,9 @@ pub(crate) fn append_prelude(asm: &mut Asm, entries: Entries) -> Result<(), Memo
 {
     append_registers(asm, entries.start, entries.end)?;
     asm.place(entries.completed);
-    append_exit(asm, 0)?;
+    exit_with(asm, 0)?;
     asm.place(entries.failed);
-    append_exit(asm, 1)?;
+    exit_with(asm, 1)?;
     asm.place(entries.fail);
     asm.jump(entries.failed)?;
     asm.place(entries.send);

@@ -2,7 +2,6 @@
 //! image is right.
 #![tactic(auto)]
 
-mod constant;
 mod entries;
 mod exits;
 mod labels;

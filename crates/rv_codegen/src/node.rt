@@ -4,9 +4,9 @@ ghost use Rattle.std.specs.Prelude.{◌≡◌, ℕ, ◌+◌, ◌<◌, ◌≤◌,
 ghost use Rattle.rv_asm.specs.Assembly.{is_placed};
 ghost use Rattle.rv_codegen.specs.Blocks.{start_of, middle_of, stop_of, send_label, one_jump, one_send, two_parts};
 
-use crate::constant::append_constant;
 use crate::entries::{ARGUMENT, RETURN};
 use acg_base::Memory;
+use rv_asm::pieces::load_constant;
 use rv_asm::{Asm, Label};
 
 /// The labels of a node: its start, the place behind its first part, and the place behind its second.
@@ -78,7 +78,7 @@ pub(crate) fn append_one_send(
     ensures { (k : ℕ) → labels.start ≡ start_of k → labels.middle ≡ middle_of k → labels.stop ≡ stop_of k → send ≡ send_label → OnOk result (asm.new ≡ record asm.old { items = asm.old.items ++ one_send k exit word }) }
 {
     asm.place(labels.start);
-    append_constant(asm, ARGUMENT, word)?;
+    load_constant(asm, ARGUMENT, word)?;
     asm.address(RETURN, labels.middle)?;
     asm.jump(send)?;
     asm.place(labels.middle);
