@@ -1,5 +1,6 @@
 -- What the code of a node has to do, and the node that does so.
-use Rattle.std.specs.Prelude.{◌≡◌, ℕ, suc, ◌<◌, Bool, true, false, if◌then◌else◌, List, [], ◌∷◌, map}
+use Rattle.std.specs.Prelude.{◌≡◌, ℕ, suc, ◌<◌, ◌^◌, Bool, true, false, if◌then◌else◌, List, [], ◌∷◌, map}
+use Rattle.rv_asm.specs.Conventions.{integer_word}
 use Rattle.action_terms.specs.Actions.{NumberLiteral, And, AndThen, Complete, Failing, Send, Node, Simple, Both, Phases, Action}
 use Rattle.rv_codegen.specs.declared.work.Work.{Work}
 use Rattle.rv_codegen.specs.declared.work.Work.TheVariants as work
@@ -19,6 +20,11 @@ abbrev pub HasPartsBelow : ℕ → Work → Type 0
 HasPartsBelow n (work.And l r) = (l < n) × (r < n)
 HasPartsBelow n (work.AndThen l r) = (l < n) × (r < n)
 HasPartsBelow n _ = Unit {0}
+
+-- an integer that is sent is one of 64 bits
+abbrev pub FitsWord : Work → Type 0
+FitsWord (work.Send z) = integer_word z < 2 ^ 64
+FitsWord _ = Unit {0}
 
 -- whether the code of a node can be generated: its kind, and each yielder of it, is built
 abbrev pub is_built_node : Node → Bool
