@@ -11,3 +11,4 @@ pub mod Standing
 pub mod Entering
 pub mod Right
 pub mod Fresh
+pub mod NodesLaws

@@ -119,15 +119,15 @@ fn append_send(asm: &mut Asm) -> Result<(), Memory>
 }
 
 /// Appends the first instructions and the entries.
-pub(crate) fn append_prelude(asm: &mut Asm, entries: Entries) -> Result<(), Memory>
+pub(crate) fn append_prelude(asm: &mut Asm, entries: &Entries) -> Result<(), Memory>
     requires empty { asm.old.items ≡ [] }
     requires made { 6 ≤ asm.old.labels }
-    requires completed { entries.completed ≡ completed_label }
-    requires failed { entries.failed ≡ failed_label }
-    requires fail { entries.fail ≡ fail_label }
-    requires send { entries.send ≡ send_label }
-    requires start { entries.start ≡ start_label }
-    requires end { entries.end ≡ end_label }
+    requires completed { entries.now.completed ≡ completed_label }
+    requires failed { entries.now.failed ≡ failed_label }
+    requires fail { entries.now.fail ≡ fail_label }
+    requires send { entries.now.send ≡ send_label }
+    requires start { entries.now.start ≡ start_label }
+    requires end { entries.now.end ≡ end_label }
     ensures { OnOk result (asm.new ≡ record asm.old { items = prelude }) }
 {
     append_registers(asm, entries.start, entries.end)?;

@@ -4,6 +4,7 @@
 
 mod entries;
 mod exits;
+mod generate;
 mod labels;
 mod node;
 pub mod work;

@@ -114,15 +114,15 @@ pub(crate) fn append_node(
     k: usize,
     work: Work,
     exit: Label,
-    entries: Entries,
+    entries: &Entries,
 ) -> Result<(), Memory>
     requires within { 3 * k + 2 < length labels.now }
     requires made { 6 + length labels.now ≤ asm.old.labels }
     requires numbers { (i : ℕ) → i < length labels.now → slice_index labels.now i ≡ 6 + i }
     requires parts { HasPartsBelow (length labels.now / 3) work }
     requires exit { exit < asm.old.labels }
-    requires fail { entries.fail ≡ fail_label }
-    requires send { entries.send ≡ send_label }
+    requires fail { entries.now.fail ≡ fail_label }
+    requires send { entries.now.send ≡ send_label }
     requires fresh { (l : ℕ) → start_of k ≤ l → is_placed asm.old.items l ≡ false }
     ensures items { OnOk result (asm.new ≡ record asm.old { items = asm.old.items ++ block k exit (node_of_work work) }) }
     ensures fits { OnOk result (FitsWord work) }
