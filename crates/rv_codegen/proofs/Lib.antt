@@ -12,3 +12,4 @@ pub mod Entering
 pub mod Right
 pub mod Fresh
 pub mod NodesLaws
+pub mod Totals

@@ -24,7 +24,6 @@ fn set_exits(exits: &mut Vec<Label>, work: Work, middle: Label, stop: Label)
     }
 }
 
-
 /// The label where each node goes on, by the number of the node. The labels of the nodes stand in a row, three for each.
 pub(crate) fn make_exits(
     alloc: Global,

@@ -41,3 +41,53 @@ fn append_nodes(
     }
     Ok(())
 }
+
+/// Appends the way to the root, the code of the nodes, and the end, behind the prelude.
+#[tactic(auto, using(crate::proofs::Fresh::freshness))]
+fn append_action(
+    asm: &mut Asm,
+    works: &[Work],
+    labels: &[Label],
+    exits: &[Label],
+    entries: &Entries,
+) -> Result<(), Memory>
+    requires labels { length labels.now ≡ 3 * length works.now }
+    requires made { 6 + length labels.now ≤ asm.old.labels }
+    requires numbers { (i : ℕ) → i < length labels.now → slice_index labels.now i ≡ 6 + i }
+    requires parts { All (HasPartsBelow (length works.now)) works.now }
+    requires some { 0 < length works.now }
+    requires exits { exits.now ≡ exits_of (action_of_works works.now) }
+    requires exits_len { length exits.now ≡ length works.now }
+    requires exits_made { All (λ l. l < 6 + 3 * length works.now) exits.now }
+    requires fail { entries.now.fail ≡ fail_label }
+    requires send { entries.now.send ≡ send_label }
+    requires start { entries.now.start ≡ start_label }
+    requires end { entries.now.end ≡ end_label }
+    requires prelude { asm.old.items ≡ prelude }
+    ensures items { OnOk result (asm.new.items ≡ action_items (action_of_works works.now)) }
+    ensures fits { OnOk result (All FitsWord works.now) }
+{
+    asm.place(entries.start);
+    asm.jump(labels[0])?;
+    append_nodes(asm, works, labels, exits, entries)?;
+    asm.place(entries.end);
+    Ok(())
+}
+
+/// The code of what the nodes have to do.
+#[tactic(auto, using(crate::proofs::Totals::assembled))]
+fn assemble(alloc: Global, works: &[Work]) -> Result<Code, Memory>
+    requires parts { All (HasPartsBelow (length works.now)) works.now }
+    requires some { 0 < length works.now }
+    requires few { length works.now ≤ 65536 }
+    ensures words { IfOk result (λ code. map Some code.words.items ≡ map encode (code_of (action_items (action_of_works works.now)))) }
+    ensures fits { OnOk result (All FitsWord works.now) }
+{
+    let mut asm = Asm::new(alloc)?;
+    let entries = make_entries(&mut asm)?;
+    let labels = make_labels(alloc, &mut asm, 3 * works.len())?;
+    let exits = make_exits(alloc, works, &labels, entries.completed)?;
+    append_prelude(&mut asm, &entries)?;
+    append_action(&mut asm, works, &labels, &exits, &entries)?;
+    asm.finish()
+}
