@@ -13,3 +13,4 @@ pub mod Right
 pub mod Fresh
 pub mod NodesLaws
 pub mod Totals
+pub mod Loading

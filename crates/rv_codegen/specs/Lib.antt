@@ -1,3 +1,4 @@
 pub mod RightImage
 pub mod Blocks
 pub mod Works
+pub mod Measures

@@ -1,0 +1,42 @@
+-- The image of compiled code loads.
+use Rattle.std.proofs.Common.{◌≡◌, ◌⊎◌, ℕ, zero, suc, ◌+◌, ◌*◌, ◌^◌, ◌<◌, ◌≤◌, List, [], ◌∷◌, length, refl, arith, inl, inr}
+use Rattle.std.specs.Prelude.{All, AllPairs}
+use Rattle.rv_code.specs.Images.{Image, ImageSegment, IsImage, AreApart}
+use Rattle.rv_asm.specs.Conventions.{region_address, region_size}
+use Rattle.rv_codegen.specs.RightImage.{compiled_image, code_limit, Loads}
+
+-- a fact of each of two
+All-two : {X : Type 0} (P : X → Type 0) (x y : X) → P x → P y → All P (x ∷ y ∷ [])
+All-two P x y p q zero d lt = p
+All-two P x y p q (suc zero) d lt = q
+All-two P x y p q (suc (suc i)) d lt = absurd (omega arith)
+
+-- a fact of two in their order
+AllPairs-two : {X : Type 0} (R : X → X → Type 0) (x y : X) → R x y → AllPairs R (x ∷ y ∷ [])
+AllPairs-two R x y r zero zero d lt in = absurd (omega arith)
+AllPairs-two R x y r zero (suc zero) d lt in = r
+AllPairs-two R x y r zero (suc (suc j)) d lt in = absurd (omega arith)
+AllPairs-two R x y r (suc i) zero d lt in = absurd (omega arith)
+AllPairs-two R x y r (suc i) (suc zero) d lt in = absurd (omega arith)
+AllPairs-two R x y r (suc i) (suc (suc j)) d lt in = absurd (omega arith)
+
+pub compiled-loads : (code : List ℕ) (stack units nodes : ℕ) → nodes ≤ 65536 → stack ≤ 16777216 → units ≤ 4194304 → length code ≤ code_limit nodes → Loads (compiled_image code stack units) stack units nodes
+compiled-loads code stack units nodes few s u short =
+    let size = length code in
+    let behind : 65536 + size ≤ region_address size = omega arith in
+    let below : region_address size ≤ 65536 + size + 4096 = omega arith in
+    let code_part : ImageSegment = record { address = 65536; flags = 1; bytes = code; size = size } in
+    let region : ImageSegment = record { address = region_address size; flags = 6; bytes = []; size = region_size stack units } in
+    record {
+      valid = record {
+        few = omega arith;
+        flags = All-two (λ x. x.flags ≤ 7) code_part region (omega arith) (omega arith);
+        sizes = All-two (λ x. length x.bytes ≤ x.size) code_part region (omega arith) (omega arith);
+        low = All-two (λ x. x.address + x.size ≤ 2 ^ 32) code_part region (omega arith) (omega arith);
+        apart = AllPairs-two AreApart code_part region (inr (inr (inl behind)));
+        total = omega arith;
+      };
+      code = code;
+      compiled = refl;
+      short = short;
+    }

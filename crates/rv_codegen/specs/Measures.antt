@@ -1,0 +1,28 @@
+-- What an action of the built kinds is measured by: all data and bindings of its nodes are empty.
+use Rattle.std.specs.Prelude.{ℕ, ◌+◌, ◌*◌, [], length}
+use Rattle.action_terms.specs.Actions.{Action}
+use Rattle.action_terms.specs.Need.{Sizes, most_yielders, factor}
+use Rattle.action_terms.specs.Numbering.{Listed}
+use Rattle.action_terms.specs.Meaning.{action_of}
+use Rattle.rv_codegen.specs.RightImage.{Subject}
+
+-- the slots of a procedure with so many nodes, all of whose data and bindings are empty
+abbrev pub empty_slots : ℕ → ℕ
+empty_slots nodes = 32 + 8 * nodes
+
+-- the whole action is the main procedure: it has no body that is called
+abbrev pub sizes_of : Action → Sizes
+sizes_of a = record { main_slots = empty_slots (length a); slots = λ _. 0; captured = λ _. [] }
+
+-- no data and no bindings have a length above 0
+abbrev pub factor_of : Action → ℕ
+factor_of a = factor 0 (most_yielders a)
+
+-- what the image of a graph is compared with
+abbrev pub subject_of : Listed → (stack units : ℕ) → Subject
+subject_of g stack units =
+    let a = action_of g in record { action = a; sizes = sizes_of a; stack = stack; units = units; factor = factor_of a }
+
+-- how many action nodes and yielders a graph has
+abbrev pub node_count : Listed → ℕ
+node_count g = length g.nodes + length g.yielders
