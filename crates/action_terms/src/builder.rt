@@ -128,3 +128,6 @@ impl<'a> GraphBuilder<'a> {
         self.expected.is_met()
     }
 }
+
+#[cfg(test)]
+mod tests;
