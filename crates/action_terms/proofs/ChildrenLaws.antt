@@ -95,7 +95,7 @@ mutual
       let less : suc a + action_counts ts ≤ nodes = omega arith in (
         record {
           children_count = length-children_of k (action_roots (suc a) ts) (length-action_roots_under (suc a) (ActionNode k n tk) ts h.1);
-        children_within = λ i d at.
+          children_within = λ i d at.
               let g = action_roots-within ts (suc a) i d (child-root k (action_roots (suc a) ts) i d at) in
               let low : a < d = omega arith in let high : d < nodes = omega arith in (low, high);
           children_ascend = λ i j d e first second before. action_roots-ascend ts (suc a) i j d e (child-root k (action_roots (suc a) ts) i d first) (child-root k (action_roots (suc a) ts) j e second) before;

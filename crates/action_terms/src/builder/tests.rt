@@ -3,41 +3,39 @@
 use crate::builder::{GraphBuilder, NODE_LIMIT};
 use crate::graph::{Graph, GraphError, Node, YNode};
 use crate::kinds::{Kind, Sort, YKind};
-use crate::pushed::{NewAction, NewYielder};
-use acg_base::Memory;
+use crate::pushed::{NewAction, NewYielder, Pushed};
 use bumpalo::Bump;
 use std::process::Abort;
 use std::test::Fail;
 
-fn act(builder: &mut GraphBuilder<'_>, kind: Kind, items: u32) -> Result<(), GraphError> {
-    let _number = builder.push_action(NewAction {
-        kind,
-        items,
-        token: b"",
-    })?;
-    Ok(())
+fn act<'a>(kind: Kind, items: u32, token: &'a [u8]) -> Pushed<'a> {
+    Pushed::Action(NewAction { kind, items, token })
 }
 
-fn bind(builder: &mut GraphBuilder<'_>, kind: Kind, token: &[u8]) -> Result<(), GraphError> {
-    let _number = builder.push_action(NewAction {
-        kind,
-        items: 0,
-        token,
-    })?;
-    Ok(())
+fn yields<'a>(kind: YKind, token: &'a [u8]) -> Pushed<'a> {
+    Pushed::Yielder(NewYielder { kind, token })
 }
 
-fn yields(builder: &mut GraphBuilder<'_>, kind: YKind) -> Result<(), GraphError> {
-    let _number = builder.push_yielder(NewYielder { kind, token: b"" })?;
-    Ok(())
+fn push(builder: &mut GraphBuilder<'_>, node: Pushed<'_>) -> Result<u32, GraphError> {
+    match node {
+        Pushed::Action(new) => builder.push_action(new),
+        Pushed::Yielder(new) => builder.push_yielder(new),
+    }
 }
 
-fn bound(builder: &mut GraphBuilder<'_>, sort: Sort, token: &[u8]) -> Result<(), GraphError> {
-    let _number = builder.push_yielder(NewYielder {
-        kind: YKind::Bound { sort },
-        token,
-    })?;
-    Ok(())
+// a builder with these nodes
+fn built<'a>(
+    rt: &HostRuntime,
+    arena: &'a Bump,
+    nodes: &[Pushed<'_>],
+) -> Result<GraphBuilder<'a>, GraphError> {
+    let Ok(mut builder) = GraphBuilder::new(rt.alloc(), arena) else {
+        return Err(GraphError::Memory);
+    };
+    for node in nodes {
+        let _number = push(&mut builder, *node)?;
+    }
+    Ok(builder)
 }
 
 fn sealed<'a>(rt: &impl Abort, builder: GraphBuilder<'a>) -> Result<Graph<'a>, GraphError> {
@@ -55,10 +53,10 @@ fn node<'a>(kind: Kind, children: &'a [u32], operands: &'a [&'a [u32]], body: u3
     }
 }
 
-fn yielder<'a>(kind: YKind, children: &'a [u32], body: u32) -> YNode<'a> {
+fn yielder<'a>(kind: YKind, token: &'a [u8], children: &'a [u32], body: u32) -> YNode<'a> {
     YNode {
         kind,
-        token: b"",
+        token,
         children,
         body,
     }
@@ -66,22 +64,12 @@ fn yielder<'a>(kind: YKind, children: &'a [u32], body: u32) -> YNode<'a> {
 
 // send 42
 #[test]
-fn sends(rt: HostRuntime) -> Result<(), Fail> {
+fn numbers_each_sort_apart(rt: HostRuntime) -> Result<(), Fail> {
     let arena = Bump::new(rt.alloc());
-    let mut builder = GraphBuilder::new(rt.alloc(), &arena)?;
+    let mut builder = built(&rt, &arena, &[])?;
+    assert_eq!(rt; push(&mut builder, act(Kind::Send, 0, b"")), Ok(0));
     assert!(rt; !builder.is_whole());
-    let send = NewAction {
-        kind: Kind::Send,
-        items: 0,
-        token: b"",
-    };
-    assert_eq!(rt; builder.push_action(send)?, 0);
-    assert!(rt; !builder.is_whole());
-    let number = NewYielder {
-        kind: YKind::Number(42),
-        token: b"",
-    };
-    assert_eq!(rt; builder.push_yielder(number)?, 0);
+    assert_eq!(rt; push(&mut builder, yields(YKind::Number(42), b"")), Ok(0));
     let graph = sealed(&rt, builder)?;
     assert_eq!(rt;
         graph.nodes(),
@@ -89,16 +77,15 @@ fn sends(rt: HostRuntime) -> Result<(), Fail> {
     );
     assert_eq!(rt;
         graph.yielders(),
-        [yielder(YKind::Number(42), &[], 0)].as_slice()
+        [yielder(YKind::Number(42), b"", &[], 0)].as_slice()
     );
     Ok(())
 }
 
 // (give 1 and give 2) then send sum(the given integer # 1, the given integer # 2)
 #[test]
-fn sends_a_sum(rt: HostRuntime) -> Result<(), Fail> {
+fn lists_children_and_operands(rt: HostRuntime) -> Result<(), Fail> {
     let arena = Bump::new(rt.alloc());
-    let mut builder = GraphBuilder::new(rt.alloc(), &arena)?;
     let first = YKind::Given {
         sort: Sort::Integer,
         place: 1,
@@ -107,17 +94,19 @@ fn sends_a_sum(rt: HostRuntime) -> Result<(), Fail> {
         sort: Sort::Integer,
         place: 2,
     };
-    act(&mut builder, Kind::Then, 0)?;
-    act(&mut builder, Kind::And, 0)?;
-    act(&mut builder, Kind::Give, 1)?;
-    yields(&mut builder, YKind::Number(1))?;
-    act(&mut builder, Kind::Give, 1)?;
-    yields(&mut builder, YKind::Number(2))?;
-    act(&mut builder, Kind::Send, 0)?;
-    yields(&mut builder, YKind::Sum)?;
-    yields(&mut builder, first)?;
-    yields(&mut builder, second)?;
-    let graph = sealed(&rt, builder)?;
+    let nodes = [
+        act(Kind::Then, 0, b""),
+        act(Kind::And, 0, b""),
+        act(Kind::Give, 1, b""),
+        yields(YKind::Number(1), b""),
+        act(Kind::Give, 1, b""),
+        yields(YKind::Number(2), b""),
+        act(Kind::Send, 0, b""),
+        yields(YKind::Sum, b""),
+        yields(first, b""),
+        yields(second, b""),
+    ];
+    let graph = sealed(&rt, built(&rt, &arena, &nodes)?)?;
     assert_eq!(rt;
         graph.nodes(),
         [
@@ -132,11 +121,11 @@ fn sends_a_sum(rt: HostRuntime) -> Result<(), Fail> {
     assert_eq!(rt;
         graph.yielders(),
         [
-            yielder(YKind::Number(1), &[], 0),
-            yielder(YKind::Number(2), &[], 0),
-            yielder(YKind::Sum, &[3, 4], 0),
-            yielder(first, &[], 0),
-            yielder(second, &[], 0),
+            yielder(YKind::Number(1), b"", &[], 0),
+            yielder(YKind::Number(2), b"", &[], 0),
+            yielder(YKind::Sum, b"", &[3, 4], 0),
+            yielder(first, b"", &[], 0),
+            yielder(second, b"", &[], 0),
         ]
         .as_slice()
     );
@@ -148,18 +137,22 @@ fn sends_a_sum(rt: HostRuntime) -> Result<(), Fail> {
 #[test]
 fn names_bodies(rt: HostRuntime) -> Result<(), Fail> {
     let arena = Bump::new(rt.alloc());
-    let mut builder = GraphBuilder::new(rt.alloc(), &arena)?;
-    act(&mut builder, Kind::Hence, 0)?;
-    act(&mut builder, Kind::Furthermore, 0)?;
-    bind(&mut builder, Kind::BindRec, b"f")?;
-    yields(&mut builder, YKind::Closure)?;
-    act(&mut builder, Kind::Enact, 0)?;
-    bound(&mut builder, Sort::Abstraction, b"f")?;
-    act(&mut builder, Kind::Unfolding, 0)?;
-    act(&mut builder, Kind::Or, 0)?;
-    act(&mut builder, Kind::Complete, 0)?;
-    act(&mut builder, Kind::Unfold, 0)?;
-    let graph = sealed(&rt, builder)?;
+    let called = YKind::Bound {
+        sort: Sort::Abstraction,
+    };
+    let nodes = [
+        act(Kind::Hence, 0, b""),
+        act(Kind::Furthermore, 0, b""),
+        act(Kind::BindRec, 0, b"f"),
+        yields(YKind::Closure, b""),
+        act(Kind::Enact, 0, b""),
+        yields(called, b"f"),
+        act(Kind::Unfolding, 0, b""),
+        act(Kind::Or, 0, b""),
+        act(Kind::Complete, 0, b""),
+        act(Kind::Unfold, 0, b""),
+    ];
+    let graph = sealed(&rt, built(&rt, &arena, &nodes)?)?;
     let mut recursive = node(Kind::BindRec, &[], &[&[0]], 0);
     recursive.token = b"f";
     assert_eq!(rt;
@@ -176,42 +169,10 @@ fn names_bodies(rt: HostRuntime) -> Result<(), Fail> {
         ]
         .as_slice()
     );
-    let mut found = yielder(
-        YKind::Bound {
-            sort: Sort::Abstraction,
-        },
-        &[],
-        0,
-    );
-    found.token = b"f";
+    let closure = yielder(YKind::Closure, b"", &[], 3);
     assert_eq!(rt;
         graph.yielders(),
-        [yielder(YKind::Closure, &[], 3), found].as_slice()
-    );
-    Ok(())
-}
-
-// enact application of 1 to (2, them), and the branches that the laws make
-#[test]
-fn groups_operands(rt: HostRuntime) -> Result<(), Fail> {
-    let arena = Bump::new(rt.alloc());
-    let mut builder = GraphBuilder::new(rt.alloc(), &arena)?;
-    act(&mut builder, Kind::Branch, 0)?;
-    yields(&mut builder, YKind::Truth(true))?;
-    act(&mut builder, Kind::Apply, 2)?;
-    yields(&mut builder, YKind::Number(1))?;
-    yields(&mut builder, YKind::Number(2))?;
-    yields(&mut builder, YKind::Them)?;
-    act(&mut builder, Kind::EscapeWith, 0)?;
-    let graph = sealed(&rt, builder)?;
-    assert_eq!(rt;
-        graph.nodes(),
-        [
-            node(Kind::Branch, &[1, 2], &[&[0]], 0),
-            node(Kind::Apply, &[], &[&[1], &[2, 3]], 0),
-            node(Kind::EscapeWith, &[], &[&[]], 0),
-        ]
-        .as_slice()
+        [closure, yielder(called, b"f", &[], 0)].as_slice()
     );
     Ok(())
 }
@@ -219,44 +180,24 @@ fn groups_operands(rt: HostRuntime) -> Result<(), Fail> {
 // unfold; unfold or unfold; unfolding give closure abstraction of unfold
 #[test]
 fn finds_the_least_stray(rt: HostRuntime) -> Result<(), Fail> {
-    let arena = Bump::new(rt.alloc());
-    let mut alone = GraphBuilder::new(rt.alloc(), &arena)?;
-    act(&mut alone, Kind::Unfold, 0)?;
-    assert_eq!(rt;
-        sealed(&rt, alone).err(),
-        Some(GraphError::StrayUnfold { node: 0 })
-    );
-    let mut twice = GraphBuilder::new(rt.alloc(), &arena)?;
-    act(&mut twice, Kind::Or, 0)?;
-    act(&mut twice, Kind::Unfold, 0)?;
-    act(&mut twice, Kind::Unfold, 0)?;
-    assert_eq!(rt;
-        sealed(&rt, twice).err(),
-        Some(GraphError::StrayUnfold { node: 1 })
-    );
-    let mut closed = GraphBuilder::new(rt.alloc(), &arena)?;
-    act(&mut closed, Kind::Unfolding, 0)?;
-    act(&mut closed, Kind::Give, 1)?;
-    yields(&mut closed, YKind::Closure)?;
-    act(&mut closed, Kind::Unfold, 0)?;
-    assert_eq!(rt;
-        sealed(&rt, closed).err(),
-        Some(GraphError::StrayUnfold { node: 2 })
-    );
+    let unfold = act(Kind::Unfold, 0, b"");
+    let either = act(Kind::Or, 0, b"");
+    let unfolding = act(Kind::Unfolding, 0, b"");
+    let give = act(Kind::Give, 1, b"");
+    let closure = yields(YKind::Closure, b"");
+    for (nodes, want) in [
+        ([unfold].as_slice(), 0),
+        ([either, unfold, unfold].as_slice(), 1),
+        ([unfolding, give, closure, unfold].as_slice(), 2),
+    ] {
+        let arena = Bump::new(rt.alloc());
+        let graph = sealed(&rt, built(&rt, &arena, nodes)?);
+        assert_eq!(rt; graph.err(), Some(GraphError::StrayUnfold { node: want }));
+    }
     Ok(())
 }
 
-// whether an action node with this yielder under it is an action
-fn fits(rt: &HostRuntime, above: NewAction<'_>, below: NewYielder<'_>) -> Result<bool, GraphError> {
-    let arena = Bump::new(rt.alloc());
-    let Ok(mut builder) = GraphBuilder::new(rt.alloc(), &arena) else {
-        return Err(GraphError::Memory);
-    };
-    let _number = builder.push_action(above)?;
-    let _number = builder.push_yielder(below)?;
-    Ok(builder.is_whole())
-}
-
+// whether an action node with one yielder under it is an action
 #[test]
 fn keeps_to_texts(rt: HostRuntime) -> Result<(), Fail> {
     let one = YKind::Number(1);
@@ -269,41 +210,29 @@ fn keeps_to_texts(rt: HostRuntime) -> Result<(), Fail> {
         place: 65,
     };
     let cell = YKind::Bound { sort: Sort::Cell };
-    for (kind, items, token, below, name, want) in [
-        (Kind::Send, 0, "", one, "", true),
-        (Kind::Send, 0, "", YKind::Them, "", false),
-        (Kind::Send, 1, "", one, "", false),
-        (Kind::Send, 0, "x", one, "", false),
-        (Kind::Send, 0, "", one, "x", false),
-        (Kind::Give, 1, "", YKind::Them, "", true),
-        (Kind::Give, 2, "", YKind::Them, "", false),
-        (Kind::Give, 4294967295, "", one, "", false),
-        (Kind::Give, 0, "", one, "", false),
-        (Kind::Check, 0, "", far, "", true),
-        (Kind::Check, 0, "", too_far, "", false),
-        (Kind::Bind, 0, "x y", one, "", false),
-        (Kind::Bind, 0, "", one, "", false),
-        (Kind::Bind, 0, "~", one, "", true),
-        (Kind::Bind, 0, "\"", one, "", false),
-        (Kind::BindRec, 0, "x", one, "", false),
-        (Kind::Enact, 0, "", cell, "", false),
-        (Kind::Enact, 0, "", cell, "!", true),
-        (Kind::Complete, 0, "", one, "", false),
+    for (above, below, want) in [
+        (act(Kind::Send, 0, b""), yields(one, b""), true),
+        (act(Kind::Send, 0, b""), yields(YKind::Them, b""), false),
+        (act(Kind::Send, 1, b""), yields(one, b""), false),
+        (act(Kind::Send, 0, b"x"), yields(one, b""), false),
+        (act(Kind::Send, 0, b""), yields(one, b"x"), false),
+        (act(Kind::Give, 1, b""), yields(YKind::Them, b""), true),
+        (act(Kind::Give, 2, b""), yields(YKind::Them, b""), false),
+        (act(Kind::Give, 4294967295, b""), yields(one, b""), false),
+        (act(Kind::Check, 0, b""), yields(far, b""), true),
+        (act(Kind::Check, 0, b""), yields(too_far, b""), false),
+        (act(Kind::Bind, 0, b"x y"), yields(one, b""), false),
+        (act(Kind::Bind, 0, b""), yields(one, b""), false),
+        (act(Kind::Bind, 0, b"~"), yields(one, b""), true),
+        (act(Kind::Bind, 0, b"\""), yields(one, b""), false),
+        (act(Kind::BindRec, 0, b"x"), yields(one, b""), false),
+        (act(Kind::Enact, 0, b""), yields(cell, b""), false),
+        (act(Kind::Enact, 0, b""), yields(cell, b"!"), true),
+        (act(Kind::Complete, 0, b""), yields(one, b""), false),
     ] {
-        let above = NewAction {
-            kind,
-            items,
-            token: token.as_bytes(),
-        };
-        let below = NewYielder {
-            kind: below,
-            token: name.as_bytes(),
-        };
-        assert_eq!(rt;
-            fits(&rt, above, below)?,
-            want,
-            "{kind:?} {items} {token} {name}"
-        );
+        let arena = Bump::new(rt.alloc());
+        let builder = built(&rt, &arena, &[above, below])?;
+        assert_eq!(rt; builder.is_whole(), want, "{above:?} {below:?}");
     }
     Ok(())
 }
@@ -312,21 +241,17 @@ fn keeps_to_texts(rt: HostRuntime) -> Result<(), Fail> {
 #[test]
 fn holds_the_most_nodes(rt: HostRuntime) -> Result<(), Fail> {
     let arena = Bump::new(rt.alloc());
-    let mut builder = GraphBuilder::new(rt.alloc(), &arena)?;
+    let mut builder = built(&rt, &arena, &[])?;
     for _ in 1..NODE_LIMIT {
-        act(&mut builder, Kind::Furthermore, 0)?;
+        let _number = push(&mut builder, act(Kind::Furthermore, 0, b""))?;
     }
-    act(&mut builder, Kind::Complete, 0)?;
-    let one_more = NewYielder {
-        kind: YKind::Them,
-        token: b"",
-    };
-    assert_eq!(rt; builder.push_yielder(one_more), Err(GraphError::Nodes));
-    let graph = sealed(&rt, builder)?;
-    assert_eq!(rt; graph.nodes().len(), 65536);
+    assert_eq!(rt; push(&mut builder, act(Kind::Complete, 0, b"")), Ok(65535));
     assert_eq!(rt;
-        graph.nodes().last().map(|node| node.kind),
-        Some(Kind::Complete)
+        push(&mut builder, yields(YKind::Them, b"")),
+        Err(GraphError::Nodes)
     );
+    let graph = sealed(&rt, builder)?;
+    let last = graph.nodes().last().map(|node| node.kind);
+    assert_eq!(rt; last, Some(Kind::Complete));
     Ok(())
 }
