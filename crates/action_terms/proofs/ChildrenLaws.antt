@@ -5,11 +5,12 @@ use Rattle.std.proofs.lemmas.List.Sums.{sum_by-cons}
 use Rattle.action_terms.specs.Labels.{ActionNode, YielderNode, Wanted, operand_lengths, under}
 use Rattle.action_terms.specs.Trees.{Tree, tree, Trees, none, more, Is, Are}
 use Rattle.action_terms.specs.Numbering.{ListedNode, pieces, children_of, around_parts, around_arguments, action_count, action_counts, yielder_count, yielder_counts, action_roots, yielder_roots, nodes_of, nodes_of_all}
+use Rattle.action_terms.specs.Entries.{part_count}
 use Rattle.action_terms.specs.declared.kinds.Kind.{Kind}
 use Rattle.action_terms.specs.declared.kinds.Kind.TheVariants as kind
 use Rattle.action_terms.proofs.Each.{Each, Each-append}
 use Rattle.action_terms.proofs.NodeCounts.{length-nodes_of}
-use Rattle.action_terms.proofs.RootCounts.{length-yielder_roots_under}
+use Rattle.action_terms.proofs.RootCounts.{length-action_roots_under, length-yielder_roots_under}
 
 -- the roots of trees side by side lie among their nodes
 pub action_roots-within : (ts : Trees) (a i c : ℕ) → slice_get (action_roots a ts) i ≡ Some c → (a ≤ c) × (c < a + action_counts ts)
@@ -42,6 +43,15 @@ pub child-root : (k : Kind) (roots : List ℕ) (i c : ℕ) → slice_get (childr
 child-root kind.Unfolding roots i c at = cc
 child-root _ roots i c at = at
 
+-- how many children a node of a kind has
+abbrev pub child_count : Kind → ℕ
+child_count kind.Unfolding = 0
+child_count k = part_count k
+
+length-children_of : (k : Kind) (roots : List ℕ) → length roots ≡ part_count k → length (children_of k roots) ≡ child_count k
+length-children_of kind.Unfolding roots is = refl
+length-children_of _ roots is = is
+
 take-at : (n : ℕ) (xs : List ℕ) (i c : ℕ) → slice_get (take n xs) i ≡ Some c → slice_get xs i ≡ Some c
 take-at zero xs i c at = cc
 take-at (suc n) [] i c at = cc
@@ -73,6 +83,7 @@ pieces-lengths (n ∷ lengths) xs is =
 
 -- a node of number k stands well in a graph of so many nodes and yielders
 pub record Sits (nodes yielders k : ℕ) (n : ListedNode) : Type 0 where
+  pub children_count : length n.children ≡ child_count n.kind
   pub children_within : (i c : ℕ) → slice_get n.children i ≡ Some c → (k < c) × (c < nodes)
   pub children_ascend : (i j c d : ℕ) → slice_get n.children i ≡ Some c → slice_get n.children j ≡ Some d → i < j → c < d
   pub operands_within : (i j y : ℕ) (o : List ℕ) → slice_get n.operands i ≡ Some o → slice_get o j ≡ Some y → y < yielders
@@ -83,6 +94,7 @@ mutual
   sits-tree (tree (ActionNode k n tk) ts) x c a y nodes yielders h few few2 =
       let less : suc a + action_counts ts ≤ nodes = omega arith in (
         record {
+          children_count = length-children_of k (action_roots (suc a) ts) (length-action_roots_under (suc a) (ActionNode k n tk) ts h.1);
           children_within = λ i d at.
               let g = action_roots-within ts (suc a) i d (child-root k (action_roots (suc a) ts) i d at) in
               let low : a < d = omega arith in let high : d < nodes = omega arith in (low, high);

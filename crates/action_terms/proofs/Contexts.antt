@@ -2,8 +2,8 @@
 use Rattle.std.proofs.Common.{◌≡◌, ℕ, Bool, true, false, List, [], ◌∷◌, ◌++◌, map, refl, ap₂, subst}
 use Rattle.action_terms.specs.Information.{Binds, Data, World}
 use Rattle.action_terms.specs.Actions.{Action}
-use Rattle.action_terms.specs.Acting.{Tree, Run, Ended, Called, Par, First, Second, Or, Cut, Trap, Over}
-use Rattle.action_terms.specs.Steps.{Letter, InLeft, InRight, Step, silent, commits, within, on_side, or_or_cut, in_or, open_steps}
+use Rattle.action_terms.specs.Acting.{Tree, Called, Par, First, Second, Or, Cut, Trap, Over}
+use Rattle.action_terms.specs.Steps.{Letter, InLeft, InRight, Step, commits, within, on_side, or_or_cut, in_or, open_steps}
 use Rattle.action_terms.specs.Performances.{OneOf, Here, Later}
 
 -- what stands around a part; numbers, data and bindings are those of the tree

@@ -10,7 +10,7 @@ use Rattle.action_terms.specs.declared.kinds.Kind.TheVariants as kind
 use Rattle.action_terms.specs.declared.kinds.YKind.TheVariants as ykind
 use Rattle.action_terms.proofs.Each.{Each-at_first}
 use Rattle.action_terms.proofs.NodeCounts.{length-nodes_of, length-yielders_of, action_count-some}
-use Rattle.action_terms.proofs.ChildrenLaws.{Sits, sits-tree}
+use Rattle.action_terms.proofs.ChildrenLaws.{Sits, sits-tree, child_count}
 use Rattle.action_terms.proofs.ParentLaws.{OneParent, one_parent-tree}
 use Rattle.action_terms.proofs.SoundNodes.{never_stray-tree}
 use Rattle.action_terms.proofs.NodeForms.{and_form, and_then_form, send_form}
@@ -60,6 +60,10 @@ child_within g w k i c n at child =
 pub children_ascend : (g : Listed) → IsGraph g → (k i j c d : ℕ) (n : ListedNode) → slice_get g.nodes k ≡ Some n → slice_get n.children i ≡ Some c → slice_get n.children j ≡ Some d → i < j → c < d
 children_ascend g w k i j c d n at first second less =
     (sits g w k n at).children_ascend i j c d first second less
+
+-- a node has as many children as its kind wants
+pub length-children : (g : Listed) → IsGraph g → (k : ℕ) (n : ListedNode) → slice_get g.nodes k ≡ Some n → length n.children ≡ child_count n.kind
+length-children g w k n at = (sits g w k n at).children_count
 
 -- a child has one parent
 pub one_parent : (g : Listed) → IsGraph g → (j k h i c : ℕ) (m n : ListedNode) → slice_get g.nodes j ≡ Some m → slice_get g.nodes k ≡ Some n → slice_get m.children h ≡ Some c → slice_get n.children i ≡ Some c → j ≡ k

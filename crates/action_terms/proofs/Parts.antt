@@ -1,11 +1,11 @@
 -- Parts of performances grow by a step of a part within frames; failures and escapes rise through frames.
-use Rattle.std.proofs.Common.{◌≡◌, ◌⊎◌, ℕ, suc, ◌+◌, ◌≤◌, ℤ, List, [], ◌∷◌, ◌++◌, map, length, refl, sym, subst, inl, inr, ⊎_elim, le_refl, le_trans, arith}
-use Rattle.action_terms.specs.Information.{Binds, Data, World}
+use Rattle.std.proofs.Common.{◌≡◌, ◌⊎◌, ℕ, ◌≤◌, ℤ, List, [], ◌∷◌, ◌++◌, map, length, refl, subst, inl, inr, ⊎_elim, le_refl, le_trans, arith}
+use Rattle.action_terms.specs.Information.{World}
 use Rattle.action_terms.specs.Actions.{Action, node_at}
 use Rattle.action_terms.specs.Acting.{End, Done, Esc, Fail, Tree, Ended, Par}
 use Rattle.action_terms.specs.Steps.{Letter, InLeft, InRight, Joins, TakesLeft, TakesRight, Step, silent, commits, world_after, after_both, after_broken, on_side, at_letter, open_steps}
-use Rattle.action_terms.specs.Performances.{OneOf, Here, Later, IsPart}
-use Rattle.action_terms.proofs.Contexts.{Frame, InCalled, InParLeft, InParRight, InFirst, InSecond, InOr, InCut, InTrap, InOver, InTail, wrap, plug, plugged, shut_all, shut_all-false, of_map, of_right, open-plug}
+use Rattle.action_terms.specs.Performances.{OneOf, Here, IsPart}
+use Rattle.action_terms.proofs.Contexts.{Frame, InParLeft, InParRight, InOr, InTrap, InTail, wrap, plug, plugged, shut_all, shut_all-false, of_right, open-plug}
 
 -- the steps lead to the tree and the world
 abbrev pub Reaches : Action → List ℤ → List Step → Tree → World → Type 0

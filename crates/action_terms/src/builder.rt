@@ -10,13 +10,13 @@ use crate::graph::{Graph, GraphError};
 use crate::linking::link_all;
 use crate::places::Expected;
 use crate::pushed::{NewAction, NewYielder, Pushed};
-use acg_base::Memory;
+use acg_base::{LIMIT_NODES, Memory};
 use bumpalo::Bump;
 use std::alloc::Global;
 use std::marker::Model;
 
 /// The most action nodes and yielders of one graph, together.
-const NODE_LIMIT: usize = 65536;
+const NODE_LIMIT: usize = LIMIT_NODES as usize;
 
 /// Nodes in preorder: each node, then its yielders and its action parts in the order of the text.
 #[derive(Drop)]
@@ -128,3 +128,6 @@ impl<'a> GraphBuilder<'a> {
         self.expected.is_met()
     }
 }
+
+#[cfg(test)]
+mod tests;
