@@ -1,0 +1,3 @@
+pub mod IntegersLemmas
+pub mod MemoryLemmas
+pub mod NumbersLemmas
