@@ -74,6 +74,11 @@ StepExits machine input code = (output : List ℕ) → step (state_of machine in
 abbrev pub StepTraps : MachineValue → (input : List ℕ) → Cause → Type 0
 StepTraps machine input cause = (output : List ℕ) → step (state_of machine input output) ≡ Trapped cause
 
+-- the next instruction runs and sends bytes, whatever the output so far
+abbrev pub StepSends : MachineValue → (input : List ℕ) → Type 0
+StepSends machine input =
+    (output : List ℕ) → output_behind (step (state_of machine input output)) ≡ output ++ sent machine
+
 -- n instructions lead from one machine and its input to others, whatever the output so far
 abbrev pub Runs : ℕ → (old : MachineValue) (input : List ℕ) (new : MachineValue) (rest : List ℕ) → Type 0
 Runs n old input new rest =

@@ -14,3 +14,4 @@ pub use image::{Image, Segment};
 pub use input::Input;
 
 pub use rv_code::Cause;
+pub use machine::Machine;
