@@ -1,0 +1,5 @@
+pub mod IntegersLemmas
+pub mod MemoryLemmas
+pub mod NumbersLemmas
+pub mod RunsLemmas
+pub mod StepsLemmas
