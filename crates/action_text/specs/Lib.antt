@@ -1,0 +1,3 @@
+pub mod ActionText
+pub mod Shapes
+pub mod TextErrors

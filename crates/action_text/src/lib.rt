@@ -1,0 +1,6 @@
+//! A stand-in.
+#![tactic(auto)]
+
+pub mod read;
+
+pub use read::{TextError, read_action};
