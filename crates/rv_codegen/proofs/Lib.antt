@@ -11,3 +11,5 @@ pub mod Standing
 pub mod Entering
 pub mod Right
 pub mod Fresh
+pub mod WorkLaws
+pub mod WorkNodes
