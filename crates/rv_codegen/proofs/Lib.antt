@@ -11,5 +11,7 @@ pub mod Standing
 pub mod Entering
 pub mod Right
 pub mod Fresh
-pub mod WorkLaws
+pub mod BuiltKinds
 pub mod WorkNodes
+pub mod WorkLaws
+pub mod WorkTurns

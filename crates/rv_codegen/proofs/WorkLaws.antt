@@ -1,75 +1,92 @@
--- Which nodes and which yielders of a graph are built.
-use Rattle.std.proofs.Common.{◌≡◌, ℕ, zero, suc, ◌<◌, Bool, true, false, List, [], ◌∷◌, length, get_or, map, refl, sym, ap, subst, ◌∙◌, arith}
-use Rattle.std.specs.Prelude.{ℤ, Some, slice_get, option_map}
-use Rattle.std.proofs.lemmas.Option.{slice_get-map, slice_get-get_or}
+-- Of the action of a graph: its nodes make a tree, and which of them are built.
+use Rattle.std.proofs.Common.{◌≡◌, ◌≢◌, ◌⊎◌, ℕ, zero, suc, ◌<◌, Bool, true, false, List, [], ◌∷◌, length, map, inl, inr, refl, sym, ap, subst, ◌∙◌, arith}
+use Rattle.std.specs.Prelude.{Some, slice_get, if◌then◌else◌}
 use Rattle.std.proofs.lemmas.List.{length-map}
-use Rattle.action_terms.specs.Information.{Token}
-use Rattle.action_terms.specs.Actions.{NumberLiteral, Item, Single, Them, ClosureOf, Node}
-use Rattle.action_terms.specs.Meaning.{item_of, item_or_them, items_from, node_of}
-use Rattle.action_terms.specs.Nodes.{listed_node, listed_yielder}
-use Rattle.action_terms.specs.Numbering.{ListedNode, ListedYielder}
-use Rattle.action_terms.specs.declared.graph.YNode.{YNode}
-use Rattle.action_terms.specs.declared.kinds.Kind.{Kind}
-use Rattle.action_terms.specs.declared.kinds.Kind.TheVariants as kind
-use Rattle.action_terms.specs.declared.kinds.YKind.{YKind}
-use Rattle.action_terms.specs.declared.kinds.YKind.TheVariants as ykind
-use Rattle.rv_codegen.specs.Works.{is_built_node}
+use Rattle.action_terms.specs.Actions.{Join, Chain, Node, Both, Phases, Action}
+use Rattle.action_terms.specs.Meaning.{picked, items_from, node_with, action_of}
+use Rattle.action_terms.specs.Numbering.{ListedNode, Listed, IsGraph}
+use Rattle.action_terms.proofs.GraphLaws.{child_after, child_within, children_ascend, one_parent}
+use Rattle.rv_codegen.specs.declared.work.Work.{Work}
+use Rattle.rv_codegen.specs.declared.work.Work.TheVariants as work
+use Rattle.rv_codegen.specs.Works.{node_of_work, is_built_node, unbuilt_from, unbuilt}
+use Rattle.rv_codegen.proofs.Pieces.{IsPartOf}
+use Rattle.rv_codegen.proofs.ExitLaws.{HasTree}
+use Rattle.rv_codegen.proofs.BuiltKinds.{HasParts, form-node_of}
 
--- what is listed at the place of an element
-pub listed_at : {A B : Type 0} (f : A → B) (xs : List A) (ys : List B) (k : ℕ) (d : A) → map f xs ≡ ys → k < length ys → slice_get ys k ≡ Some (f (get_or xs k d))
-listed_at f xs ys k d e lt =
-    let within : k < length xs = omega (arith, ap length e, length-map xs f) in
-    ap (λ l. slice_get l k) (sym e) ∙ slice_get-map f xs k ∙ ap (option_map f) (slice_get-get_or xs k d within)
+pub length-action_of : (g : Listed) → length (action_of g) ≡ length g.nodes
+length-action_of g = length-map g.nodes (node_with (items_from 0 g.yielders))
 
--- only a yielder of the kind of numbers is a number
-item_of-number : (k : YKind) (t : Token) (c : ℕ) (args : List Item) (z : ℤ) → item_of k t c args ≡ Single (NumberLiteral z) → k ≡ ykind.Number z
-item_of-number (ykind.Number n) t c args z e = cc
-item_of-number (ykind.Given s zero) t c args z e = cc
-item_of-number (ykind.Given s (suc n)) t c args z e = cc
-item_of-number (ykind.Stored s) t c (Single y ∷ []) z e = cc
-item_of-number ykind.Sum t c (Single y1 ∷ Single y2 ∷ []) z e = cc
-item_of-number ykind.Difference t c (Single y1 ∷ Single y2 ∷ []) z e = cc
-item_of-number ykind.Product t c (Single y1 ∷ Single y2 ∷ []) z e = cc
-item_of-number ykind.Quotient t c (Single y1 ∷ Single y2 ∷ []) z e = cc
-item_of-number ykind.Remainder t c (Single y1 ∷ Single y2 ∷ []) z e = cc
-item_of-number ykind.Negation t c (Single y ∷ []) z e = cc
-item_of-number ykind.Is t c (Single y1 ∷ Single y2 ∷ []) z e = cc
-item_of-number ykind.Less t c (Single y1 ∷ Single y2 ∷ []) z e = cc
-item_of-number ykind.Not t c (Single y ∷ []) z e = cc
-item_of-number ykind.Both t c (Single y1 ∷ Single y2 ∷ []) z e = cc
-item_of-number ykind.Either t c (Single y1 ∷ Single y2 ∷ []) z e = cc
-item_of-number _ t c args z e = cc
+-- a node of an action is made of a listed node
+mapped_at : {A B : Type 0} (f : A → B) (xs : List A) (k : ℕ) (y : B) → slice_get (map f xs) k ≡ Some y → (x : A) × (slice_get xs k ≡ Some x) × (f x ≡ y)
+mapped_at f [] k y e = absurd (cc)
+mapped_at f (x ∷ xs) zero y e = (x, refl, cc)
+mapped_at f (x ∷ xs) (suc k) y e = mapped_at f xs k y e
 
-pub item-number_only : (y k : ℕ) (ls : List ListedYielder) (l : ListedYielder) → slice_get ls k ≡ Some l → (z : ℤ) → item_or_them (slice_get (items_from y ls) k) ≡ Single (NumberLiteral z) → l.kind ≡ ykind.Number z
-item-number_only y k [] l at z e = cc
-item-number_only y zero (m ∷ ls) l at z e =
-    let same : m ≡ l = cc in
-    ap (λ n. n.kind) (sym same) ∙ item_of-number m.kind m.token m.body _ z e
-item-number_only y (suc k) (m ∷ ls) l at z e = item-number_only (suc y) k ls l at z e
+-- the listed node of a node, with its two parts
+record HasListed (g : Listed) (k : ℕ) (n : Node) : Type 0 where
+  listed : ListedNode
+  at : slice_get g.nodes k ≡ Some listed
+  parts : HasParts n listed.children
 
--- a node of another kind is not built, whatever its lists are
-pub is_built_node-other : (k : Kind) (t : Token) (c : ℕ) (parts : List ℕ) (os : List (List Item))
-    → (k ≡ kind.Complete → ⊥) → (k ≡ kind.Fail → ⊥) → (k ≡ kind.Send → ⊥) → (k ≡ kind.And → ⊥) → (k ≡ kind.AndThen → ⊥)
-    → is_built_node (node_of k t c parts os) ≡ false
-is_built_node-other kind.Complete t c parts os complete fail send and chain = absurd (complete refl)
-is_built_node-other kind.Fail t c parts os complete fail send and chain = absurd (fail refl)
-is_built_node-other kind.Send t c parts os complete fail send and chain = absurd (send refl)
-is_built_node-other kind.And t c parts os complete fail send and chain = absurd (and refl)
-is_built_node-other kind.AndThen t c parts os complete fail send and chain = absurd (chain refl)
-is_built_node-other kind.Give t c parts (is ∷ []) complete fail send and chain = refl
-is_built_node-other kind.EscapeWith t c parts (is ∷ []) complete fail send and chain = refl
-is_built_node-other kind.Check t c parts ((Single y ∷ []) ∷ []) complete fail send and chain = refl
-is_built_node-other kind.Bind t c parts ((Single y ∷ []) ∷ []) complete fail send and chain = refl
-is_built_node-other kind.BindRec t c parts ((Single (ClosureOf b) ∷ []) ∷ []) complete fail send and chain = refl
-is_built_node-other kind.Store t c parts ((Single y1 ∷ []) ∷ (Single y2 ∷ []) ∷ []) complete fail send and chain = refl
-is_built_node-other kind.Enact t c parts ((Single y ∷ []) ∷ []) complete fail send and chain = refl
-is_built_node-other kind.Apply t c parts ((Single y ∷ []) ∷ is ∷ []) complete fail send and chain = refl
-is_built_node-other kind.Furthermore t c (l ∷ []) os complete fail send and chain = refl
-is_built_node-other kind.Or t c (l ∷ r ∷ []) os complete fail send and chain = refl
-is_built_node-other kind.Then t c (l ∷ r ∷ []) os complete fail send and chain = refl
-is_built_node-other kind.Trap t c (l ∷ r ∷ []) os complete fail send and chain = refl
-is_built_node-other kind.Hence t c (l ∷ r ∷ []) os complete fail send and chain = refl
-is_built_node-other kind.Moreover t c (l ∷ r ∷ []) os complete fail send and chain = refl
-is_built_node-other kind.Before t c (l ∷ r ∷ []) os complete fail send and chain = refl
-is_built_node-other kind.Branch t c (l ∷ r ∷ []) ((Single y ∷ []) ∷ []) complete fail send and chain = refl
-is_built_node-other _ t c parts os complete fail send and chain = refl
+has_listed : (g : Listed) (k : ℕ) (n : Node) → slice_get (action_of g) k ≡ Some n → HasListed g k n
+has_listed g k n e =
+    let found = mapped_at (node_with (items_from 0 g.yielders)) g.nodes k n e in
+    let m = found.0 in
+    let form = form-node_of m.kind m.token m.body m.children (map (picked 0 (items_from 0 g.yielders)) m.operands) in
+    record { listed = m; at = found.1; parts = subst (λ (x : Node). HasParts x m.children) found.2 form.parts }
+
+-- a part of a node is one of its parts
+part_at : (n : Node) (parts : List ℕ) (c : ℕ) → HasParts n parts → IsPartOf n c → (i : ℕ) × (slice_get parts i ≡ Some c)
+part_at (Both j l r) parts c are (inl e) = (0, ap (λ ps. slice_get ps 0) are ∙ ap Some e)
+part_at (Both j l r) parts c are (inr e) = (1, ap (λ ps. slice_get ps 1) are ∙ ap Some e)
+part_at (Phases q l r) parts c are (inl e) = (0, ap (λ ps. slice_get ps 0) are ∙ ap Some e)
+part_at (Phases q l r) parts c are (inr e) = (1, ap (λ ps. slice_get ps 1) are ∙ ap Some e)
+part_at _ parts c are part = absurd part
+
+apart : (g : Listed) → IsGraph g → (k l r : ℕ) (n : ListedNode) → slice_get g.nodes k ≡ Some n → n.children ≡ l ∷ r ∷ [] → l ≢ r
+apart g w k l r n at are =
+    let less : l < r = children_ascend g w k 0 1 l r n at (ap (λ ps. slice_get ps 0) are) (ap (λ ps. slice_get ps 1) are) (omega arith) in
+    λ e. omega arith
+
+-- the nodes of a graph's action make a tree
+pub tree-of-graph : (g : Listed) → IsGraph g → HasTree (action_of g)
+tree-of-graph g w = record {
+  within = λ k c n e part.
+      let h = has_listed g k n e in
+      let p = part_at n h.listed.children c h.parts part in
+      omega (arith, length-action_of g, child_within g w k p.0 c h.listed h.at p.1);
+  one_parent = λ j k c m n e f part part2.
+      let h = has_listed g j m e in
+      let i = has_listed g k n f in
+      let p = part_at m h.listed.children c h.parts part in
+      let q = part_at n i.listed.children c i.parts part2 in
+      one_parent g w j k p.0 q.0 c h.listed i.listed h.at i.at p.1 q.1;
+  both_apart = λ k l r q e. let h = has_listed g k (Both q l r) e in apart g w k l r h.listed h.at h.parts;
+  phases_apart = λ k l r q e. let h = has_listed g k (Phases q l r) e in apart g w k l r h.listed h.at h.parts;
+  root = λ k n e part.
+      let h = has_listed g k n e in
+      let p = part_at n h.listed.children 0 h.parts part in
+      absurd (omega (arith, child_after g w k p.0 0 h.listed h.at p.1));
+}
+
+empty_test : (b : Bool) (j : ℕ) (js : List ℕ) → (if b then js else j ∷ js) ≡ [] → (b ≡ true) × (js ≡ [])
+empty_test true j js none = (refl, none)
+empty_test false j js none = absurd (cc)
+
+-- where none is unbuilt, each node is built
+built_from : (j : ℕ) (a : Action) → unbuilt_from j a ≡ [] → (k : ℕ) (n : Node) → slice_get a k ≡ Some n → is_built_node n ≡ true
+built_from j [] none k n at = cc
+built_from j (m ∷ a) none zero n at =
+    let same : m ≡ n = cc in
+    ap is_built_node (sym same) ∙ (empty_test (is_built_node m) j (unbuilt_from (suc j) a) none).0
+built_from j (m ∷ a) none (suc k) n at = built_from (suc j) a (empty_test (is_built_node m) j (unbuilt_from (suc j) a) none).1 k n at
+
+pub built-of-graph : (a : Action) → unbuilt a ≡ [] → (k : ℕ) (n : Node) → slice_get a k ≡ Some n → is_built_node n ≡ true
+built-of-graph a none k n at = built_from 0 a none k n at
+
+pub is_built_node-work : (w : Work) → is_built_node (node_of_work w) ≡ true
+is_built_node-work work.Complete = refl
+is_built_node-work work.Fail = refl
+is_built_node-work (work.Send z) = refl
+is_built_node-work (work.And l r) = refl
+is_built_node-work (work.AndThen l r) = refl

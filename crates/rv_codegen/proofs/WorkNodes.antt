@@ -9,7 +9,7 @@ use Rattle.action_terms.specs.Nodes.{listed_node}
 use Rattle.action_terms.specs.declared.graph.Node as memory
 use Rattle.action_terms.proofs.GraphLaws.{node_at-action_of, node_at-complete, node_at-fail, node_at-send, node_at-and, node_at-and_then, child_within}
 use Rattle.rv_codegen.specs.Works.{is_built_node}
-use Rattle.rv_codegen.proofs.WorkLaws.{listed_at, is_built_node-other}
+use Rattle.rv_codegen.proofs.BuiltKinds.{listed_at, is_built_node-other}
 
 -- node number k of a graph has two parts, which are nodes
 pub record HasTwoParts (g : Listed) (k : ℕ) (children : List ℕ) (form : ℕ → ℕ → Node) : Type 0 where

@@ -53,3 +53,33 @@ pub(crate) fn work_of(graph: &Graph<'_>, k: usize) -> Option<Work>
         _ => None,
     }
 }
+
+/// The first node whose code can't be generated, by its number from 0.
+pub fn first_unbuilt(graph: &Graph<'_>) -> Option<u32>
+    ensures { result ≡ slice_get (unbuilt (action_of graph.now)) 0 }
+{
+    for k in 0..graph.nodes().len() {
+        if work_of(graph, k).is_none() {
+            return Some(k as u32);
+        }
+    }
+    None
+}
+
+/// What each node does, by the number of the node.
+pub(crate) fn works_of(alloc: Global, graph: &Graph<'_>) -> Result<Vec<Work>, Memory>
+    requires { unbuilt (action_of graph.now) ≡ [] }
+    ensures works { IfOk result (λ works. action_of_works works.items ≡ action_of graph.now) }
+    ensures parts { IfOk result (λ works. All (HasPartsBelow (length works.items)) works.items) }
+    ensures some { IfOk result (λ works. 0 < length works.items) }
+{
+    let count = graph.nodes().len();
+    let mut works = Vec::with_capacity(alloc, count)?;
+    for k in 0..count {
+        let Some(work) = work_of(graph, k) else {
+            unreachable!()
+        };
+        works.push(work)?;
+    }
+    Ok(works)
+}

@@ -3,7 +3,7 @@ use Rattle.std.specs.Prelude.{FitsSigned}
 use Rattle.std.proofs.lemmas.Int.{to_z-of_z}
 use Rattle.action_terms.specs.Nodes.{listed_yielder}
 use Rattle.action_terms.proofs.GraphLaws.{item-number}
-use Rattle.rv_codegen.proofs.WorkLaws.{listed_at, item-number_only}
+use Rattle.rv_codegen.proofs.BuiltKinds.{listed_at, item-number_only}
 use Rattle.rv_codegen.proofs.work.number_of.Goals as goal
 
 pub returns-in-Number-clause-number : goal.returns-in-Number-clause-number
