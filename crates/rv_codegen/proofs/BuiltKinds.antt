@@ -1,14 +1,12 @@
 -- What the kind of a node or of a yielder says of it: whether its code is generated, and which parts it has.
-use Rattle.std.proofs.Common.{◌≡◌, ℕ, zero, suc, ◌<◌, Bool, true, false, List, [], ◌∷◌, length, get_or, map, refl, sym, ap, subst, ◌∙◌, arith}
+use Rattle.std.proofs.Common.{◌≡◌, ℕ, zero, suc, ◌<◌, Bool, true, false, List, [], ◌∷◌, length, get_or, map, refl, sym, ap, ◌∙◌, arith}
 use Rattle.std.specs.Prelude.{ℤ, Some, slice_get, option_map}
 use Rattle.std.proofs.lemmas.Option.{slice_get-map, slice_get-get_or}
 use Rattle.std.proofs.lemmas.List.{length-map}
 use Rattle.action_terms.specs.Information.{Token}
-use Rattle.action_terms.specs.Actions.{NumberLiteral, Item, Single, Them, ClosureOf, Node, Both, Phases}
+use Rattle.action_terms.specs.Actions.{NumberLiteral, Item, Single, ClosureOf, Node, Both, Phases}
 use Rattle.action_terms.specs.Meaning.{item_of, item_or_them, items_from, node_of}
-use Rattle.action_terms.specs.Nodes.{listed_node, listed_yielder}
-use Rattle.action_terms.specs.Numbering.{ListedNode, ListedYielder}
-use Rattle.action_terms.specs.declared.graph.YNode.{YNode}
+use Rattle.action_terms.specs.Numbering.{ListedYielder}
 use Rattle.action_terms.specs.declared.kinds.Kind.{Kind}
 use Rattle.action_terms.specs.declared.kinds.Kind.TheVariants as kind
 use Rattle.action_terms.specs.declared.kinds.YKind.{YKind}

@@ -1,8 +1,8 @@
 -- Of the action of a graph: its nodes make a tree, and which of them are built.
-use Rattle.std.proofs.Common.{◌≡◌, ◌≢◌, ◌⊎◌, ℕ, zero, suc, ◌<◌, Bool, true, false, List, [], ◌∷◌, length, map, inl, inr, refl, sym, ap, subst, ◌∙◌, arith}
+use Rattle.std.proofs.Common.{◌≡◌, ◌≢◌, ℕ, zero, suc, ◌<◌, Bool, true, false, List, [], ◌∷◌, length, map, inl, inr, refl, sym, ap, subst, ◌∙◌, arith}
 use Rattle.std.specs.Prelude.{Some, slice_get, if◌then◌else◌}
 use Rattle.std.proofs.lemmas.List.{length-map}
-use Rattle.action_terms.specs.Actions.{Join, Chain, Node, Both, Phases, Action}
+use Rattle.action_terms.specs.Actions.{Node, Both, Phases, Action}
 use Rattle.action_terms.specs.Meaning.{picked, items_from, node_with, action_of}
 use Rattle.action_terms.specs.Numbering.{ListedNode, Listed, IsGraph}
 use Rattle.action_terms.proofs.GraphLaws.{child_after, child_within, children_ascend, one_parent}

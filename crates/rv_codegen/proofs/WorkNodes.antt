@@ -1,5 +1,5 @@
 -- The built nodes of a graph, as code reads them.
-use Rattle.std.proofs.Common.{◌≡◌, ℕ, zero, suc, ◌<◌, Bool, true, false, Bor, List, [], ◌∷◌, length, get_or, map, refl, sym, ap, subst, ◌∙◌, arith}
+use Rattle.std.proofs.Common.{◌≡◌, ℕ, ◌<◌, false, Bor, List, [], ◌∷◌, length, get_or, map, refl, sym, ap, ◌∙◌, arith}
 use Rattle.std.specs.Prelude.{ℤ, Some, slice_get}
 use Rattle.action_terms.specs.Actions.{Yielder, NumberLiteral, Single, Complete, Failing, Send, Simple, And, Both, AndThen, Phases, Node, node_at}
 use Rattle.action_terms.specs.Meaning.{item_or_them, picked, items_from, action_of}
