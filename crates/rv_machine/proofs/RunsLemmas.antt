@@ -2,7 +2,9 @@
 use Rattle.std.proofs.Common.{◌≡◌, ℕ, zero, suc, ◌+◌, ◌<◌, List, [], ◌∷◌, ◌++◌, refl, sym, ap, ◌∙◌, arith, append-nil, append_assoc, add-one}
 use Rattle.rv_code.specs.Machine.{State, Outcome, Ran, Exited, Trapped, after, step, run}
 use Rattle.rv_code.specs.declared.cause.Cause.{Cause}
-use Rattle.rv_machine.specs.Machines.{MachineValue, state_of, state_behind, sent, last, sent_in, Steps, StepExits, StepTraps, Runs, RunExits, RunTraps}
+use Rattle.rv_machine.specs.Machines.{MachineValue, state_of, state_behind, sent, last, sent_in, Steps, StepExits, StepTraps, Runs, RunExits, RunTraps, IsCounted}
+use Rattle.acg_base.specs.Outside.{counted}
+use Rattle.std.proofs.lemmas.Bool.Decides.{nat_tests}
 
 -- ---- states
 
@@ -114,3 +116,12 @@ pub run-traps : (n b : ℕ) (m : MachineValue) (i : List ℕ) (k : MachineValue)
   Runs n m i k j → StepTraps k j cause → n < b → RunTraps b m i cause
 run-traps n b m i k j cause r s h =
     λ output. run-end n b (state_of m i output) _ _ (trapped-end cause) h (r output) (s (output ++ sent_in n m i))
+
+-- ---- the count
+
+pub counted-none : (m : MachineValue) → IsCounted 0 m m
+counted-none m = grind (arith, nat_tests)
+
+-- one more instruction is counted
+pub counted-more : (n : ℕ) (m k l : MachineValue) → IsCounted n m k → l.taken ≡ counted k.taken → IsCounted (n + 1) m l
+counted-more n m k l e f = grind (arith, nat_tests)
