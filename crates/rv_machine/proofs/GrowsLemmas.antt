@@ -35,24 +35,24 @@ jumps-grow true s t cause e = same s t e
 jumps-grow false s t cause e = tt
 
 branches-grow : (taken multiple : Bool) (s t u : State) (cause : Cause) → t.output ≡ s.output → u.output ≡ s.output →
-  Grows s (if taken then (if multiple then Ran t else Trapped cause) else Ran u)
+    Grows s (if taken then (if multiple then Ran t else Trapped cause) else Ran u)
 branches-grow true multiple s t u cause e f = jumps-grow multiple s t cause e
 branches-grow false multiple s t u cause e f = same s u f
 
 loads-grow : (aligned : Bool) (s : State) (rd : ℕ) (extend : ℕ → ℕ) (bytes : Option (List ℕ)) (cause : Cause) →
-  Grows s (if aligned then loads s rd extend bytes else Trapped cause)
+    Grows s (if aligned then loads s rd extend bytes else Trapped cause)
 loads-grow true s rd extend None cause = tt
 loads-grow true s rd extend (Some bytes) cause = same s _ refl
 loads-grow false s rd extend bytes cause = tt
 
 stores-grow : (aligned : Bool) (s : State) (segments : Option (List Segment)) (cause : Cause) →
-  Grows s (if aligned then stores s segments else Trapped cause)
+    Grows s (if aligned then stores s segments else Trapped cause)
 stores-grow true s None cause = tt
 stores-grow true s (Some segments) cause = same s _ refl
 stores-grow false s segments cause = tt
 
 receives-grow : (none : Bool) (s : State) (address n : ℕ) (place : Option ℕ) →
-  Grows s (if none then sets s 10 0 else receives s address n place)
+    Grows s (if none then sets s 10 0 else receives s address n place)
 receives-grow true s address n place = same s _ refl
 receives-grow false s address n None = tt
 receives-grow false s address n (Some i) = same s _ refl
@@ -63,7 +63,7 @@ sends-grow false s n None = tt
 sends-grow false s n (Some bytes) = record { rest = bytes; grows = refl }
 
 calls-grow : (exits receives_it sends_it : Bool) (s : State) (o p q : Outcome) (cause : Cause) → Grows s o → Grows s p → Grows s q →
-  Grows s (if exits then o else (if receives_it then p else (if sends_it then q else Trapped cause)))
+    Grows s (if exits then o else (if receives_it then p else (if sends_it then q else Trapped cause)))
 calls-grow true r t s o p q cause f g h = f
 calls-grow false true t s o p q cause f g h = g
 calls-grow false false true s o p q cause f g h = h
@@ -89,8 +89,8 @@ execute-grows Ecall s =
     let x11 = register s.registers 11 in
     let x12 = register s.registers 12 in
     calls-grow (nat_eq x17 93) (nat_eq x17 63 && nat_eq x10 0) (nat_eq x17 64 && nat_eq x10 1) s (Exited (x10 % 256) s.output)
-      (receive_call s x11 x12) (send_call s x11 x12) CauseCall (tt {0}) (receives-grow (nat_eq x12 0) s x11 x12 (holder s.segments 2 x11 x12))
-      (sends-grow (nat_eq x12 0) s x12 (read_bytes s.segments 4 x11 x12))
+    (receive_call s x11 x12) (send_call s x11 x12) CauseCall (tt {0}) (receives-grow (nat_eq x12 0) s x11 x12 (holder s.segments 2 x11 x12))
+    (sends-grow (nat_eq x12 0) s x12 (read_bytes s.segments 4 x11 x12))
 execute-grows Ebreak s = tt
 
 executes-grow : (s : State) (inst : Option Inst) → Grows s (executes s inst)
@@ -116,7 +116,7 @@ last-grows zero s = same s s refl
 last-grows (suc n) s = behind-grows (step s) s (last n) (step-grows s) (last-grows n)
 
 passes : (o : Outcome) (s t u : State) (go : State → Outcome) (follow : State → State) →
-  ((v : State) → go v ≡ Ran t → Extends u (follow v)) → after o go ≡ Ran t → Extends u (state_behind o s follow)
+    ((v : State) → go v ≡ Ran t → Extends u (follow v)) → after o go ≡ Ran t → Extends u (state_behind o s follow)
 passes (Ran v) s t u go follow h e = h v e
 passes (Exited code output) s t u go follow h e = absurd (cc)
 passes (Trapped cause) s t u go follow h e = absurd (cc)
@@ -141,7 +141,7 @@ no-parts (x ∷ xs) ys h e = cc
 
 -- a run sends what it sends up to an instruction, then what that one sends, and then more
 pub sent_in-passes : (n b : ℕ) (m : MachineValue) (i : List ℕ) (k : MachineValue) (j : List ℕ) → n < b →
-  Runs n m i k j → (sent k ≡ [] → ⊥) → StepSends k j → (rest : List ℕ) × (sent_in b m i ≡ (sent_in n m i ++ sent k) ++ rest)
+    Runs n m i k j → (sent k ≡ [] → ⊥) → StepSends k j → (rest : List ℕ) × (sent_in b m i ≡ (sent_in n m i ++ sent k) ++ rest)
 unfolding sent_in
 sent_in-passes n b m i k j h r s e =
     let ran = ran-behind (step (state_of k j (sent_in n m i))) (sent_in n m i ++ sent k) (e (sent_in n m i)) (no-parts (sent_in n m i) (sent k) s) in
@@ -150,9 +150,9 @@ sent_in-passes n b m i k j h r s e =
 
 -- a front of what one instruction sends ends a front of what the run sends
 pub front-passes : (sent_before piece rest all old new : List ℕ) → all ≡ (sent_before ++ piece) ++ rest →
-  GainsFrontOf piece (old ++ sent_before) new → GainsFrontOf all old new
+    GainsFrontOf piece (old ++ sent_before) new → GainsFrontOf all old new
 front-passes sent_before piece rest all old new e (count, f) =
     let cut : take (length sent_before + min count (length piece)) all ≡ sent_before ++ take count piece =
-      rw (e, append_assoc, take-append-add, take-append-le (min count (length piece)) piece rest (omega arith), take_min count piece) refl
+    rw (e, append_assoc, take-append-add, take-append-le (min count (length piece)) piece rest (omega arith), take_min count piece) refl
     in
     (length sent_before + min count (length piece), rw (f, cut, append_assoc) refl)

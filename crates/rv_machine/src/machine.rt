@@ -1,12 +1,10 @@
 //! The machine.
 
 use crate::answers::{Run, Step};
-use crate::arithmetic;
-use crate::block;
 use crate::block::Block;
 use crate::image::Image;
 use crate::input::Input;
-use crate::registers;
+use crate::{arithmetic, block, registers};
 use acg_base::{Memory, Sink};
 use rv_code::{Cause, Inst, LoadOp, Reg, StoreOp, decode};
 use std::alloc::Global;
@@ -84,8 +82,8 @@ impl Machine {
     // Goes on behind the instruction, with a register set.
     fn set(&mut self, rd: Reg, value: u64)
         ensures { self.new ≡ record self.old {
-            pc = wrap (self.old.pc + 4);
-            registers = with_register self.old.registers rd value;
+          pc = wrap (self.old.pc + 4);
+          registers = with_register self.old.registers rd value;
         } }
     {
         registers::set_register(&mut self.registers, rd, value);

@@ -11,7 +11,7 @@ loop-i-init g c = record {
   bytes = refl;
   still = refl;
   telling = refl;
-  wrote = λ _. rw (sent_in-none c.args.self.now (left c.args.input.now)) (sym (append-nil _))
+  wrote = λ _. rw (sent_in-none c.args.self.now (left c.args.input.now)) (sym (append-nil _));
 }
 
 pub loop-i-preserved : goal.loop-i-preserved
@@ -27,21 +27,21 @@ loop-i-preserved g c =
       still = step.still (λ e. cc) ∙ before.still;
       telling = step.tells_still ∙ before.telling;
       wrote = λ tells.
-        rw (
-          step.told refl (rw before.telling tells),
-          before.wrote tells,
-          sent_in-more c.loop-i._i c.args.self.now input c.loop-i.self (left c.loop-i.input) c.step.new.self (left c.step.new.input) before.runs steps,
-          append_assoc
-        )
-          refl
+          rw (
+            step.told refl (rw before.telling tells),
+            before.wrote tells,
+            sent_in-more c.loop-i._i c.args.self.now input c.loop-i.self (left c.loop-i.input) c.step.new.self (left c.step.new.input) before.runs steps,
+            append_assoc,
+          )
+          refl;
     }
 
 pub returns-in-Exited-clause-exited : goal.returns-in-Exited-clause-exited
 returns-in-Exited-clause-exited g c = λ code e.
     let same : c.in-Exited.code ≡ code = cc in
     rw (← same)
-      (run-exits c.loop-i._i c.args.budget c.args.self.now (left c.args.input.now) c.loop-i.self (left c.loop-i.input) c.in-Exited.code
-        c.loop-i.invariant.runs (c.in-Exited.ensures.exited c.in-Exited.code refl) c.loop-i-test.true)
+    (run-exits c.loop-i._i c.args.budget c.args.self.now (left c.args.input.now) c.loop-i.self (left c.loop-i.input) c.in-Exited.code
+    c.loop-i.invariant.runs (c.in-Exited.ensures.exited c.in-Exited.code refl) c.loop-i-test.true)
 
 pub returns-in-Exited-clause-told : goal.returns-in-Exited-clause-told
 returns-in-Exited-clause-told g c = λ _ tells.
@@ -49,21 +49,20 @@ returns-in-Exited-clause-told g c = λ _ tells.
     rw (
       same,
       sent_in-exit c.loop-i._i c.args.budget c.args.self.now (left c.args.input.now) c.loop-i.self (left c.loop-i.input) c.in-Exited.code
-        c.loop-i.invariant.runs (c.in-Exited.ensures.exited c.in-Exited.code refl) c.loop-i-test.true
+          c.loop-i.invariant.runs (c.in-Exited.ensures.exited c.in-Exited.code refl) c.loop-i-test.true,
     )
-      (c.loop-i.invariant.wrote tells)
+    (c.loop-i.invariant.wrote tells)
 
 pub returns-in-Trapped-clause-trapped : goal.returns-in-Trapped-clause-trapped
 returns-in-Trapped-clause-trapped g c = λ cause pc e.
     let same : c.in-Trapped.cause ≡ cause = cc in
     let traps = c.in-Trapped.ensures.trapped c.in-Trapped.cause c.in-Trapped.pc refl in
     let stays = c.in-Trapped.ensures.stays (λ f. cc) in
-    let at : pc ≡ c.step.new.self.pc = rw (stays.0, ← traps.1) (cc) in
-    (
+    let at : pc ≡ c.step.new.self.pc = rw (stays.0, ← traps.1) (cc) in (
       rw (← same)
-        (run-traps c.loop-i._i c.args.budget c.args.self.now (left c.args.input.now) c.loop-i.self (left c.loop-i.input) c.in-Trapped.cause
+          (run-traps c.loop-i._i c.args.budget c.args.self.now (left c.args.input.now) c.loop-i.self (left c.loop-i.input) c.in-Trapped.cause
           c.loop-i.invariant.runs traps.0 c.loop-i-test.true),
-      at
+      at,
     )
 
 pub returns-in-Trapped-clause-told : goal.returns-in-Trapped-clause-told
@@ -73,9 +72,9 @@ returns-in-Trapped-clause-told g c = λ _ tells.
     rw (
       same,
       sent_in-trap c.loop-i._i c.args.budget c.args.self.now (left c.args.input.now) c.loop-i.self (left c.loop-i.input) c.in-Trapped.cause
-        c.loop-i.invariant.runs traps.0 c.loop-i-test.true
+          c.loop-i.invariant.runs traps.0 c.loop-i-test.true,
     )
-      (c.loop-i.invariant.wrote tells)
+    (c.loop-i.invariant.wrote tells)
 
 pub returns-in-SinkFault-clause-part : goal.returns-in-SinkFault-clause-part
 returns-in-SinkFault-clause-part g c = λ _ tells.
@@ -83,7 +82,7 @@ returns-in-SinkFault-clause-part g c = λ _ tells.
     let input = left c.args.input.now in
     let fault = c.in-SinkFault.ensures.fault refl in
     let passes =
-      sent_in-passes c.loop-i._i c.args.budget c.args.self.now input c.loop-i.self (left c.loop-i.input) c.loop-i-test.true before.runs fault.0 fault.1
+    sent_in-passes c.loop-i._i c.args.budget c.args.self.now input c.loop-i.self (left c.loop-i.input) c.loop-i-test.true before.runs fault.0 fault.1
     in
     front-passes (sent_in c.loop-i._i c.args.self.now input) (sent c.loop-i.self) passes.0 (sent_in c.args.budget c.args.self.now input) _ _ passes.1
-      (rw (← before.wrote tells) (c.in-SinkFault.ensures.part refl (rw before.telling tells)))
+    (rw (← before.wrote tells) (c.in-SinkFault.ensures.part refl (rw before.telling tells)))

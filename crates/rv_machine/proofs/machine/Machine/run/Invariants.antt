@@ -10,5 +10,5 @@ invariant-loop-i g l = record {
   bytes : l.input.bytes ≡ l.fn.input.bytes;
   still : g.K.Sink.faults l.out ≡ g.K.Sink.faults l.fn.out;
   telling : g.K.Sink.tells l.out ≡ g.K.Sink.tells l.fn.out;
-  wrote : IsTrue (g.K.Sink.tells l.fn.out) → g.K.Sink.written l.out ≡ g.K.Sink.written l.fn.out ++ sent_in l._i l.fn.self (left l.fn.input)
+  wrote : IsTrue (g.K.Sink.tells l.fn.out) → g.K.Sink.written l.out ≡ g.K.Sink.written l.fn.out ++ sent_in l._i l.fn.self (left l.fn.input);
 }
