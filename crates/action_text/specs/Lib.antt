@@ -1,3 +1,3 @@
-pub mod ActionText
 pub mod Shapes
-pub mod TextErrors
+pub mod ActionText
+pub mod Answers

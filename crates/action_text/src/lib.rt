@@ -1,6 +1,5 @@
 //! A stand-in.
 #![tactic(auto)]
 
-pub mod read;
-
-pub use read::{TextError, read_action};
+pub mod action_reader;
+pub mod errors;
