@@ -2,7 +2,7 @@
 
 ghost use Rattle.std.specs.Prelude.{◌≡◌, ℕ, ◌+◌, ◌≤◌, List, [], ◌++◌, length, take, codes};
 ghost use Rattle.acg_base.specs.Decimals.{decimal_of, unsigned_decimal_of};
-ghost use Rattle.acg_driver.specs.Lines.{numbered_line, header_line, message_line};
+ghost use Rattle.acg_driver.specs.Lines.{numbered_line, header_line, message_line, read_fault_line};
 ghost use Rattle.acg_driver.specs.Prints.{Printed};
 
 use acg_base::{decimal_into, unsigned_into, Sink, SinkError};
@@ -122,4 +122,15 @@ pub fn print_message<K: Sink>(out: &mut K, value: i64) -> Result<(), SinkError>
     line.put_signed(value);
     line.put(b"\n");
     out.write(line.as_slice())
+}
+
+/// Prints that a read of the store failed, with the name that was read, of any length.
+///
+/// Answers `Failed` where the sink fails: it has a front of the line then.
+pub fn print_read_fault<K: Sink>(out: &mut K, name: &[u8]) -> Result<(), SinkError>
+    ensures { Printed K.written K.faults K.tells (read_fault_line name.now) out.old out.new result }
+{
+    out.write(b"read fault ")?;
+    out.write(name)?;
+    out.write(b"\n")
 }
