@@ -1,3 +1,4 @@
 pub mod WordsLemmas
 pub mod PrintsLemmas
 pub mod RefusalLemmas
+pub mod CodeBytes

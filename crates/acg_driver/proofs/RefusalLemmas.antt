@@ -1,8 +1,8 @@
 -- The line and the status of a text's error are an answer to every content with that error.
 use Rattle.std.proofs.Common.{◌≡◌, ◌≢◌, ℕ, List, refl, sym, inl, inr, rules}
 use Rattle.acg_base.specs.declared.status.Status.{Status}
-use Rattle.action_text.specs.declared.read.TextError.{TextError}
-use Rattle.action_text.specs.declared.read.TextError.TheVariants as error
+use Rattle.action_text.specs.declared.errors.TextError.{TextError}
+use Rattle.action_text.specs.declared.errors.TextError.TheVariants as error
 use Rattle.acg_driver.specs.Answers.{Errs, IsAnswer}
 use Rattle.acg_driver.specs.Prints.{refusal_line, refusal_status}
 

@@ -4,8 +4,8 @@ use Rattle.acg_base.specs.declared.status.Status.{Status}
 use Rattle.acg_base.specs.declared.status.Status.TheVariants as status
 use Rattle.action_terms.specs.Numbering.{Listed}
 use Rattle.action_terms.specs.Meaning.{action_of}
-use Rattle.action_text.specs.TextErrors.{IsTextError, IsGraphOfText}
-use Rattle.action_text.specs.declared.read.TextError.TheVariants as error
+use Rattle.action_text.specs.Answers.{IsTextError, IsReadAs}
+use Rattle.action_text.specs.declared.errors.TextError.TheVariants as error
 use Rattle.rv_code.specs.Machine.{Outcome, Ran, Exited, Trapped, run}
 use Rattle.rv_code.specs.Images.{Image, started}
 use Rattle.rv_codegen.specs.RightImage.{IsRight}
@@ -49,12 +49,12 @@ IsRun g printed result =
 -- ---- the content of a file
 
 -- the reading of a content that isn't too long ends with an error
-abbrev pub Errs : List ℕ → Rattle.action_text.specs.declared.read.TextError.TextError → Type 0
+abbrev pub Errs : List ℕ → Rattle.action_text.specs.declared.errors.TextError.TextError → Type 0
 Errs content e = (length content ≤ action_limit) × IsTextError content e
 
 -- a content that isn't too long is the text of the graph
 abbrev pub Reads : List ℕ → Listed → Type 0
-Reads content g = (length content ≤ action_limit) × IsGraphOfText content g
+Reads content g = (length content ≤ action_limit) × IsReadAs content g
 
 -- the action is read, and all of its nodes are built
 abbrev pub IsBuiltGraph : List ℕ → Listed → Type 0

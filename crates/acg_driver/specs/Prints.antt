@@ -5,8 +5,8 @@ use Rattle.acg_base.specs.declared.sink.SinkError.{SinkError}
 use Rattle.acg_base.specs.declared.sink.SinkError.TheVariants as sink_error
 use Rattle.acg_base.specs.declared.status.Status.{Status}
 use Rattle.acg_base.specs.declared.status.Status.TheVariants as status
-use Rattle.action_text.specs.declared.read.TextError.{TextError}
-use Rattle.action_text.specs.declared.read.TextError.TheVariants as error
+use Rattle.action_text.specs.declared.errors.TextError.{TextError}
+use Rattle.action_text.specs.declared.errors.TextError.TheVariants as error
 use Rattle.acg_driver.specs.Lines.{memory_line, limit_nodes_line, action_byte_line, action_text_line, stray_unfold_line}
 
 -- the line is printed to a sink with these members: it stands behind what was written, or the sink counts a fault and has a front of it

@@ -7,7 +7,7 @@ ghost use Rattle.acg_driver.specs.Prints.{Refused, refusal_line, refusal_status}
 
 use crate::lines::print_numbered;
 use acg_base::{Sink, SinkError, Status};
-use action_text::TextError;
+use action_text::errors::TextError;
 
 /// Prints the line, and answers the status, or `WriteFault` where the sink fails.
 pub fn refuse<K: Sink>(out: &mut K, line: &[u8], status: Status) -> Status

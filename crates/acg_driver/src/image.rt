@@ -1,0 +1,64 @@
+//! Images of compiled code.
+
+ghost use Rattle.std.specs.Prelude.{◌≡◌, ◌+◌, ◌*◌, ◌≤◌, length, IfOk};
+ghost use Rattle.rv_code.specs.Images.{IsImage};
+ghost use Rattle.rv_asm.specs.Conventions.{instruction_bytes, region_address, region_size};
+ghost use Rattle.rv_codegen.specs.RightImage.{compiled_image};
+ghost use Rattle.acg_driver.specs.Answers.{default_stack, default_units};
+
+use acg_base::Memory;
+use rv_machine::{Image, Segment};
+use std::alloc::Global;
+
+/// The words of the stack of an image, where no other capacity is asked for.
+pub const DEFAULT_STACK: u64 = 1048576;
+
+/// The units of 16 bytes for cells and closures, where no other capacity is asked for.
+pub const DEFAULT_UNITS: u64 = 262144;
+
+// Where the code stands, and the run begins.
+const CODE_ADDRESS: u64 = 65536;
+
+// The bytes of the region for the default capacity.
+const REGION_SIZE: u64 = 4096 + 8 * DEFAULT_STACK + 16 * DEFAULT_UNITS;
+
+// The words of code as bytes, 4 for each, the lowest first.
+#[tactic(auto, unfolding(rv_asm::specs::Conventions::instruction_bytes))]
+fn bytes_of_words(alloc: Global, words: &[u32]) -> Result<Vec<u8>, Memory>
+    ensures { IfOk result (λ bytes. bytes.items ≡ instruction_bytes words.now) }
+{
+    let mut bytes = Vec::new(alloc);
+    for word in words {
+        bytes.extend_from_slice(&word.to_le_bytes())?;
+    }
+    Ok(bytes)
+}
+
+/// The image of compiled code for the default capacity: the code, which can be fetched, and behind it the region of
+/// the run, which can be read and written.
+pub fn compiled_image(alloc: Global, words: &[u32]) -> Result<Image, Memory>
+    requires { IsImage (compiled_image (instruction_bytes words.now) default_stack default_units) }
+    ensures { IfOk result (λ image. image ≡ compiled_image (instruction_bytes words.now) default_stack default_units) }
+{
+    let bytes = bytes_of_words(alloc, words)?;
+    let size = bytes.len() as u64;
+    let code = Segment {
+        address: CODE_ADDRESS,
+        flags: 1,
+        bytes,
+        size,
+    };
+    let region = Segment {
+        address: (CODE_ADDRESS + size + 4095) / 4096 * 4096,
+        flags: 6,
+        bytes: Vec::new(alloc),
+        size: REGION_SIZE,
+    };
+    let mut segments = Vec::with_capacity(alloc, 2)?;
+    segments.push(code)?;
+    segments.push(region)?;
+    Ok(Image {
+        entry: CODE_ADDRESS,
+        segments,
+    })
+}
