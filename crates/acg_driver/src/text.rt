@@ -20,9 +20,9 @@ pub fn refuse<K: Sink>(out: &mut K, line: &[u8], status: Status) -> Status
     }
 }
 
-// Prints the text, the number and a line feed, and answers the status, or `WriteFault` where the
-// sink fails.
-fn refuse_numbered<K: Sink>(out: &mut K, text: &[u8], number: u32, status: Status) -> Status
+/// Prints the text, the number and a line feed, and answers the status, or `WriteFault` where the
+/// sink fails.
+pub fn refuse_numbered<K: Sink>(out: &mut K, text: &[u8], number: u32, status: Status) -> Status
     requires short { length text.now ≤ 40 }
     requires other { status ≢ Status.WriteFault }
     ensures { Refused K.written K.faults K.tells (numbered_line text.now number) status
