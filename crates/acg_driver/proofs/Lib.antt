@@ -1,4 +1,3 @@
 pub mod WordsLemmas
 pub mod PrintsLemmas
-pub mod RefusalLemmas
 pub mod CodeBytes

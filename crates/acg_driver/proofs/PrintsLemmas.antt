@@ -1,5 +1,5 @@
 -- Prints in a row: what they leave is what one print of the whole line leaves.
-use Rattle.std.proofs.Common.{◌≡◌, ℕ, ◌+◌, ◌≤◌, ◌<◌, ◌⊎◌, List, ◌++◌, length, take, Bool, IsTrue, Result, Ok, Err, refl, sym, ap, ◌∙◌, arith, rules, inl, inr, append_assoc}
+use Rattle.std.proofs.Common.{◌≡◌, ℕ, ◌+◌, List, ◌++◌, length, take, Bool, IsTrue, Result, Ok, Err, refl, sym, ap, ◌∙◌, arith, inl, inr, append_assoc}
 use Rattle.std.proofs.lemmas.Bool.{cases_lt}
 use Rattle.std.proofs.lemmas.List.{take-append-le, take_all}
 use Rattle.std.proofs.lemmas.Result.{on_ok_weaker, on_err_weaker}
@@ -33,7 +33,7 @@ printed_stops {K} {written} {faults} {tells} first second old new error error' (
       failed = λ _. print.failed refl;
       counts = print.counts;
       grew = λ _. refl;
-      tells_still = print.tells_still
+      tells_still = print.tells_still;
     }
 
 -- a print of the first piece and then one of the second are a print of both
@@ -47,5 +47,5 @@ printed_then {K} {written} {faults} {tells} first second old middle new (Ok u) r
       failed = λ e. elim (next.failed e) [ inl grew ↦ inl (omega arith) | inr most ↦ inr most ];
       counts = omega arith;
       grew = λ grew. elim (cases_lt (faults middle) (faults new)) [ inl later ↦ next.grew later | inr same ↦ absurd (let no = print.grew (omega arith) in cc) ];
-      tells_still = next.tells_still ∙ print.tells_still
+      tells_still = next.tells_still ∙ print.tells_still;
     }

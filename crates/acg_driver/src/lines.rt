@@ -5,7 +5,7 @@ ghost use Rattle.acg_base.specs.Decimals.{decimal_of, unsigned_decimal_of};
 ghost use Rattle.acg_driver.specs.Lines.{numbered_line, header_line, message_line, read_fault_line};
 ghost use Rattle.acg_driver.specs.Prints.{Printed};
 
-use acg_base::{decimal_into, unsigned_into, Sink, SinkError};
+use acg_base::{Sink, SinkError, decimal_into, unsigned_into};
 use std::marker::Model;
 
 // A line in the making, of at most 128 bytes. A contract sees the list of its bytes.
@@ -81,7 +81,8 @@ impl Line {
 /// Answers `Failed` where the sink fails: it has a front of the line then.
 pub fn print_numbered<K: Sink>(out: &mut K, text: &[u8], number: u64) -> Result<(), SinkError>
     requires { length text.now ≤ 40 }
-    ensures { Printed K.written K.faults K.tells (numbered_line text.now number) out.old out.new result }
+    ensures { Printed K.written K.faults K.tells (numbered_line text.now number)
+        out.old out.new result }
 {
     let mut line = Line::new();
     line.put(text);
@@ -99,7 +100,8 @@ pub fn print_header<K: Sink>(
     units: u64,
     factor: u64,
 ) -> Result<(), SinkError>
-    ensures { Printed K.written K.faults K.tells (header_line stack units factor) out.old out.new result }
+    ensures { Printed K.written K.faults K.tells (header_line stack units factor)
+        out.old out.new result }
 {
     let mut line = Line::new();
     line.put(b"stack ");
@@ -116,7 +118,8 @@ pub fn print_header<K: Sink>(
 ///
 /// Answers `Failed` where the sink fails: it has a front of the line then.
 pub fn print_message<K: Sink>(out: &mut K, value: i64) -> Result<(), SinkError>
-    ensures { Printed K.written K.faults K.tells (message_line value) out.old out.new result }
+    ensures { Printed K.written K.faults K.tells (message_line value)
+        out.old out.new result }
 {
     let mut line = Line::new();
     line.put_signed(value);
@@ -128,7 +131,8 @@ pub fn print_message<K: Sink>(out: &mut K, value: i64) -> Result<(), SinkError>
 ///
 /// Answers `Failed` where the sink fails: it has a front of the line then.
 pub fn print_read_fault<K: Sink>(out: &mut K, name: &[u8]) -> Result<(), SinkError>
-    ensures { Printed K.written K.faults K.tells (read_fault_line name.now) out.old out.new result }
+    ensures { Printed K.written K.faults K.tells (read_fault_line name.now)
+        out.old out.new result }
 {
     out.write(b"read fault ")?;
     out.write(name)?;

@@ -20,11 +20,13 @@ pub fn refuse<K: Sink>(out: &mut K, line: &[u8], status: Status) -> Status
     }
 }
 
-// Prints the text, the number and a line feed, and answers the status, or `WriteFault` where the sink fails.
-fn refuse_numbered<K: Sink>(out: &mut K, text: &[u8], number: u32, status: Status) -> Status
+/// Prints the text, the number and a line feed, and answers the status, or `WriteFault` where the
+/// sink fails.
+pub fn refuse_numbered<K: Sink>(out: &mut K, text: &[u8], number: u32, status: Status) -> Status
     requires short { length text.now ≤ 40 }
     requires other { status ≢ Status.WriteFault }
-    ensures { Refused K.written K.faults K.tells (numbered_line text.now number) status out.old out.new result }
+    ensures { Refused K.written K.faults K.tells (numbered_line text.now number) status
+        out.old out.new result }
 {
     match print_numbered(out, text, u64::from(number)) {
         Ok(()) => status,
@@ -43,9 +45,24 @@ pub fn refuse_text<K: Sink>(out: &mut K, error: TextError) -> Status
 {
     match error {
         TextError::Memory => refuse(out, b"memory\n", Status::Memory),
-        TextError::BadByte { offset } => refuse_numbered(out, b"action byte ", offset, Status::Action),
-        TextError::NotAction { offset } => refuse_numbered(out, b"action text ", offset, Status::Action),
+        TextError::BadByte { offset } => refuse_numbered(
+            out,
+            b"action byte ",
+            offset,
+            Status::Action,
+        ),
+        TextError::NotAction { offset } => refuse_numbered(
+            out,
+            b"action text ",
+            offset,
+            Status::Action,
+        ),
         TextError::Nodes => refuse(out, b"limit nodes 65536\n", Status::Limit),
-        TextError::StrayUnfold { node } => refuse_numbered(out, b"stray unfold ", node, Status::Action),
+        TextError::StrayUnfold { node } => refuse_numbered(
+            out,
+            b"stray unfold ",
+            node,
+            Status::Action,
+        ),
     }
 }
