@@ -1,0 +1,3 @@
+pub mod Shapes
+pub mod ActionText
+pub mod Tables
