@@ -1,1 +1,4 @@
-
+pub mod Starts
+pub mod Moves
+pub mod Checked
+pub mod ActionTablePasses

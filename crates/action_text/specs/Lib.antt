@@ -1,3 +1,5 @@
 pub mod Shapes
 pub mod ActionText
 pub mod Tables
+pub mod Classes
+pub mod ActionTable

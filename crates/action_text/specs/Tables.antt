@@ -1,17 +1,13 @@
 -- Grammars as tables of lines, and what they read and write.
+use Rattle.action_text.specs.declared.table.Mark.{Mark}
+use Rattle.action_text.specs.declared.table.Symbol.{Symbol}
+use Rattle.action_text.specs.declared.table.Symbol.TheVariants.{Read, Keep, Emit, Name}
 use Rattle.std.specs.Prelude.{◌≡◌, ◌⊎◌, ℕ, zero, suc, Bool, true, false, List, [], ◌∷◌, ◌++◌, Option, Some, None, nat_eq, if◌then◌else◌}
-
--- what may stand on the right of a line: a token of a class that is read over, one that is kept, a mark that is written, or a name
-pub data Symbol : Type 0 where
-  Read : (class : ℕ) → Symbol
-  Keep : (class : ℕ) → Symbol
-  Emit : (mark : ℕ) → Symbol
-  Name : (name : ℕ) → Symbol
 
 -- what is written: a token, or a mark
 pub data Written : Type 0 where
   Token : (token : List ℕ) → Written
-  Mark : (mark : ℕ) → Written
+  Noted : (mark : Mark) → Written
 
 -- the name may be a token of the class, which is kept or not, and then what stands on the right
 pub record Line : Type 0 where
@@ -51,7 +47,7 @@ Writes g (suc k) (Read c ∷ s) [] o = ⊥
 Writes g (suc k) (Read c ∷ s) (t ∷ ts) o = (g.class t ≡ c) × Writes g k s ts o
 Writes g (suc k) (Keep c ∷ s) [] o = ⊥
 Writes g (suc k) (Keep c ∷ s) (t ∷ ts) o = (g.class t ≡ c) × (p : List Written) × (o ≡ Token t ∷ p) × Writes g k s ts p
-Writes g (suc k) (Emit e ∷ s) ts o = (p : List Written) × (o ≡ Mark e ∷ p) × Writes g k s ts p
+Writes g (suc k) (Emit e ∷ s) ts o = (p : List Written) × (o ≡ Noted e ∷ p) × Writes g k s ts p
 Writes g (suc k) (Name n ∷ s) [] o = (r : List Symbol) × (other_of g.others n ≡ Some r) × Writes g k (r ++ s) [] o
 Writes g (suc k) (Name n ∷ s) (t ∷ ts) o =
     ((l : Line) × (p : List Written) × (line_of g.lines n (g.class t) ≡ Some l) × (o ≡ with_token l.keeps t p) × Writes g k (l.right ++ s) ts p)

@@ -1,2 +1,6 @@
 //! Action texts: reading them as graphs of actions, and printing graphs.
 #![tactic(auto)]
+
+pub mod classes;
+pub mod names;
+pub mod table;
