@@ -3,3 +3,4 @@ pub mod ActionText
 pub mod Tables
 pub mod Classes
 pub mod ActionTable
+pub mod Notes
