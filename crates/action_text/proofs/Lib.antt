@@ -3,3 +3,7 @@ pub mod Moves
 pub mod Checked
 pub mod ActionTablePasses
 pub mod Meanings
+pub mod Words
+pub mod Means
+pub mod Nodes
+pub mod Chains

@@ -4,3 +4,4 @@ pub mod Tables
 pub mod Classes
 pub mod ActionTable
 pub mod Notes
+pub mod Posts
