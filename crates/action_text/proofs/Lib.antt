@@ -7,3 +7,5 @@ pub mod Words
 pub mod Means
 pub mod Nodes
 pub mod Chains
+pub mod QuotedTokens
+pub mod Rows

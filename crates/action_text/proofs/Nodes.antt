@@ -9,7 +9,7 @@ use Rattle.action_text.specs.declared.names.TheConstants as name
 use Rattle.action_text.specs.Shapes.{Piece, Fixed, Numeral, Quoted, Part, shape}
 use Rattle.action_text.specs.ActionText.{IsPlain, IsChain, ArePartsOf, IsPart, Weaves}
 use Rattle.action_text.specs.Posts.{postorder, postorders}
-use Rattle.action_text.specs.Notes.{Noting, marked, writes, note}
+use Rattle.action_text.specs.Notes.{Noting, Note, marked, writes, note}
 use Rattle.action_text.specs.Classes.{class_of}
 use Rattle.action_text.specs.ActionTable.{action_table}
 use Rattle.action_text.proofs.Meanings.{Meaning}
@@ -181,3 +181,28 @@ rest_other x l v ps m serve form fit mark st end ts h =
     let n = node_means l ps m st end ts fit mark h in
     let spell : Weaves (shape l) n.parts (v ∷ ts) = rw form (refl, n.woven) in
     (tree l n.kids, is_of x l n.kids serve n.sorts, (n.parts, n.spelled, spell), n.written)
+
+-- a node whose mark takes notes
+pub record IsNotedNode (l : Label) (ps : List Piece) (st : Noting) (ns : List Note) (ts : List (List ℕ)) (end : Noting) : Type 0 where
+  pub kids : Trees
+  pub parts : List (List (List ℕ))
+  pub sorts : Are (under l) kids
+  pub spelled : ArePartsOf kids (under l) parts
+  pub woven : Weaves ps parts ts
+  pub written : end ≡ record { notes = ns; labels = st.labels ++ postorder (tree l kids) }
+
+pub noted_node : (l : Label) (ps : List Piece) (m : Mark) (st end : Noting) (ns : List Note) (ts : List (List ℕ)) → fits ps (under l) ≡ true
+    → ((ls : List Label) → marked m (record { notes = st.notes; labels = ls }) ≡ record { notes = ns; labels = ls ++ l ∷ [] })
+    → Meaning action_table means (symbols ps (under l) ++ Emit m ∷ []) st ts end → IsNotedNode l ps st ns ts end
+noted_node l ps m st end ns ts fit mark h =
+    let u = under_means ps (under l) (Emit m ∷ []) st end ts fit h in
+    let whole : ts ≡ u.front = u.cut ∙ ap (λ y. u.front ++ y) u.then_means.0 ∙ append-nil u.front in
+    record {
+        kids = u.kids;
+        parts = u.parts;
+        sorts = u.sorts;
+        spelled = u.spelled;
+        woven = subst (λ (y : List (List ℕ)). Weaves ps u.parts y) (sym whole) u.woven;
+        written = u.then_means.1 ∙ mark (st.labels ++ postorders u.kids)
+            ∙ ap (λ ls. let r : Noting = record { notes = ns; labels = ls } in r) (append_assoc st.labels (postorders u.kids) (l ∷ []));
+    }
