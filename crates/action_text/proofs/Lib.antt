@@ -9,3 +9,4 @@ pub mod Nodes
 pub mod Chains
 pub mod QuotedTokens
 pub mod Rows
+pub mod Spelling
