@@ -36,6 +36,7 @@ firsts =
     ∷ (class.BOUND ∷ class.STORED ∷ [])
     ∷ (class.HASH ∷ [])
     ∷ (class.INTEGER ∷ class.TRUTH_VALUE ∷ class.CELL ∷ class.ABSTRACTION ∷ [])
+    ∷ (class.CLOSURE ∷ [])
     ∷ []
 
 -- the classes that never follow each name
@@ -65,11 +66,12 @@ nevers =
     ∷ (class.WITH ∷ class.HASH ∷ [])
     ∷ (class.HASH ∷ [])
     ∷ ([])
+    ∷ (class.WITH ∷ class.HASH ∷ [])
     ∷ []
 
 -- whether each name can be nothing
 abbrev empties : List Bool
-empties = false ∷ true ∷ false ∷ true ∷ true ∷ true ∷ true ∷ true ∷ true ∷ true ∷ true ∷ false ∷ false ∷ true ∷ false ∷ false ∷ false ∷ false ∷ false ∷ false ∷ false ∷ false ∷ true ∷ false ∷ []
+empties = false ∷ true ∷ false ∷ true ∷ true ∷ true ∷ true ∷ true ∷ true ∷ true ∷ true ∷ false ∷ false ∷ true ∷ false ∷ false ∷ false ∷ false ∷ false ∷ false ∷ false ∷ false ∷ true ∷ false ∷ false ∷ []
 
 -- a token of each class
 abbrev samples : List (List ℕ)
@@ -80,7 +82,7 @@ known = record {
     firsts = λ n. get_or firsts n [];
     empty = λ n. get_or empties n false;
     never = λ n. get_or nevers n [];
-    count = 24;
+    count = 25;
     classes = class.COUNT;
     sample = λ c. get_or samples c [];
 }

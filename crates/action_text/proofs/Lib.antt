@@ -10,3 +10,5 @@ pub mod Chains
 pub mod QuotedTokens
 pub mod Rows
 pub mod Spelling
+pub mod SpeltNodes
+pub mod SpeltActions

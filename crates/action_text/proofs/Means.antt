@@ -91,6 +91,7 @@ meanings =
     ∷ MeansSorted (codes "the" ∷ [])
     ∷ MeansSorted (codes "the" ∷ codes "given" ∷ [])
     ∷ MeansSort
+    ∷ MeansPart AClosure
     ∷ []
 
 abbrev pub means : Meant

@@ -21,7 +21,7 @@ abbrev pub name_of : Wanted → ℕ
 name_of AnAction = name.OPERAND
 name_of AYielder = name.YIELDER
 name_of AnItem = name.ITEM
-name_of AClosure = name.YIELDER
+name_of AClosure = name.CLOSURE
 
 -- the symbols of words and parts
 abbrev pub symbols : List Piece → List Wanted → List Symbol
@@ -36,7 +36,7 @@ abbrev pub is_named : Wanted → Bool
 is_named AnAction = true
 is_named AYielder = true
 is_named AnItem = true
-is_named AClosure = false
+is_named AClosure = true
 
 -- the pieces are words and exactly these parts
 abbrev pub fits : List Piece → List Wanted → Bool
@@ -61,7 +61,7 @@ pub means_part : (x : Wanted) (st end : Noting) (ts : List (List ℕ)) → is_na
 means_part AnAction st end ts h m = m
 means_part AYielder st end ts h m = m
 means_part AnItem st end ts h m = m
-means_part AClosure st end ts h m = absurd (cc)
+means_part AClosure st end ts h m = m
 
 pub wrote_both : (a b : List Label) (st : Noting) → wrote b (wrote a st) ≡ wrote (a ++ b) st
 wrote_both a b st = ap (λ ls. let r : Noting = record { notes = st.notes; labels = ls } in r) (append_assoc st.labels a b)

@@ -196,32 +196,16 @@ operand_bind t st end (u ∷ v ∷ ts) e h =
     let n = noted_node l (Part ∷ []) (mark.ActionWithToken kind.Bind) (note (Rattle.action_text.specs.Tables.Token u) st) end st.notes ts refl (λ ls. refl) h.1.1 in
     (tree l n.kids, (q.1, n.sorts), (0, (n.parts, n.spelled, (is_word_of t (codes "bind") e refl, (q.0, (is_word_of v (codes "to") h.1.0 refl, n.woven))))), n.written)
 
-operand_recursively : LineMeans action_table means (line name.OPERAND class.RECURSIVELY false (Read class.BIND ∷ Keep class.QUOTED ∷ Read class.TO ∷ Read class.CLOSURE ∷ Read class.ABSTRACTION ∷ Read class.OF ∷ Name name.OPERAND ∷ Emit (mark.Yielder ykind.Closure) ∷ Emit (mark.ActionWithToken kind.BindRec) ∷ []))
+operand_recursively : LineMeans action_table means (line name.OPERAND class.RECURSIVELY false (Read class.BIND ∷ Keep class.QUOTED ∷ Read class.TO ∷ Name name.CLOSURE ∷ Emit (mark.ActionWithToken kind.BindRec) ∷ []))
 operand_recursively t st end [] e h = absurd h
 operand_recursively t st end (b ∷ []) e h = absurd h.1
 operand_recursively t st end (b ∷ u ∷ []) e h = absurd h.1.1
-operand_recursively t st end (b ∷ u ∷ v ∷ []) e h = absurd h.1.1.1
-operand_recursively t st end (b ∷ u ∷ v ∷ x ∷ []) e h = absurd h.1.1.1.1
-operand_recursively t st end (b ∷ u ∷ v ∷ x ∷ y ∷ []) e h = absurd h.1.1.1.1.1
-operand_recursively t st end (b ∷ u ∷ v ∷ x ∷ y ∷ z ∷ ts) e h =
+operand_recursively t st end (b ∷ u ∷ v ∷ ts) e h =
     let q = quoted_is u (quoted_of_class u h.1.0) in
     let l : Label = ActionNode kind.BindRec 0 (unquoted u) in
-    let c : Label = YielderNode ykind.Closure [] in
-    let m = h.1.1.1.1.1.1 in
-    let a = m.4 in
-    let closure : Tree = tree c (more a.0 none) in
-    let whole : ts ≡ m.0 = m.3 ∙ ap (λ r. m.0 ++ r) m.5.0 ∙ append-nil m.0 in
-    let body : IsOperand (IsPlain a.0) (IsChain a.0) ts = subst (λ r. IsOperand (IsPlain a.0) (IsChain a.0) r) (sym whole) a.2 in
-    let inner : IsPlain closure (x ∷ y ∷ z ∷ ts) =
-        (ts ∷ [], (body, refl), (is_word_of x (codes "closure") h.1.1.1.0 refl, (is_word_of y (codes "abstraction") h.1.1.1.1.0 refl, (is_word_of z (codes "of") h.1.1.1.1.1.0 refl, ([], sym (append-nil ts), refl))))) in
-    (tree l (more closure none), (q.1, ((refl, (a.1, tt)), tt)),
-        (0, ((x ∷ y ∷ z ∷ ts) ∷ [], (inner, refl),
-            (is_word_of t (codes "recursively") e refl, (is_word_of b (codes "bind") h.0 refl, (q.0, (is_word_of v (codes "to") h.1.1.0 refl, ([], sym (append-nil (x ∷ y ∷ z ∷ ts)), refl))))))),
-        m.5.1 ∙ ap (λ (s : Noting). marked (mark.ActionWithToken kind.BindRec) (marked (mark.Yielder ykind.Closure) s)) a.3
-            ∙ ap (λ ls. let r : Noting = record { notes = st.notes; labels = ls } in r) (regroup st.labels (postorder a.0) c l))
-  where
-    regroup : (ls a : List Label) (c l : Label) → ((ls ++ a) ++ c ∷ []) ++ l ∷ [] ≡ ls ++ ((((a ++ []) ++ c ∷ []) ++ []) ++ l ∷ [])
-    regroup ls a c l = simp (append_assoc, append-nil)
+    let n = noted_node l (Part ∷ []) (mark.ActionWithToken kind.BindRec) (note (Rattle.action_text.specs.Tables.Token u) st) end st.notes ts refl (λ ls. refl) h.1.1.1 in
+    (tree l n.kids, (q.1, n.sorts),
+        (0, (n.parts, n.spelled, (is_word_of t (codes "recursively") e refl, (is_word_of b (codes "bind") h.0 refl, (q.0, (is_word_of v (codes "to") h.1.1.0 refl, n.woven)))))), n.written)
 
 enacted_application : LineMeans action_table means (line name.ENACTED class.APPLICATION false (Read class.OF ∷ Name name.YIELDER ∷ Read class.TO ∷ Name name.DATA ∷ Emit (mark.ActionWithItems kind.Apply) ∷ []))
 enacted_application t st end [] e h = absurd h
@@ -474,6 +458,7 @@ lines_mean =
     ((λ t st end ts e h. node_row AYielder (YielderNode ykind.Negation []) (codes "negation") one_argument (mark.Yielder ykind.Negation) refl refl refl refl (λ z. refl) t st end ts e h),
     ((λ t st end ts e h. node_row AYielder (YielderNode ykind.Not []) (codes "not") one_argument (mark.Yielder ykind.Not) refl refl refl refl (λ z. refl) t st end ts e h),
     ((λ t st end ts e h. node_row AYielder (YielderNode ykind.Closure []) (codes "closure") (Fixed (codes "abstraction") ∷ Fixed (codes "of") ∷ Part ∷ []) (mark.Yielder ykind.Closure) refl refl refl refl (λ z. refl) t st end ts e h),
+    ((λ t st end ts e h. node_row AClosure (YielderNode ykind.Closure []) (codes "closure") (Fixed (codes "abstraction") ∷ Fixed (codes "of") ∷ Part ∷ []) (mark.Yielder ykind.Closure) refl refl refl refl (λ z. refl) t st end ts e h),
     ((λ t st end ts e h. rest_row AYielder (YielderNode ykind.Less []) (codes "is") (codes "less") (Fixed (codes "than") ∷ two_arguments) (mark.Yielder ykind.Less) refl refl refl refl (λ z. refl) t st end ts e h),
     ((λ t st end ts e h. rest_row AYielder (YielderNode ykind.Is []) (codes "is") open_paren (Part ∷ Fixed comma ∷ Part ∷ Fixed close_paren ∷ []) (mark.Yielder ykind.Is) refl refl refl refl (λ z. refl) t st end ts e h),
     (the_given,
@@ -484,7 +469,7 @@ lines_mean =
     ((sort_row sort.Truth refl),
     ((sort_row sort.Cell refl),
     ((sort_row sort.Abstraction refl),
-    tt)))))))))))))))))))))))))))))))))))))))))))))))))))))))))))))))))))))
+    tt))))))))))))))))))))))))))))))))))))))))))))))))))))))))))))))))))))))
 
 pub others_mean : OthersMean action_table means action_table.others
 unfolding action_others

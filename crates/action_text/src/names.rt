@@ -48,3 +48,5 @@ pub const THE_REST: u32 = 21;
 pub const AT_PLACE: u32 = 22;
 /// A sort.
 pub const SORT: u32 = 23;
+/// A closure.
+pub const CLOSURE: u32 = 24;
