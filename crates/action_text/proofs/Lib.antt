@@ -12,3 +12,5 @@ pub mod Rows
 pub mod Spelling
 pub mod SpeltNodes
 pub mod SpeltActions
+pub mod SpeltYielders
+pub mod Agreement

@@ -27,28 +27,28 @@ use Rattle.action_text.proofs.QuotedTokens.{quoted_is}
 use Rattle.action_text.proofs.Nodes.{node_row, rest_row, rest_other, under_means, noted_node, plain_part}
 use Rattle.action_text.proofs.Chains.{IsOperator, chain_begins, chain_goes_on, chain_ends, operand_alone, last_name, action_row}
 
-op_Or : IsOperator kind.Or (codes "or") []
+pub op_Or : IsOperator kind.Or (codes "or") []
 op_Or = record { spelled = refl; sides = refl; serves = refl }
 
-op_And : IsOperator kind.And (codes "and") []
+pub op_And : IsOperator kind.And (codes "and") []
 op_And = record { spelled = refl; sides = refl; serves = refl }
 
-op_AndThen : IsOperator kind.AndThen (codes "and") (codes "then" ∷ [])
+pub op_AndThen : IsOperator kind.AndThen (codes "and") (codes "then" ∷ [])
 op_AndThen = record { spelled = refl; sides = refl; serves = refl }
 
-op_Then : IsOperator kind.Then (codes "then") []
+pub op_Then : IsOperator kind.Then (codes "then") []
 op_Then = record { spelled = refl; sides = refl; serves = refl }
 
-op_Trap : IsOperator kind.Trap (codes "trap") []
+pub op_Trap : IsOperator kind.Trap (codes "trap") []
 op_Trap = record { spelled = refl; sides = refl; serves = refl }
 
-op_Hence : IsOperator kind.Hence (codes "hence") []
+pub op_Hence : IsOperator kind.Hence (codes "hence") []
 op_Hence = record { spelled = refl; sides = refl; serves = refl }
 
-op_Moreover : IsOperator kind.Moreover (codes "moreover") []
+pub op_Moreover : IsOperator kind.Moreover (codes "moreover") []
 op_Moreover = record { spelled = refl; sides = refl; serves = refl }
 
-op_Before : IsOperator kind.Before (codes "before") []
+pub op_Before : IsOperator kind.Before (codes "before") []
 op_Before = record { spelled = refl; sides = refl; serves = refl }
 
 -- the first operator of a chain

@@ -71,7 +71,7 @@ pub on_tokens : (s : List Symbol) (st end : Noting) (ts us : List (List ℕ)) �
 on_tokens s st end ts us e d = subst (λ y. Goes s st y end) e d
 
 -- an operator may be followed by no other one
-more_ends : (k : Kind) (st : Noting) (w : List ℕ) (ws : List (List ℕ)) → operator k ≡ w ∷ ws → Goes (Name (more_of k) ∷ []) st [] st
+pub more_ends : (k : Kind) (st : Noting) (w : List ℕ) (ws : List (List ℕ)) → operator k ≡ w ∷ ws → Goes (Name (more_of k) ∷ []) st [] st
 unfolding other_of action_others
 more_ends kind.Or st w ws e = does_other action_table name.MORE_OR [] st st [] refl (does_nothing action_table st)
 more_ends kind.And st w ws e = does_other action_table name.MORE_AND [] st st [] refl (does_nothing action_table st)
@@ -111,7 +111,7 @@ chain_label (tree (ActionNode k n q) (more a (more b none))) ts is c =
 chain_label (tree l (more a (more b (more c ts)))) us is d = absurd d
 
 -- an operand of an action is read, in any number of parentheses
-operand_goes : (t : Tree) → PlainGoes t → ChainGoes t → IsAction t → (pairs : ℕ) (ts : List (List ℕ)) → IsEnclosed pairs (IsPlain t) (IsChain t) ts → (st : Noting)
+pub operand_goes : (t : Tree) → PlainGoes t → ChainGoes t → IsAction t → (pairs : ℕ) (ts : List (List ℕ)) → IsEnclosed pairs (IsPlain t) (IsChain t) ts → (st : Noting)
     → Goes (Name name.OPERAND ∷ []) st ts (wrote (postorder t) st)
 unfolding line_of action_lines other_of action_others
 operand_goes t p c is zero ts h st = p AnAction is ts h st

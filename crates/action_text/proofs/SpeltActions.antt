@@ -29,11 +29,11 @@ abbrev pub behind_items : ℕ → Trees → Noting → Noting
 behind_items n kids st = record { notes = Count n ∷ st.notes; labels = st.labels ++ postorders kids }
 
 -- one mark, and then nothing
-emits : (m : Rattle.action_text.specs.declared.table.Mark.Mark) (st end : Noting) → marked m st ≡ end → Goes (Emit m ∷ []) st [] end
+pub emits : (m : Rattle.action_text.specs.declared.table.Mark.Mark) (st end : Noting) → marked m st ≡ end → Goes (Emit m ∷ []) st [] end
 emits m st end e = does_emit action_table m [] st end [] (end_at [] (marked m st) (marked m st) end [] e (does_nothing action_table (marked m st)))
 
 -- an item is `them` or a yielder
-item_cases : (t : Tree) → Is AnItem t → ((kids : Trees) × (t ≡ tree (YielderNode ykind.Them []) kids) × Are [] kids) ⊎ Is AYielder t
+pub item_cases : (t : Tree) → Is AnItem t → ((kids : Trees) × (t ≡ tree (YielderNode ykind.Them []) kids) × Are [] kids) ⊎ Is AYielder t
 item_cases (tree (ActionNode k n q) kids) h = absurd (cc)
 item_cases (tree (YielderNode ykind.Them q) kids) h = inl (kids, ap (λ r. tree (YielderNode ykind.Them r) kids) (no_token q h.0), h.1)
 item_cases (tree (YielderNode (ykind.Number z) q) kids) h = inr h
@@ -55,7 +55,7 @@ item_cases (tree (YielderNode ykind.Either q) kids) h = inr h
 item_cases (tree (YielderNode ykind.Closure q) kids) h = inr h
 
 -- the spelling of `them`
-them_alone : (kids : Trees) (ts : List (List ℕ)) → Are [] kids → IsPlain (tree (YielderNode ykind.Them []) kids) ts → (kids ≡ none) × (ts ≡ codes "them" ∷ [])
+pub them_alone : (kids : Trees) (ts : List (List ℕ)) → Are [] kids → IsPlain (tree (YielderNode ykind.Them []) kids) ts → (kids ≡ none) × (ts ≡ codes "them" ∷ [])
 them_alone none [] are (parts, spelled, woven) = absurd woven
 them_alone none (t ∷ ts) are (parts, spelled, woven) =
     let rest : ts ≡ [] = subst (λ (p : List (List (List ℕ))). Weaves [] p ts) spelled woven.1 in
