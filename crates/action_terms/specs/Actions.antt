@@ -6,6 +6,7 @@ use Rattle.action_terms.specs.declared.kinds.Sort.{Sort}
 -- the operations on two data, and on one
 pub data Two : Type 0 where
   Sum Difference Product Quotient Remainder Is Less BothOf EitherOf : Two
+
 pub data One : Type 0 where
   Negation Not : One
 

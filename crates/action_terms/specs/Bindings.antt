@@ -1,5 +1,5 @@
 -- Bindings as finite maps from tokens to data.
-use Rattle.std.specs.Prelude.{ℕ, Bool, true, false, List, [], ◌∷◌, Option, Some, None, is_some, nat_lt, if◌then◌else◌}
+use Rattle.std.specs.Prelude.{Bool, true, false, [], ◌∷◌, Option, Some, None, is_some, nat_lt, if◌then◌else◌}
 use Rattle.action_terms.specs.Information.{Token, Datum, Binds, NoBinds, Bound}
 
 -- the order of tokens, by their bytes: a prefix comes first

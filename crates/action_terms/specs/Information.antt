@@ -12,6 +12,7 @@ mutual
     Truth : (b : Bool) → Datum
     CellOf : (number : ℕ) → Datum
     Closure : (body : ℕ) (binds : Binds) (own : Option Token) → Datum
+
   -- bindings, as the list of their pairs: each token once, tokens ascending
   pub data Binds : Type 0 where
     NoBinds : Binds

@@ -1,11 +1,11 @@
 -- What a part of a performance needs: words for what is called, and units for cells and closures.
-use Rattle.std.specs.Prelude.{◌≡◌, ◌⊎◌, ℕ, ◌+◌, ◌*◌, ◌<◌, ℤ, Bool, true, false, List, [], ◌∷◌, ◌++◌, length, count_by, is_some, max}
-use Rattle.action_terms.specs.Information.{Token, Binds}
+use Rattle.std.specs.Prelude.{◌⊎◌, ℕ, ◌+◌, ◌*◌, ◌<◌, List, [], ◌∷◌, count_by, is_some, max}
+use Rattle.action_terms.specs.Information.{Token}
 use Rattle.action_terms.specs.Bindings.{lookup}
-use Rattle.action_terms.specs.Actions.{Yielder, NumberLiteral, TruthLiteral, Given, GivenAt, BoundTo, StoredIn, OnTwo, OnOne, ClosureOf, Item, Single, Them, Primitive, Complete, Failing, Escape, Commit, Regive, Rebind, Give, EscapeWith, Check, Bind, BindRec, Store, Allocate, Receive, Send, Node, Simple, Enact, Apply, Unfolding, Unfold, Furthermore, Both, Phases, Either, Trapping, Branch, Stray, Action}
+use Rattle.action_terms.specs.Actions.{Yielder, StoredIn, OnTwo, OnOne, Item, Single, Them, Primitive, Give, EscapeWith, Check, Bind, BindRec, Store, Send, Node, Simple, Enact, Apply, Branch, Action}
 use Rattle.action_terms.specs.Acting.{Tree, Run, Ended, Called, Par, First, Second, Or, Cut, Trap, Over}
 use Rattle.action_terms.specs.Steps.{Effect, Allocates, Made, Step}
-use Rattle.action_terms.specs.Performances.{State, IsOpen, IsPart, after}
+use Rattle.action_terms.specs.Performances.{State, IsOpen, after}
 
 -- how much an action's parts need: the slots of its main procedure, those of the body with a root, 0 where it is none, and the tokens which the closures of that body capture
 pub record Sizes : Type 0 where

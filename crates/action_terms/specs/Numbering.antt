@@ -1,6 +1,6 @@
 -- The nodes of a tree by number: action nodes from 0 in preorder, and yielders from 0 in preorder.
-use Rattle.std.specs.Prelude.{◌≡◌, ℕ, zero, suc, ◌+◌, ◌≤◌, Bool, true, false, List, [], ◌∷◌, ◌++◌, take, drop, length, Option, Some, None}
-use Rattle.action_terms.specs.Labels.{Label, ActionNode, YielderNode, operand_lengths}
+use Rattle.std.specs.Prelude.{◌≡◌, ℕ, suc, ◌+◌, ◌≤◌, List, [], ◌∷◌, ◌++◌, take, drop, Option, Some, None}
+use Rattle.action_terms.specs.Labels.{ActionNode, YielderNode, operand_lengths}
 use Rattle.action_terms.specs.Trees.{Tree, tree, Trees, none, more, IsAction}
 use Rattle.action_terms.specs.declared.kinds.Kind.{Kind}
 use Rattle.action_terms.specs.declared.kinds.Kind.TheVariants as kind

@@ -1,5 +1,5 @@
 -- Performances of an action over the integers of an input.
-use Rattle.std.specs.Prelude.{◌≡◌, ℕ, ℤ, List, [], ◌∷◌, ◌++◌, Option}
+use Rattle.std.specs.Prelude.{◌≡◌, ℕ, ℤ, List, [], ◌∷◌, ◌++◌}
 use Rattle.std.specs.Int.{w64, cast_signed, cast_unsigned, to_le_bytes, from_le_bytes}
 use Rattle.action_terms.specs.Information.{NoBinds, World}
 use Rattle.action_terms.specs.Actions.{Action}

@@ -1,8 +1,8 @@
 -- The steps that stand open in an acting tree, in their order.
-use Rattle.std.specs.Prelude.{ℕ, ◌+◌, ℤ, Bool, true, false, List, [], ◌∷◌, ◌++◌, Option, Some, None, map, length, if◌then◌else◌, slice_set}
+use Rattle.std.specs.Prelude.{ℕ, ℤ, Bool, true, false, List, [], ◌∷◌, ◌++◌, Option, Some, None, map, length, if◌then◌else◌, slice_set}
 use Rattle.action_terms.specs.Information.{Token, Datum, Number, Truth, CellOf, Closure, Binds, NoBinds, Bound, Data, World}
 use Rattle.action_terms.specs.Bindings.{bind, overlaid, meets}
-use Rattle.action_terms.specs.Actions.{Yielder, NumberLiteral, TruthLiteral, Given, GivenAt, BoundTo, StoredIn, OnTwo, OnOne, ClosureOf, Item, Single, Them, Join, And, Moreover, Chain, AndThen, Then, Hence, Before, Primitive, Complete, Failing, Escape, Commit, Regive, Rebind, Give, EscapeWith, Check, Bind, BindRec, Store, Allocate, Receive, Send, Node, Simple, Enact, Apply, Unfolding, Unfold, Furthermore, Both, Phases, Either, Trapping, Branch, Stray, Action, node_at}
+use Rattle.action_terms.specs.Actions.{Yielder, StoredIn, OnTwo, OnOne, ClosureOf, Item, Single, Them, Join, And, Moreover, Chain, AndThen, Then, Hence, Before, Primitive, Complete, Failing, Escape, Commit, Regive, Rebind, Give, EscapeWith, Check, Bind, BindRec, Store, Allocate, Receive, Send, Node, Simple, Enact, Apply, Unfolding, Unfold, Furthermore, Both, Phases, Either, Trapping, Branch, Stray, Action, node_at}
 use Rattle.action_terms.specs.Yielding.{yields, items_yield}
 use Rattle.action_terms.specs.Acting.{End, Done, Esc, Fail, Tree, Run, Ended, Called, Par, First, Second, Or, Cut, Trap, Over}
 
@@ -56,6 +56,7 @@ with_effect e t = record { place = []; effect = e; made = []; tree = t }
 -- completed with nothing; failed
 abbrev pub done : Tree
 done = Ended (Done [] NoBinds)
+
 abbrev pub failed : Tree
 failed = Ended Fail
 
@@ -170,7 +171,7 @@ run_steps Stray k d b w = []
 abbrev pub united : Data → Binds → Binds → End
 united d b1 b2 = if meets b1 b2 then Fail else Done d (overlaid b1 b2)
 
--- both parts of `and` or `moreover` have completed
+-- what two completed parts of `and` or `moreover` give
 abbrev pub joined : Join → Data → Binds → Data → Binds → End
 joined And d1 b1 d2 b2 = united (d1 ++ d2) b1 b2
 joined Moreover d1 b1 d2 b2 = Done (d1 ++ d2) (overlaid b1 b2)
@@ -188,7 +189,7 @@ handed_binds Then b b1 = b
 handed_binds Hence b b1 = b1
 handed_binds Before b b1 = overlaid b b1
 
--- both parts of a chain have completed
+-- what two completed parts in order give
 abbrev pub chained : Chain → Data → Binds → Data → Binds → End
 chained AndThen d1 b1 d2 b2 = united (d1 ++ d2) b1 b2
 chained Then d1 b1 d2 b2 = united d2 b1 b2
@@ -206,17 +207,32 @@ after_broken (Ended (Esc e)) = Ended (Esc e) ∷ []
 after_broken (Ended Fail) = failed ∷ []
 after_broken _ = []
 
+-- both parts of `and` or `moreover` have completed
+abbrev pub joined_parts : Node → Data → Binds → Data → Binds → List Tree
+joined_parts (Both j l r) d1 b1 d2 b2 = Ended (joined j d1 b1 d2 b2) ∷ []
+joined_parts _ d1 b1 d2 b2 = []
+
 abbrev pub after_both : Node → Tree → Tree → List Tree
-after_both (Both j l r) (Ended (Done d1 b1)) (Ended (Done d2 b2)) = Ended (joined j d1 b1 d2 b2) ∷ []
-after_both _ _ _ = []
+after_both n (Ended (Done d1 b1)) (Ended (Done d2 b2)) = joined_parts n d1 b1 d2 b2
+after_both n _ _ = []
+
+-- the first part has completed: the second one is to be performed
+abbrev pub second_part : Node → ℕ → Data → Binds → Data → Binds → List Tree
+second_part (Phases q l r) k d b d1 b1 = Second k d1 b1 (Run r (handed_data q d d1) (handed_binds q b b1)) ∷ []
+second_part _ k d b d1 b1 = []
 
 abbrev pub after_first : Node → ℕ → Data → Binds → Tree → List Tree
-after_first (Phases q l r) k d b (Ended (Done d1 b1)) = Second k d1 b1 (Run r (handed_data q d d1) (handed_binds q b b1)) ∷ []
-after_first _ k d b t = after_broken t
+after_first n k d b (Ended (Done d1 b1)) = second_part n k d b d1 b1
+after_first n k d b t = after_broken t
+
+-- both parts in order have completed
+abbrev pub chained_parts : Node → Data → Binds → Data → Binds → List Tree
+chained_parts (Phases q l r) d1 b1 d2 b2 = Ended (chained q d1 b1 d2 b2) ∷ []
+chained_parts _ d1 b1 d2 b2 = []
 
 abbrev pub after_second : Node → Data → Binds → Tree → List Tree
-after_second (Phases q l r) d1 b1 (Ended (Done d2 b2)) = Ended (chained q d1 b1 d2 b2) ∷ []
-after_second _ d1 b1 t = after_broken t
+after_second n d1 b1 (Ended (Done d2 b2)) = chained_parts n d1 b1 d2 b2
+after_second n d1 b1 t = after_broken t
 
 -- the other arm is tried after a failure
 abbrev pub after_or : ℕ → Data → Binds → Tree → List Tree
@@ -224,11 +240,13 @@ after_or k2 d b (Ended Fail) = Run k2 d b ∷ []
 after_or k2 d b t = after_any t
 
 -- the handler is given what the left part escaped with
+abbrev pub handler : Node → Data → Binds → List Tree
+handler (Trapping l r) e b = Run r e b ∷ []
+handler _ e b = []
+
 abbrev pub after_trap : Node → Binds → Tree → List Tree
-after_trap (Trapping l r) b (Ended (Esc e)) = Run r e b ∷ []
-after_trap n b (Ended (Done d1 b1)) = Ended (Done d1 b1) ∷ []
-after_trap n b (Ended Fail) = failed ∷ []
-after_trap n b _ = []
+after_trap n b (Ended (Esc e)) = handler n e b
+after_trap n b t = after_any t
 
 abbrev pub after_over : Binds → Tree → List Tree
 after_over b (Ended (Done d1 b1)) = Ended (Done d1 (overlaid b b1)) ∷ []

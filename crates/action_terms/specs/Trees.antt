@@ -1,6 +1,6 @@
 -- Actions as trees of nodes, and the nodes of a tree in the order of the text: preorder.
-use Rattle.std.specs.Prelude.{◌≡◌, ℕ, Bool, true, false, List, [], ◌∷◌, ◌++◌}
-use Rattle.action_terms.specs.Labels.{Label, ActionNode, YielderNode, Wanted, AnAction, serves, under}
+use Rattle.std.specs.Prelude.{◌≡◌, true, List, [], ◌∷◌, ◌++◌}
+use Rattle.action_terms.specs.Labels.{Label, Wanted, AnAction, serves, under}
 
 mutual
   -- a node, and the trees under it in the order of the text

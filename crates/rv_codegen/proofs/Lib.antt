@@ -1,0 +1,12 @@
+pub mod Jumps
+pub mod Pace
+pub mod Messages
+pub mod Pieces
+pub mod Around
+pub mod Sending
+pub mod Turns
+pub mod Walk
+pub mod Exits
+pub mod Standing
+pub mod Entering
+pub mod Right

@@ -1,0 +1,2 @@
+pub mod RightImage
+pub mod Blocks
