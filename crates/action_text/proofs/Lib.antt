@@ -14,3 +14,5 @@ pub mod SpeltNodes
 pub mod SpeltActions
 pub mod SpeltYielders
 pub mod Agreement
+pub mod OneWriting
+pub mod OneTree

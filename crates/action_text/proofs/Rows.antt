@@ -17,7 +17,7 @@ use Rattle.action_text.specs.declared.names.TheConstants as name
 use Rattle.action_text.specs.Shapes.{Piece, Fixed, Numeral, Quoted, Part, shape, items, more_items, sort_word, open_paren, close_paren, comma, one_argument, two_arguments}
 use Rattle.action_text.specs.ActionText.{IsPlain, IsChain, ArePartsOf, IsPart, IsOperand, IsEnclosed, IsActionText, Weaves}
 use Rattle.action_text.specs.Posts.{postorder, postorders}
-use Rattle.action_text.specs.Notes.{Noting, Note, KeptToken, Count, NotedSort, marked, note, unquoted, value_of, natural_of}
+use Rattle.action_text.specs.Notes.{Noting, Note, KeptToken, Count, NotedSort, marked, note, unquoted, value_of, place_of}
 use Rattle.action_text.specs.Classes.{class_of, is_place}
 use Rattle.action_text.specs.ActionTable.{action_table, action_lines, action_others, line, other}
 use Rattle.action_text.proofs.Meanings.{Meaning, LineMeans, LinesMean, OtherMeans, OthersMean}
@@ -376,7 +376,7 @@ at_place t st end (u ∷ ts) e h s ns notes =
     let n = number_of_class u true h.0 in
     let p = place_is n.0 n.2 in
     let spelled : spelled_i64 u ≡ Some (pos (suc p.0)) = n.1 ∙ ap (λ z. Some z) p.1 in
-    let place : natural_of (value_of u) ≡ suc p.0 = ap (λ o. natural_of (unwrap_or o (pos 0))) spelled in
+    let place : place_of (value_of u) ≡ suc p.0 = ap (λ o. place_of (unwrap_or o (pos 0))) spelled ∙ ap (λ b. if b then suc p.0 else 0) p.2 in
     (tree (YielderNode (ykind.Given s (suc p.0)) []) none, (both (nat_le (suc p.0) 64) p.2, tt),
         ([], refl, (refl, (refl, (refl, (is_word_of t (35 ∷ []) e refl, (spelled, h.1.0)))))),
         h.1.1 ∙ ap (λ x. marked mark.GivenAt (let r : Noting = record { notes = KeptToken u ∷ x; labels = st.labels } in r)) notes

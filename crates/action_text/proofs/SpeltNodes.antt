@@ -22,7 +22,7 @@ use Rattle.action_text.specs.Tables.{line_of, other_of, Token}
 use Rattle.action_text.specs.Shapes.{Piece, Fixed, Numeral, Quoted, Part, shape, items, more_items, sort_word, open_paren, close_paren, comma, one_argument, two_arguments}
 use Rattle.action_text.specs.ActionText.{IsPlain, IsChain, ArePartsOf, IsPart, IsOperand, Weaves}
 use Rattle.action_text.specs.Posts.{postorder, postorders}
-use Rattle.action_text.specs.Notes.{Noting, Note, KeptToken, Count, NotedSort, marked, writes, note, unquoted, value_of, natural_of, counted}
+use Rattle.action_text.specs.Notes.{Noting, Note, KeptToken, Count, NotedSort, marked, writes, note, unquoted, value_of, place_of, counted}
 use Rattle.action_text.specs.Classes.{class_of, is_place, number_class}
 use Rattle.action_text.specs.ActionTable.{action_table, action_lines, action_others, line, other}
 use Rattle.action_text.proofs.Meanings.{does_nothing, does_keep, does_emit, does_line, does_other}

@@ -18,7 +18,7 @@ use Rattle.action_text.specs.Tables.{line_of, other_of, Token}
 use Rattle.action_text.specs.Shapes.{Piece, Fixed, Numeral, Quoted, Part, shape, sort_word, open_paren, close_paren, comma, one_argument, two_arguments}
 use Rattle.action_text.specs.ActionText.{IsPlain, ArePartsOf, Weaves}
 use Rattle.action_text.specs.Posts.{postorder, postorders}
-use Rattle.action_text.specs.Notes.{Noting, Note, KeptToken, NotedSort, marked, note, unquoted, value_of, natural_of}
+use Rattle.action_text.specs.Notes.{Noting, Note, KeptToken, NotedSort, marked, note, unquoted, value_of, place_of}
 use Rattle.action_text.specs.Classes.{class_of, is_place}
 use Rattle.action_text.specs.ActionTable.{action_table, action_lines, action_others, line, other}
 use Rattle.action_text.proofs.Meanings.{does_nothing, does_keep, does_emit, does_line, does_other}
@@ -100,7 +100,7 @@ given_at_goes s n place none all are (t ∷ u ∷ v ∷ w ∷ []) (parts, spelle
 given_at_goes s n place none all are (t ∷ u ∷ v ∷ w ∷ x ∷ ts) (parts, spelled, woven) st =
     let end : Noting = wrote (postorder (tree (YielderNode (ykind.Given s (suc n)) []) none)) st in
     let kept : Noting = note (Token x) (marked (mark.Sort s) st) in
-    let value : natural_of (value_of x) ≡ suc n = ap (λ o. natural_of (unwrap_or o (pos 0))) woven.1.1.1.1.0 in
+    let value : place_of (value_of x) ≡ suc n = ap (λ o. place_of (unwrap_or o (pos 0))) woven.1.1.1.1.0 ∙ ap (λ b. if b then suc n else 0) place in
     on_tokens (Name name.YIELDER ∷ []) st end (t ∷ u ∷ v ∷ w ∷ x ∷ []) (t ∷ u ∷ v ∷ w ∷ x ∷ ts) (ap (λ y. t ∷ u ∷ v ∷ w ∷ x ∷ y) (sym (subst (λ (p : List (List (List ℕ))). Weaves [] p ts) spelled woven.1.1.1.1.1)))
     (the_given_goes s t u v (w ∷ x ∷ []) st end woven.0 woven.1.0 woven.1.1.0
         (word_line name.AT_PLACE (35 ∷ []) w (Keep class.PLACE ∷ Emit mark.GivenAt ∷ []) (marked (mark.Sort s) st) end (x ∷ []) refl woven.1.1.1.0

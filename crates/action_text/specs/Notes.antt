@@ -1,5 +1,5 @@
 -- What the marks of a text write: the labels of its nodes, each behind those of its parts.
-use Rattle.std.specs.Prelude.{ℕ, zero, suc, ◌+◌, ◌-◌, List, [], ◌∷◌, ◌++◌, length, take, drop, Option, Some, None, ℤ, pos, negsuc, unwrap_or}
+use Rattle.std.specs.Prelude.{ℕ, zero, suc, ◌+◌, ◌-◌, List, [], ◌∷◌, ◌++◌, length, take, drop, Option, Some, None, ℤ, pos, negsuc, unwrap_or, nat_le, if◌then◌else◌}
 use Rattle.acg_base.specs.Decimals.{spelled_i64}
 use Rattle.action_terms.specs.Labels.{Label, ActionNode, YielderNode}
 use Rattle.action_terms.specs.declared.kinds.YKind.TheVariants as ykind
@@ -41,9 +41,10 @@ unquoted token = take (length token - 2) (drop 1 token)
 abbrev pub value_of : List ℕ → ℤ
 value_of token = unwrap_or (spelled_i64 token) (pos 0)
 
-abbrev pub natural_of : ℤ → ℕ
-natural_of (pos n) = n
-natural_of (negsuc n) = 0
+-- the place among the transients that a number names, from 1 to 64
+abbrev pub place_of : ℤ → ℕ
+place_of (pos n) = if nat_le n 64 then n else 0
+place_of (negsuc n) = 0
 
 -- the notes without the last n, and one more label
 abbrev pub writes : ℕ → Label → Noting → Noting
@@ -60,7 +61,7 @@ marked (mark.ActionWithToken k) st = writes 1 (ActionNode k 0 (unquoted (kept st
 marked (mark.Yielder k) st = writes 0 (YielderNode k []) st
 marked mark.Number st = writes 1 (YielderNode (ykind.Number (value_of (kept st.notes))) []) st
 marked mark.Given st = writes 1 (YielderNode (ykind.Given (noted_sort st.notes) 0) []) st
-marked mark.GivenAt st = writes 2 (YielderNode (ykind.Given (noted_sort (drop 1 st.notes)) (natural_of (value_of (kept st.notes)))) []) st
+marked mark.GivenAt st = writes 2 (YielderNode (ykind.Given (noted_sort (drop 1 st.notes)) (place_of (value_of (kept st.notes)))) []) st
 marked mark.Bound st = writes 2 (YielderNode (ykind.Bound (noted_sort (drop 1 st.notes))) (unquoted (kept st.notes))) st
 marked mark.Stored st = writes 1 (YielderNode (ykind.Stored (noted_sort st.notes)) []) st
 marked mark.NoItems st = notes 0 (Count 0) st
