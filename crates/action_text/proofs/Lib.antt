@@ -16,3 +16,4 @@ pub mod SpeltYielders
 pub mod Agreement
 pub mod OneWriting
 pub mod OneTree
+pub mod RowLookups

@@ -5,3 +5,4 @@ pub mod Classes
 pub mod ActionTable
 pub mod Notes
 pub mod Posts
+pub mod Rows

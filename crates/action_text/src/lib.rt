@@ -2,5 +2,6 @@
 #![tactic(auto)]
 
 pub mod classes;
+pub mod lookup;
 pub mod names;
 pub mod table;
