@@ -17,3 +17,5 @@ pub mod Agreement
 pub mod OneWriting
 pub mod OneTree
 pub mod RowLookups
+pub mod WordCuts
+pub mod KindClasses

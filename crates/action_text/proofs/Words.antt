@@ -1,5 +1,5 @@
 -- What the class of a token says of its bytes.
-use Rattle.std.proofs.Common.{◌≡◌, ◌⊎◌, inl, inr, ℕ, zero, suc, ◌+◌, ◌-◌, ◌<◌, ◌≤◌, Bool, true, false, ◌&&◌, List, [], ◌∷◌, ◌++◌, length, take, drop, Option, Some, None, refl, sym, ap, ◌∙◌, arith, get_or, nat_eq, nat_lt, if◌then◌else◌, eqb-true, ltb-true}
+use Rattle.std.proofs.Common.{◌≡◌, ◌⊎◌, inl, inr, ℕ, zero, suc, ◌+◌, ◌-◌, ◌<◌, ◌≤◌, Bool, true, false, ◌&&◌, List, [], ◌∷◌, ◌++◌, length, take, drop, Option, Some, None, refl, sym, ap, ◌∙◌, arith, get_or, nat_eq, nat_lt, if◌then◌else◌, eqb-true, eq-eqb, ltb-true}
 use Rattle.std.specs.Prelude.{ℤ, pos, negsuc, nat_le}
 use Rattle.std.proofs.lemmas.Bool.Decides.{nat_tests}
 use Rattle.acg_base.specs.Decimals.{spelled_i64}
@@ -11,7 +11,8 @@ and_both : (a b : Bool) → (a && b) ≡ true → (a ≡ true) × (b ≡ true)
 and_both true b h = (refl, h)
 and_both false b h = absurd (cc)
 
-same_is : (word bytes : List ℕ) → same_bytes word bytes ≡ true → word ≡ bytes
+-- the test of two texts
+pub same_is : (word bytes : List ℕ) → same_bytes word bytes ≡ true → word ≡ bytes
 same_is [] [] h = refl
 same_is [] (c ∷ bytes) h = absurd (cc)
 same_is (b ∷ word) [] h = absurd (cc)
@@ -20,6 +21,13 @@ same_is (b ∷ word) (c ∷ bytes) h =
     let e : b ≡ c = eqb-true b c x.0 in
     let f : word ≡ bytes = same_is word bytes x.1 in
     cc
+
+pub same_back : (word bytes : List ℕ) → word ≡ bytes → same_bytes word bytes ≡ true
+same_back word bytes e = rw (sym e) (same_self word)
+  where
+    same_self : (xs : List ℕ) → same_bytes xs xs ≡ true
+    same_self [] = refl
+    same_self (x ∷ xs) = rw (eq-eqb x x refl) (same_self xs)
 
 -- the bytes stand at their class among the words
 pub record IsAmong (n : ℕ) (ws : List (List ℕ)) (bytes : List ℕ) (c : ℕ) : Type 0 where

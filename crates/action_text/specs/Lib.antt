@@ -6,3 +6,5 @@ pub mod ActionTable
 pub mod Notes
 pub mod Posts
 pub mod Rows
+pub mod Texts
+pub mod Views

@@ -4,4 +4,6 @@
 pub mod classes;
 pub mod lookup;
 pub mod names;
+pub mod notes;
 pub mod table;
+pub mod token_class;
