@@ -19,3 +19,4 @@ pub mod OneTree
 pub mod RowLookups
 pub mod WordCuts
 pub mod KindClasses
+pub mod Weights

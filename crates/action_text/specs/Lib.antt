@@ -8,3 +8,4 @@ pub mod Posts
 pub mod Rows
 pub mod Texts
 pub mod Views
+pub mod Reading

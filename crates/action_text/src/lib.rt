@@ -5,5 +5,6 @@ pub mod classes;
 pub mod lookup;
 pub mod names;
 pub mod notes;
+pub mod reading;
 pub mod table;
 pub mod token_class;

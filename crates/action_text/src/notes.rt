@@ -1,6 +1,8 @@
 //! What is noted and written while a text is read.
-ghost use Rattle.std.specs.Prelude.{◌≡◌, OnOk, IfOk, length, drop, map, reverse};
-ghost use Rattle.action_text.specs.Notes.{kept, counted, noted_sort, unquoted, value_of, place_of, marked};
+ghost use Rattle.std.specs.Prelude.{◌≡◌, ◌+◌, [], ◌∷◌, ◌++◌, OnOk, drop, map, reverse};
+ghost use Rattle.action_terms.specs.Labels.{ActionNode, YielderNode};
+ghost use Rattle.action_terms.specs.Pushed.{label_of};
+ghost use Rattle.action_text.specs.Notes.{KeptToken, Count, kept, counted, noted_sort, unquoted, value_of, place_of, marked};
 ghost use Rattle.action_text.specs.Views.{plain_note, noting_of};
 
 use crate::table::Mark;
@@ -79,5 +81,104 @@ fn place_of(value: i64) -> u32
         value as u32
     } else {
         0
+    }
+}
+
+// Writes the label of an action node.
+fn write_action<'t>(
+    labels: &mut Vec<Pushed<'t>>,
+    kind: Kind,
+    items: u32,
+    token: &'t [u8],
+) -> Result<(), AllocError>
+    ensures { OnOk result (map label_of labels.new.items ≡ map label_of labels.old.items ++ ActionNode kind items token.now ∷ []) }
+{
+    labels.push(Pushed::Action(NewAction { kind, items, token }))?;
+    Ok(())
+}
+
+// Writes the label of a yielder.
+fn write_yielder<'t>(
+    labels: &mut Vec<Pushed<'t>>,
+    kind: YKind,
+    token: &'t [u8],
+) -> Result<(), AllocError>
+    ensures { OnOk result (map label_of labels.new.items ≡ map label_of labels.old.items ++ YielderNode kind token.now ∷ []) }
+{
+    labels.push(Pushed::Yielder(NewYielder { kind, token }))?;
+    Ok(())
+}
+
+// Notes one thing more.
+fn remember<'t>(notes: &mut Vec<Note<'t>>, note: Note<'t>) -> Result<(), AllocError>
+    ensures { OnOk result (reverse (map plain_note notes.new.items) ≡ plain_note note.entry ∷ reverse (map plain_note notes.old.items)) }
+{
+    notes.push(note)?;
+    Ok(())
+}
+
+// Counts one item more. There is no memory for more than 4294967295 items.
+fn count_item(notes: &mut Vec<Note<'_>>) -> Result<(), AllocError>
+    ensures { OnOk result (reverse (map plain_note notes.new.items) ≡ Count (counted (reverse (map plain_note notes.old.items)) + 1) ∷ drop 1 (reverse (map plain_note notes.old.items))) }
+{
+    let items = take_items(notes);
+    match items.checked_add(1) {
+        Some(more) => remember(notes, Note::Items(more)),
+        None => Err(AllocError),
+    }
+}
+
+/// Notes that the token was kept.
+pub fn keep<'t>(notes: &mut Vec<Note<'t>>, token: &'t [u8]) -> Result<(), AllocError>
+    ensures { OnOk result (reverse (map plain_note notes.new.items) ≡ KeptToken token.now ∷ reverse (map plain_note notes.old.items)) }
+{
+    remember(notes, Note::Kept(token))
+}
+
+/// Does what the mark says: notes something, or takes notes and writes the label of a node.
+pub fn follow<'t>(
+    mark: Mark,
+    notes: &mut Vec<Note<'t>>,
+    labels: &mut Vec<Pushed<'t>>,
+) -> Result<(), AllocError>
+    ensures { OnOk result (noting_of notes.new.items labels.new.items ≡ marked mark (noting_of notes.old.items labels.old.items)) }
+{
+    match mark {
+        Mark::Action(kind) => write_action(labels, kind, 0, &[]),
+        Mark::ActionWithItems(kind) => {
+            let items = take_items(notes);
+            write_action(labels, kind, items, &[])
+        }
+        Mark::ActionWithToken(kind) => {
+            let token = unquoted(take_token(notes));
+            write_action(labels, kind, 0, token)
+        }
+        Mark::Yielder(kind) => write_yielder(labels, kind, &[]),
+        Mark::Number => {
+            let value = value_of(take_token(notes));
+            write_yielder(labels, YKind::Number(value), &[])
+        }
+        Mark::Given => {
+            let sort = take_sort(notes);
+            write_yielder(labels, YKind::Given { sort, place: 0 }, &[])
+        }
+        Mark::GivenAt => {
+            let place = place_of(value_of(take_token(notes)));
+            let sort = take_sort(notes);
+            write_yielder(labels, YKind::Given { sort, place }, &[])
+        }
+        Mark::Bound => {
+            let token = unquoted(take_token(notes));
+            let sort = take_sort(notes);
+            write_yielder(labels, YKind::Bound { sort }, token)
+        }
+        Mark::Stored => {
+            let sort = take_sort(notes);
+            write_yielder(labels, YKind::Stored { sort }, &[])
+        }
+        Mark::NoItems => remember(notes, Note::Items(0)),
+        Mark::FirstItem => remember(notes, Note::Items(1)),
+        Mark::NextItem => count_item(notes),
+        Mark::Sort(sort) => remember(notes, Note::Noted(sort)),
     }
 }
