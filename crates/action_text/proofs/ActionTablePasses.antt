@@ -79,12 +79,12 @@ samples = words ++ codes "0" ∷ codes "1" ∷ (34 ∷ 120 ∷ 34 ∷ []) ∷ []
 
 abbrev pub known : Known
 known = record {
-    firsts = λ n. get_or firsts n [];
-    empty = λ n. get_or empties n false;
-    never = λ n. get_or nevers n [];
-    count = 25;
-    classes = class.COUNT;
-    sample = λ c. get_or samples c [];
+  firsts = λ n. get_or firsts n [];
+  empty = λ n. get_or empties n false;
+  never = λ n. get_or nevers n [];
+  count = 25;
+  classes = class.COUNT;
+  sample = λ c. get_or samples c [];
 }
 
 pub lines_pass : lines_are_good action_table known action_table.lines ≡ true

@@ -41,25 +41,25 @@ pub record HasRows (k : Kind) (w : List ℕ) (ws : List (List ℕ)) : Type 0 whe
 simple_rows : (k : Kind) (w : List ℕ) → line_of action_lines name.CHAIN (class_of w) ≡ Some (line name.CHAIN (class_of w) false (Name name.OPERAND ∷ Emit (mark.Action k) ∷ Name (more_of k) ∷ []))
     → line_of action_lines (more_of k) (class_of w) ≡ Some (line (more_of k) (class_of w) false (Name name.OPERAND ∷ Emit (mark.Action k) ∷ Name (more_of k) ∷ [])) → HasRows k w []
 simple_rows k w first next = record {
-    first = λ st end ts d. word_line name.CHAIN w w (Name name.OPERAND ∷ Emit (mark.Action k) ∷ Name (more_of k) ∷ []) st end ts first refl d;
-    next = λ st end ts d. word_line (more_of k) w w (Name name.OPERAND ∷ Emit (mark.Action k) ∷ Name (more_of k) ∷ []) st end ts next refl d;
+  first = λ st end ts d. word_line name.CHAIN w w (Name name.OPERAND ∷ Emit (mark.Action k) ∷ Name (more_of k) ∷ []) st end ts first refl d;
+  next = λ st end ts d. word_line (more_of k) w w (Name name.OPERAND ∷ Emit (mark.Action k) ∷ Name (more_of k) ∷ []) st end ts next refl d;
 }
 
 and_rows : HasRows kind.And (codes "and") []
 unfolding line_of action_lines other_of action_others
 and_rows = record {
-    first = λ st end ts d. word_line name.CHAIN (codes "and") (codes "and") (Name name.AND_NEXT ∷ []) st end ts refl refl
-        (does_other action_table name.AND_NEXT (Name name.OPERAND ∷ Emit (mark.Action kind.And) ∷ Name name.MORE_AND ∷ []) st end ts refl d);
-    next = λ st end ts d. word_line name.MORE_AND (codes "and") (codes "and") (Name name.OPERAND ∷ Emit (mark.Action kind.And) ∷ Name name.MORE_AND ∷ []) st end ts refl refl d;
+  first = λ st end ts d. word_line name.CHAIN (codes "and") (codes "and") (Name name.AND_NEXT ∷ []) st end ts refl refl
+      (does_other action_table name.AND_NEXT (Name name.OPERAND ∷ Emit (mark.Action kind.And) ∷ Name name.MORE_AND ∷ []) st end ts refl d);
+  next = λ st end ts d. word_line name.MORE_AND (codes "and") (codes "and") (Name name.OPERAND ∷ Emit (mark.Action kind.And) ∷ Name name.MORE_AND ∷ []) st end ts refl refl d;
 }
 
 and_then_rows : HasRows kind.AndThen (codes "and") (codes "then" ∷ [])
 unfolding line_of action_lines
 and_then_rows = record {
-    first = λ st end ts d. word_line name.CHAIN (codes "and") (codes "and") (Name name.AND_NEXT ∷ []) st end (codes "then" ∷ ts) refl refl
-        (word_line name.AND_NEXT (codes "then") (codes "then") (Name name.OPERAND ∷ Emit (mark.Action kind.AndThen) ∷ Name name.MORE_AND_THEN ∷ []) st end ts refl refl d);
-    next = λ st end ts d. word_line name.MORE_AND_THEN (codes "and") (codes "and") (Read class.THEN ∷ Name name.OPERAND ∷ Emit (mark.Action kind.AndThen) ∷ Name name.MORE_AND_THEN ∷ []) st end (codes "then" ∷ ts) refl refl
-        (word_read (codes "then") (codes "then") (Name name.OPERAND ∷ Emit (mark.Action kind.AndThen) ∷ Name name.MORE_AND_THEN ∷ []) st end ts refl d);
+  first = λ st end ts d. word_line name.CHAIN (codes "and") (codes "and") (Name name.AND_NEXT ∷ []) st end (codes "then" ∷ ts) refl refl
+      (word_line name.AND_NEXT (codes "then") (codes "then") (Name name.OPERAND ∷ Emit (mark.Action kind.AndThen) ∷ Name name.MORE_AND_THEN ∷ []) st end ts refl refl d);
+  next = λ st end ts d. word_line name.MORE_AND_THEN (codes "and") (codes "and") (Read class.THEN ∷ Name name.OPERAND ∷ Emit (mark.Action kind.AndThen) ∷ Name name.MORE_AND_THEN ∷ []) st end (codes "then" ∷ ts) refl refl
+      (word_read (codes "then") (codes "then") (Name name.OPERAND ∷ Emit (mark.Action kind.AndThen) ∷ Name name.MORE_AND_THEN ∷ []) st end ts refl d);
 }
 
 -- the rows of each operator
@@ -94,7 +94,7 @@ right_goes k a b right us st end operand onward =
     let behind : Noting = wrote (postorder b) (wrote (postorder a) st) in
     name_then name.OPERAND (Emit (mark.Action k) ∷ Name (more_of k) ∷ []) (wrote (postorder a) st) behind end right us operand
     (Rattle.action_text.proofs.Meanings.does_emit action_table (mark.Action k) (Name (more_of k) ∷ []) behind end us
-        (subst (λ z. Goes (Name (more_of k) ∷ []) z us end) (sym (joined_labels k a b st.labels (wrote (postorder a) st) refl)) onward))
+    (subst (λ z. Goes (Name (more_of k) ∷ []) z us end) (sym (joined_labels k a b st.labels (wrote (postorder a) st) refl)) onward))
 
 -- a chain is read, and what goes it on
 abbrev ChainStep : Kind → Tree → Type 0
@@ -125,7 +125,7 @@ chain_goes l none all is k label ts c st end us onward = absurd c
 chain_goes l (more a none) all is k label ts c st end us onward = absurd c
 chain_goes l (more a (more b none)) all is k label ts c st end us onward =
     let step : ChainStep k (tree l (more a (more b none))) =
-        subst (λ m. ChainStep k (tree m (more a (more b none)))) (sym label) (joined_goes k a b all.0 all.1 all.2.0 all.2.1) in
+    subst (λ m. ChainStep k (tree m (more a (more b none)))) (sym label) (joined_goes k a b all.0 all.1 all.2.0 all.2.1) in
     step is ts c st end us onward
 chain_goes l (more a (more b (more d kids))) all is k label ts c st end us onward = absurd c
 
@@ -177,8 +177,8 @@ spelled_is_read t ts (is, inl o) st =
     let end : Noting = wrote (postorder t) st in
     on_tokens (Name name.ACTION ∷ []) st end (ts ++ []) ts (append-nil ts)
     (does_other action_table name.ACTION (Name name.OPERAND ∷ Name name.CHAIN ∷ []) st end (ts ++ []) refl
-        (name_then name.OPERAND (Name name.CHAIN ∷ []) st end end ts [] (operand_goes t both.0 both.1 is o.0 ts o.1 st)
-            (does_other action_table name.CHAIN [] end end [] refl (does_nothing action_table end))))
+    (name_then name.OPERAND (Name name.CHAIN ∷ []) st end end ts [] (operand_goes t both.0 both.1 is o.0 ts o.1 st)
+    (does_other action_table name.CHAIN [] end end [] refl (does_nothing action_table end))))
 spelled_is_read t ts (is, inr c) st =
     let both = tree_goes t in
     let l = chain_label t ts is c in

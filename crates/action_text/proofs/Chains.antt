@@ -58,10 +58,13 @@ pub chain_begins : (k : Kind) (w : List ℕ) (ws between : List (List ℕ)) (st 
 chain_begins k w ws between st end front back gap op words mid part onward ls a is labels =
     let b : Tree = part.0 in
     let now : marked (mark.Action k) mid ≡ replaced ls (postorder (joined k a b)) st =
-        ap (marked (mark.Action k)) part.3 ∙ joined_labels k a b ls st labels in
-    let m = onward ls (joined k a b) (joined_is k w ws a b op is part.1) refl (ap (λ (z : Noting). z.labels) now) in
-    (m.0, m.1, m.2 ∙ ap (λ (z : Noting). replaced ls (postorder m.0) z) now,
-        λ left h. inr (subst (λ ts. IsChain m.0 ts) (tokens left) (m.3 (left ++ (w ∷ ws) ++ front) (chain_of k w ws a b left front op (inr h) part.2))))
+    ap (marked (mark.Action k)) part.3 ∙ joined_labels k a b ls st labels in
+    let m = onward ls (joined k a b) (joined_is k w ws a b op is part.1) refl (ap (λ (z : Noting). z.labels) now) in (
+      m.0,
+      m.1,
+      m.2 ∙ ap (λ (z : Noting). replaced ls (postorder m.0) z) now,
+      λ left h. inr (subst (λ ts. IsChain m.0 ts) (tokens left) (m.3 (left ++ (w ∷ ws) ++ front) (chain_of k w ws a b left front op (inr h) part.2))),
+    )
   where
     tokens : (left : List (List ℕ)) → (left ++ (w ∷ ws) ++ front) ++ back ≡ left ++ (between ++ (gap ++ (front ++ back)))
     tokens left = ap (λ y. (left ++ y ++ front) ++ back) (sym words) ∙ regroup_five left between gap front back
@@ -73,10 +76,13 @@ pub chain_goes_on : (k : Kind) (w : List ℕ) (ws : List (List ℕ)) (st end : N
 chain_goes_on k w ws st end front back op mid part onward ls a is label labels =
     let b : Tree = part.0 in
     let now : marked (mark.Action k) mid ≡ replaced ls (postorder (joined k a b)) st =
-        ap (marked (mark.Action k)) part.3 ∙ joined_labels k a b ls st labels in
-    let m = onward ls (joined k a b) (joined_is k w ws a b op is part.1) refl (ap (λ (z : Noting). z.labels) now) in
-    (m.0, m.1, m.2 ∙ ap (λ (z : Noting). replaced ls (postorder m.0) z) now,
-        λ left h. subst (λ ts. IsChain m.0 ts) (regroup_four left (w ∷ ws) front back) (m.3 (left ++ (w ∷ ws) ++ front) (chain_of k w ws a b left front op (inl (label, h)) part.2)))
+    ap (marked (mark.Action k)) part.3 ∙ joined_labels k a b ls st labels in
+    let m = onward ls (joined k a b) (joined_is k w ws a b op is part.1) refl (ap (λ (z : Noting). z.labels) now) in (
+      m.0,
+      m.1,
+      m.2 ∙ ap (λ (z : Noting). replaced ls (postorder m.0) z) now,
+      λ left h. subst (λ ts. IsChain m.0 ts) (regroup_four left (w ∷ ws) front back) (m.3 (left ++ (w ∷ ws) ++ front) (chain_of k w ws a b left front op (inl (label, h)) part.2)),
+    )
 
 same_state : (st : Noting) (ls new : List Label) → st.labels ≡ ls ++ new → st ≡ replaced ls new st
 same_state st ls new e = ap (λ l. let r : Noting = record { notes = st.notes; labels = l } in r) e

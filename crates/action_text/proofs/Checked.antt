@@ -184,8 +184,8 @@ can_end g classes (suc k) (Keep c ∷ s) = nat_lt c classes && can_end g classes
 can_end g classes (suc k) (Emit e ∷ s) = can_end g classes k s
 can_end g classes (suc k) (Name n ∷ s) =
     elim (other_of g.others n) [
-        Some r ↦ can_end g classes k (r ++ s)
-        | None ↦ elim (first_line g.lines n) [ Some l ↦ nat_lt l.class classes && can_end g classes k (l.right ++ s) | None ↦ false ]
+      | Some r ↦ can_end g classes k (r ++ s)
+      | None ↦ elim (first_line g.lines n) [ Some l ↦ nat_lt l.class classes && can_end g classes k (l.right ++ s) | None ↦ false ]
     ]
 
 -- each class has a token
@@ -229,9 +229,11 @@ ends g w sm (suc k) (Name n ∷ s) h = go (other_of g.others n) (first_line g.li
     go (Some r) b e f h ih = let x = ih (r ++ s) h in (x.0, x.1, named r x.0 x.1 e x.2)
     go None (Some l) e f h ih =
         let x = ih (l.right ++ s) (and_right (nat_lt l.class w.classes) (can_end g w.classes k (l.right ++ s)) h) in
-        let of_class : g.class (w.sample l.class) ≡ l.class = sampled g w sm l.class (can_end g w.classes k (l.right ++ s)) h in
-        (w.sample l.class ∷ x.0, with_token l.keeps (w.sample l.class) x.1,
-            (suc x.2.0, inl (l, x.1, ap (λ c. line_of g.lines n c) of_class ∙ first_found g.lines n l f, refl, x.2.1)))
+        let of_class : g.class (w.sample l.class) ≡ l.class = sampled g w sm l.class (can_end g w.classes k (l.right ++ s)) h in (
+          w.sample l.class ∷ x.0,
+          with_token l.keeps (w.sample l.class) x.1,
+          (suc x.2.0, inl (l, x.1, ap (λ c. line_of g.lines n c) of_class ∙ first_found g.lines n l f, refl, x.2.1)),
+        )
     go None None e f h ih = absurd (cc)
 
 unfoldable pub below : (ℕ → Bool) → ℕ → Bool

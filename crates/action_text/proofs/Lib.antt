@@ -20,3 +20,4 @@ pub mod RowLookups
 pub mod WordCuts
 pub mod KindClasses
 pub mod Weights
+pub mod ReadingMoves

@@ -107,7 +107,7 @@ pub record Does (g : Table) (s : List Symbol) (st : Noting) (ts : List (List ℕ
   pub reads : Reads g s ts written
   pub ends : noted written st ≡ end
 
-noted-append : (o p : List Written) (st : Noting) → noted (o ++ p) st ≡ noted p (noted o st)
+pub noted-append : (o p : List Written) (st : Noting) → noted (o ++ p) st ≡ noted p (noted o st)
 noted-append [] p st = refl
 noted-append (x ∷ o) p st = noted-append o p (note x st)
 
@@ -126,16 +126,16 @@ does_emit g m s st end ts d = record { written = Noted m ∷ d.written; reads = 
 -- one behind the other
 pub does_both : (g : Table) (r s : List Symbol) (st mid end : Noting) (ts us : List (List ℕ)) → Does g r st ts mid → Does g s mid us end → Does g (r ++ s) st (ts ++ us) end
 does_both g r s st mid end ts us d e = record {
-    written = d.written ++ e.written;
-    reads = reads_both g d.reads.0 e.reads.0 r s ts us d.written e.written d.reads.1 e.reads.1;
-    ends = noted-append d.written e.written st ∙ ap (noted e.written) d.ends ∙ e.ends;
+  written = d.written ++ e.written;
+  reads = reads_both g d.reads.0 e.reads.0 r s ts us d.written e.written d.reads.1 e.reads.1;
+  ends = noted-append d.written e.written st ∙ ap (noted e.written) d.ends ∙ e.ends;
 }
 
 pub does_line : (g : Table) (n : ℕ) (l : Line) (st end : Noting) (t : List ℕ) (ts : List (List ℕ)) → line_of g.lines n (g.class t) ≡ Some l → Does g l.right (keeping l.keeps t st) ts end → Does g (Name n ∷ []) st (t ∷ ts) end
 does_line g n l st end t ts e d = record {
-    written = with_token l.keeps t d.written;
-    reads = (suc d.reads.0, inl (l, d.written, e, refl, rw (append-nil l.right) d.reads.1));
-    ends = keeping_is l.keeps t d.written st ∙ d.ends;
+  written = with_token l.keeps t d.written;
+  reads = (suc d.reads.0, inl (l, d.written, e, refl, rw (append-nil l.right) d.reads.1));
+  ends = keeping_is l.keeps t d.written st ∙ d.ends;
 }
 
 pub does_other : (g : Table) (n : ℕ) (r : List Symbol) (st end : Noting) (ts : List (List ℕ)) → other_of g.others n ≡ Some r → Does g r st ts end → Does g (Name n ∷ []) st ts end

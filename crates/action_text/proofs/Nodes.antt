@@ -87,7 +87,15 @@ pub record IsUnder (ps : List Piece) (xs : List Wanted) (s : List Symbol) (st : 
 pub under_means : (ps : List Piece) (xs : List Wanted) (s : List Symbol) (st end : Noting) (ts : List (List ℕ)) → fits ps xs ≡ true
     → Meaning action_table means (symbols ps xs ++ s) st ts end → IsUnder ps xs s st ts end
 under_means [] [] s st end ts h m = record {
-    front = []; back = ts; kids = none; parts = []; cut = refl; sorts = tt; spelled = refl; woven = refl; then_means = rw (wrote_nothing st) m;
+  front = [];
+  back = ts;
+  kids = none;
+  parts = [];
+  cut = refl;
+  sorts = tt;
+  spelled = refl;
+  woven = refl;
+  then_means = rw (wrote_nothing st) m;
 }
 under_means [] (x ∷ xs) s st end ts h m = absurd (cc)
 under_means (Part ∷ ps) [] s st end ts h m = absurd (cc)
@@ -95,29 +103,29 @@ under_means (Part ∷ ps) (x ∷ xs) s st end ts h m =
     let k = means_part x st m.2 m.0 (and_left (is_named x) (fits ps xs) h) m.4 in
     let r = under_means ps xs s m.2 end m.1 (and_right (is_named x) (fits ps xs) h) m.5 in
     record {
-        front = m.0 ++ r.front;
-        back = r.back;
-        kids = more k.0 r.kids;
-        parts = m.0 ∷ r.parts;
-        cut = m.3 ∙ ap (λ y. m.0 ++ y) r.cut ∙ sym (append_assoc m.0 r.front r.back);
-        sorts = (k.1, r.sorts);
-        spelled = (k.2, r.spelled);
-        woven = (r.front, refl, r.woven);
-        then_means = wrote_on s (postorder k.0) (postorders r.kids) st m.2 end r.back k.3 r.then_means;
+      front = m.0 ++ r.front;
+      back = r.back;
+      kids = more k.0 r.kids;
+      parts = m.0 ∷ r.parts;
+      cut = m.3 ∙ ap (λ y. m.0 ++ y) r.cut ∙ sym (append_assoc m.0 r.front r.back);
+      sorts = (k.1, r.sorts);
+      spelled = (k.2, r.spelled);
+      woven = (r.front, refl, r.woven);
+      then_means = wrote_on s (postorder k.0) (postorders r.kids) st m.2 end r.back k.3 r.then_means;
     }
 under_means (Fixed w ∷ ps) xs s st end [] h m = absurd m
 under_means (Fixed w ∷ ps) xs s st end (t ∷ ts) h m =
     let r = under_means ps xs s st end ts (and_right (nat_lt (class_of w) word_count) (fits ps xs) h) m.1 in
     record {
-        front = t ∷ r.front;
-        back = r.back;
-        kids = r.kids;
-        parts = r.parts;
-        cut = ap (λ y. t ∷ y) r.cut;
-        sorts = r.sorts;
-        spelled = r.spelled;
-        woven = (is_word_of t w m.0 (and_left (nat_lt (class_of w) word_count) (fits ps xs) h), r.woven);
-        then_means = r.then_means;
+      front = t ∷ r.front;
+      back = r.back;
+      kids = r.kids;
+      parts = r.parts;
+      cut = ap (λ y. t ∷ y) r.cut;
+      sorts = r.sorts;
+      spelled = r.spelled;
+      woven = (is_word_of t w m.0 (and_left (nat_lt (class_of w) word_count) (fits ps xs) h), r.woven);
+      then_means = r.then_means;
     }
 under_means (Numeral z ∷ ps) xs s st end ts h m = absurd (cc)
 under_means (Quoted q ∷ ps) xs s st end ts h m = absurd (cc)
@@ -137,12 +145,12 @@ node_means l ps m st end ts fit mark h =
     let u = under_means ps (under l) (Emit m ∷ []) st end ts fit h in
     let whole : ts ≡ u.front = u.cut ∙ ap (λ y. u.front ++ y) u.then_means.0 ∙ append-nil u.front in
     record {
-        kids = u.kids;
-        parts = u.parts;
-        sorts = u.sorts;
-        spelled = u.spelled;
-        woven = subst (λ (y : List (List ℕ)). Weaves ps u.parts y) (sym whole) u.woven;
-        written = u.then_means.1 ∙ mark (wrote (postorders u.kids) st) ∙ wrote_both (postorders u.kids) (l ∷ []) st;
+      kids = u.kids;
+      parts = u.parts;
+      sorts = u.sorts;
+      spelled = u.spelled;
+      woven = subst (λ (y : List (List ℕ)). Weaves ps u.parts y) (sym whole) u.woven;
+      written = u.then_means.1 ∙ mark (wrote (postorders u.kids) st) ∙ wrote_both (postorders u.kids) (l ∷ []) st;
     }
 
 -- a node by its own spelling stands as a part
@@ -198,11 +206,11 @@ noted_node l ps m st end ns ts fit mark h =
     let u = under_means ps (under l) (Emit m ∷ []) st end ts fit h in
     let whole : ts ≡ u.front = u.cut ∙ ap (λ y. u.front ++ y) u.then_means.0 ∙ append-nil u.front in
     record {
-        kids = u.kids;
-        parts = u.parts;
-        sorts = u.sorts;
-        spelled = u.spelled;
-        woven = subst (λ (y : List (List ℕ)). Weaves ps u.parts y) (sym whole) u.woven;
-        written = u.then_means.1 ∙ mark (st.labels ++ postorders u.kids)
-            ∙ ap (λ ls. let r : Noting = record { notes = ns; labels = ls } in r) (append_assoc st.labels (postorders u.kids) (l ∷ []));
+      kids = u.kids;
+      parts = u.parts;
+      sorts = u.sorts;
+      spelled = u.spelled;
+      woven = subst (λ (y : List (List ℕ)). Weaves ps u.parts y) (sym whole) u.woven;
+      written = u.then_means.1 ∙ mark (st.labels ++ postorders u.kids)
+          ∙ ap (λ ls. let r : Noting = record { notes = ns; labels = ls } in r) (append_assoc st.labels (postorders u.kids) (l ∷ []));
     }

@@ -74,7 +74,7 @@ mutual
   grown_tree (tree l ts) x is ls st =
       let n : length (under l) ≡ count_of ts + 0 = count_is (under l) ts is.1 in
       let kids : gathered (length (under l)) (stacked ts st) none ≡ ts =
-          ap (λ n. gathered n (stacked ts st) none) n ∙ gathered_back ts 0 st none ∙ joined_none ts in
+      ap (λ n. gathered n (stacked ts st) none) n ∙ gathered_back ts 0 st none ∙ joined_none ts in
       let rest : beneath (length (under l)) (stacked ts st) ≡ st = ap (λ n. beneath n (stacked ts st)) n ∙ beneath_back ts 0 st in
       ap (λ y. grown y st) (append_assoc (postorders ts) (l ∷ []) ls)
       ∙ grown_trees ts (under l) is.1 (l ∷ ls) st

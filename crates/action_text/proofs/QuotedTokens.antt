@@ -46,9 +46,9 @@ closed_inner rest h =
     let size : length (take n rest) ≡ n = length-take-le n rest within in
     let some : 0 < n = some_first n parts.0 in
     record {
-        inner = take n rest;
-        cut = sym (take-append-drop n rest) ∙ ap (λ y. take n rest ++ y) (quote_alone (drop n rest) parts.1);
-        token = some_token (take n rest) (omega arith) (all_quotable rest);
+      inner = take n rest;
+      cut = sym (take-append-drop n rest) ∙ ap (λ y. take n rest ++ y) (quote_alone (drop n rest) parts.1);
+      token = some_token (take n rest) (omega arith) (all_quotable rest);
     }
 
 unquoted_is : (inner : List ℕ) → unquoted (34 ∷ (inner ++ 34 ∷ [])) ≡ inner

@@ -93,7 +93,7 @@ more_and_then t st end (u ∷ ts) e h =
     let first : t ≡ codes "and" = is_word_of t (codes "and") e refl in
     let second : u ≡ codes "then" = is_word_of u (codes "then") h.0 refl in
     let tokens : codes "and" ∷ codes "then" ∷ (n.0 ++ n.1) ≡ t ∷ u ∷ ts =
-        ap (λ v. v ∷ codes "then" ∷ (n.0 ++ n.1)) (sym first) ∙ ap (λ v. t ∷ v ∷ (n.0 ++ n.1)) (sym second) ∙ ap (λ y. t ∷ u ∷ y) (sym n.3) in
+    ap (λ v. v ∷ codes "then" ∷ (n.0 ++ n.1)) (sym first) ∙ ap (λ v. t ∷ v ∷ (n.0 ++ n.1)) (sym second) ∙ ap (λ y. t ∷ u ∷ y) (sym n.3) in
     subst (λ y. MeansMore kind.AndThen st y end) tokens (chain_goes_on kind.AndThen (codes "and") (codes "then" ∷ []) st end n.0 n.1 op_AndThen n.2 n.4 onward)
 
 action_other : OtherMeans action_table means (other name.ACTION (Name name.OPERAND ∷ Name name.CHAIN ∷ []))
@@ -114,8 +114,8 @@ operand_paren t st end ts e h = closed h.1 h.3 h.5
         let open_is : t ≡ open_paren = is_word_of t open_paren e refl in
         let close_is : u ≡ close_paren = is_word_of u close_paren m.0 refl in
         let tokens : open_paren ∷ (h.0 ++ close_paren ∷ []) ≡ t ∷ ts =
-            ap (λ v. v ∷ (h.0 ++ close_paren ∷ [])) (sym open_is) ∙ ap (λ v. t ∷ (h.0 ++ v ∷ [])) (sym close_is)
-            ∙ ap (λ y. t ∷ (h.0 ++ u ∷ y)) (sym m.1.0) ∙ ap (λ y. t ∷ y) (sym cut) in
+        ap (λ v. v ∷ (h.0 ++ close_paren ∷ [])) (sym open_is) ∙ ap (λ v. t ∷ (h.0 ++ v ∷ [])) (sym close_is)
+        ∙ ap (λ y. t ∷ (h.0 ++ u ∷ y)) (sym m.1.0) ∙ ap (λ y. t ∷ y) (sym cut) in
         (a.0, a.1, subst (λ y. IsOperand (IsPlain a.0) (IsChain a.0) y) tokens (enclosed a.0 h.0 a.2), m.1.1 ∙ a.3)
 
 -- what stands behind the first word of a node
@@ -157,14 +157,14 @@ has_data k st end ts h =
     let d = h.4 in
     let whole : ts ≡ h.0 = h.3 ∙ ap (λ y. h.0 ++ y) h.5.0 ∙ append-nil h.0 in
     record {
-        number = d.0;
-        kids = d.1;
-        parts = d.2;
-        sorts = d.3;
-        spelled = d.4;
-        woven = subst (λ (y : List (List ℕ)). Weaves (items d.0) d.2 y) (sym whole) d.5;
-        written = h.5.1 ∙ ap (marked (mark.ActionWithItems k)) d.6
-            ∙ ap (λ ls. let r : Noting = record { notes = st.notes; labels = ls } in r) (append_assoc st.labels (postorders d.1) (ActionNode k d.0 [] ∷ []));
+      number = d.0;
+      kids = d.1;
+      parts = d.2;
+      sorts = d.3;
+      spelled = d.4;
+      woven = subst (λ (y : List (List ℕ)). Weaves (items d.0) d.2 y) (sym whole) d.5;
+      written = h.5.1 ∙ ap (marked (mark.ActionWithItems k)) d.6
+          ∙ ap (λ ls. let r : Noting = record { notes = st.notes; labels = ls } in r) (append_assoc st.labels (postorders d.1) (ActionNode k d.0 [] ∷ []));
     }
 
 data_row : (k : Kind) (w : List ℕ) → IsDataKind k → ((n : ℕ) → shape (ActionNode k n []) ≡ Fixed w ∷ items n) → nat_lt (class_of w) word_count ≡ true
@@ -203,9 +203,12 @@ operand_recursively t st end (b ∷ u ∷ []) e h = absurd h.1.1
 operand_recursively t st end (b ∷ u ∷ v ∷ ts) e h =
     let q = quoted_is u (quoted_of_class u h.1.0) in
     let l : Label = ActionNode kind.BindRec 0 (unquoted u) in
-    let n = noted_node l (Part ∷ []) (mark.ActionWithToken kind.BindRec) (note (Rattle.action_text.specs.Tables.Token u) st) end st.notes ts refl (λ ls. refl) h.1.1.1 in
-    (tree l n.kids, (q.1, n.sorts),
-        (0, (n.parts, n.spelled, (is_word_of t (codes "recursively") e refl, (is_word_of b (codes "bind") h.0 refl, (q.0, (is_word_of v (codes "to") h.1.1.0 refl, n.woven)))))), n.written)
+    let n = noted_node l (Part ∷ []) (mark.ActionWithToken kind.BindRec) (note (Rattle.action_text.specs.Tables.Token u) st) end st.notes ts refl (λ ls. refl) h.1.1.1 in (
+      tree l n.kids,
+      (q.1, n.sorts),
+      (0, (n.parts, n.spelled, (is_word_of t (codes "recursively") e refl, (is_word_of b (codes "bind") h.0 refl, (q.0, (is_word_of v (codes "to") h.1.1.0 refl, n.woven)))))),
+      n.written,
+    )
 
 enacted_application : LineMeans action_table means (line name.ENACTED class.APPLICATION false (Read class.OF ∷ Name name.YIELDER ∷ Read class.TO ∷ Name name.DATA ∷ Emit (mark.ActionWithItems kind.Apply) ∷ []))
 enacted_application t st end [] e h = absurd h
@@ -220,18 +223,29 @@ enacted_application t st end (o ∷ ts) e h = behind h.1.1 h.1.3 h.1.5
     behind (u ∷ us) cut m =
         let y = h.1.4 in
         let d = has_data kind.Apply h.1.2 end us m.1 in
-        let l : Label = ActionNode kind.Apply d.number [] in
-        (tree l (more y.0 d.kids), (refl, (y.1, d.sorts)),
-            (h.1.0 ∷ d.parts, (y.2, d.spelled),
-                (refl, (is_word_of t (codes "application") e refl, (is_word_of o (codes "of") h.0 refl, (u ∷ us, cut, (is_word_of u (codes "to") m.0 refl, d.woven)))))),
-            d.written ∙ ap (wrote (postorders d.kids ++ l ∷ [])) y.3
-                ∙ ap (λ ls. let r : Noting = record { notes = st.notes; labels = ls } in r) (regroup st.labels (postorder y.0) (postorders d.kids) l))
+        let l : Label = ActionNode kind.Apply d.number [] in (
+          tree l (more y.0 d.kids),
+          (refl, (y.1, d.sorts)),
+          (
+            h.1.0 ∷ d.parts,
+            (y.2, d.spelled),
+            (refl, (is_word_of t (codes "application") e refl, (is_word_of o (codes "of") h.0 refl, (u ∷ us, cut, (is_word_of u (codes "to") m.0 refl, d.woven))))),
+          ),
+          d.written ∙ ap (wrote (postorders d.kids ++ l ∷ [])) y.3
+              ∙ ap (λ ls. let r : Noting = record { notes = st.notes; labels = ls } in r) (regroup st.labels (postorder y.0) (postorders d.kids) l),
+        )
 
 -- data of one item
 one_item : (st mid : Noting) (ts : List (List ℕ)) (t : Tree) → Is AnItem t → IsPlain t ts → mid ≡ wrote (postorder t) st → MeansItems [] st ts (marked mark.FirstItem mid)
-one_item st mid ts t is plain written =
-    (1, more t none, ts ∷ [], (is, tt), (plain, refl), ([], sym (append-nil ts), refl),
-        ap (marked mark.FirstItem) written ∙ ap (λ ls. let r : Noting = record { notes = Count 1 ∷ st.notes; labels = st.labels ++ ls } in r) (sym (append-nil (postorder t))))
+one_item st mid ts t is plain written = (
+  1,
+  more t none,
+  ts ∷ [],
+  (is, tt),
+  (plain, refl),
+  ([], sym (append-nil ts), refl),
+  ap (marked mark.FirstItem) written ∙ ap (λ ls. let r : Noting = record { notes = Count 1 ∷ st.notes; labels = st.labels ++ ls } in r) (sym (append-nil (postorder t))),
+)
 
 -- a yielder may stand as an item
 item_of : (t : Tree) → Is AYielder t → Is AnItem t
@@ -256,18 +270,30 @@ data_paren t st end ts e h =
     subst (λ v. MeansItems [] st (v ∷ ts) end) (sym (is_word_of t open_paren e refl)) m
 
 items_none : LineMeans action_table means (line name.ITEMS class.CLOSE_PAREN false (Emit mark.NoItems ∷ []))
-items_none t st end ts e h =
-    (0, none, [], tt, refl, (refl, (is_word_of t close_paren e refl, h.0)),
-        h.1 ∙ ap (λ ls. let r : Noting = record { notes = Count 0 ∷ st.notes; labels = ls } in r) (sym (append-nil st.labels)))
+items_none t st end ts e h = (
+  0,
+  none,
+  [],
+  tt,
+  refl,
+  (refl, (is_word_of t close_paren e refl, h.0)),
+  h.1 ∙ ap (λ ls. let r : Noting = record { notes = Count 0 ∷ st.notes; labels = ls } in r) (sym (append-nil st.labels)),
+)
 
 item_other : OtherMeans action_table means (other name.ITEM (Name name.YIELDER ∷ []))
 item_other st end ts h = let y = last_name means name.YIELDER st end ts h in (y.0, item_of y.0 y.1, y.2, y.3)
 
 more_items_close : LineMeans action_table means (line name.MORE_ITEMS class.CLOSE_PAREN false [])
-more_items_close t st end ts e h n ns notes =
-    (0, none, [], tt, refl, (is_word_of t close_paren e refl, h.0),
-        h.1 ∙ ap (λ x. let r : Noting = record { notes = x; labels = st.labels } in r) (notes ∙ ap (λ k. Count k ∷ ns) (no_more n))
-            ∙ ap (λ ls. let r : Noting = record { notes = Count (n + 0) ∷ ns; labels = ls } in r) (sym (append-nil st.labels)))
+more_items_close t st end ts e h n ns notes = (
+  0,
+  none,
+  [],
+  tt,
+  refl,
+  (is_word_of t close_paren e refl, h.0),
+  h.1 ∙ ap (λ x. let r : Noting = record { notes = x; labels = st.labels } in r) (notes ∙ ap (λ k. Count k ∷ ns) (no_more n))
+      ∙ ap (λ ls. let r : Noting = record { notes = Count (n + 0) ∷ ns; labels = ls } in r) (sym (append-nil st.labels)),
+)
   where
     no_more : (n : ℕ) → n ≡ n + 0
     no_more n = omega arith
@@ -279,11 +305,17 @@ item_on : (st mid end : Noting) (front back : List (List ℕ)) (n : ℕ) (ns : L
     × (end ≡ record { notes = Count (n + suc m) ∷ ns; labels = st.labels ++ postorders (more item.0 kids) })
 item_on st mid end front back n ns item notes onward =
     let noted : mid.notes ≡ Count n ∷ ns = ap (λ (z : Noting). z.notes) item.3 ∙ notes in
-    let r = onward (n + 1) ns (ap (λ x. Count (Rattle.action_text.specs.Notes.counted x + 1) ∷ drop 1 x) noted) in
-    (r.0, r.1, r.2, r.3, r.4, r.5,
-        r.6 ∙ ap (λ k. let s : Noting = record { notes = Count k ∷ ns; labels = mid.labels ++ postorders r.1 } in s) (count_more n r.0)
-            ∙ ap (λ ls. let s : Noting = record { notes = Count (n + suc r.0) ∷ ns; labels = ls ++ postorders r.1 } in s) (ap (λ (z : Noting). z.labels) item.3)
-            ∙ ap (λ ls. let s : Noting = record { notes = Count (n + suc r.0) ∷ ns; labels = ls } in s) (append_assoc st.labels (postorder item.0) (postorders r.1)))
+    let r = onward (n + 1) ns (ap (λ x. Count (Rattle.action_text.specs.Notes.counted x + 1) ∷ drop 1 x) noted) in (
+      r.0,
+      r.1,
+      r.2,
+      r.3,
+      r.4,
+      r.5,
+      r.6 ∙ ap (λ k. let s : Noting = record { notes = Count k ∷ ns; labels = mid.labels ++ postorders r.1 } in s) (count_more n r.0)
+          ∙ ap (λ ls. let s : Noting = record { notes = Count (n + suc r.0) ∷ ns; labels = ls ++ postorders r.1 } in s) (ap (λ (z : Noting). z.labels) item.3)
+          ∙ ap (λ ls. let s : Noting = record { notes = Count (n + suc r.0) ∷ ns; labels = ls } in s) (append_assoc st.labels (postorder item.0) (postorders r.1)),
+    )
   where
     count_more : (n m : ℕ) → (n + 1) + m ≡ n + suc m
     count_more n m = omega arith
@@ -307,12 +339,17 @@ items_other st end ts h = behind h.1 h.3 h.5
         let i = m.1 in
         let onward = last_name means name.MORE_ITEMS (marked mark.NextItem i.2) end i.1 i.5 in
         let first = h.4 in
-        let r = item_on (marked mark.FirstItem h.2) i.2 end i.0 i.1 1 h.2.notes i.4 refl onward in
-        (suc (suc r.0), more first.0 (more i.4.0 r.1), h.0 ∷ i.0 ∷ r.2, (first.1, (i.4.1, r.3)), (first.2, (i.4.2, r.4)),
-            (refl, (u ∷ us, cut, (is_word_of u comma m.0 refl, (i.1, i.3, r.5)))),
-            r.6 ∙ ap (λ (z : Noting). let s : Noting = record { notes = Count (1 + suc r.0) ∷ z.notes; labels = z.labels ++ postorders (more i.4.0 r.1) } in s) first.3
-                ∙ ap (λ ls. let s : Noting = record { notes = Count (1 + suc r.0) ∷ st.notes; labels = ls } in s) (append_assoc st.labels (postorder first.0) (postorders (more i.4.0 r.1)))
-                ∙ ap (λ k. let s : Noting = record { notes = Count k ∷ st.notes; labels = st.labels ++ (postorder first.0 ++ postorders (more i.4.0 r.1)) } in s) (one_more r.0))
+        let r = item_on (marked mark.FirstItem h.2) i.2 end i.0 i.1 1 h.2.notes i.4 refl onward in (
+          suc (suc r.0),
+          more first.0 (more i.4.0 r.1),
+          h.0 ∷ i.0 ∷ r.2,
+          (first.1, (i.4.1, r.3)),
+          (first.2, (i.4.2, r.4)),
+          (refl, (u ∷ us, cut, (is_word_of u comma m.0 refl, (i.1, i.3, r.5)))),
+          r.6 ∙ ap (λ (z : Noting). let s : Noting = record { notes = Count (1 + suc r.0) ∷ z.notes; labels = z.labels ++ postorders (more i.4.0 r.1) } in s) first.3
+              ∙ ap (λ ls. let s : Noting = record { notes = Count (1 + suc r.0) ∷ st.notes; labels = ls } in s) (append_assoc st.labels (postorder first.0) (postorders (more i.4.0 r.1)))
+              ∙ ap (λ k. let s : Noting = record { notes = Count k ∷ st.notes; labels = st.labels ++ (postorder first.0 ++ postorders (more i.4.0 r.1)) } in s) (one_more r.0),
+        )
 
 yielder_number : (place : Bool) (t : List ℕ) (st end : Noting) (ts : List (List ℕ)) → class_of t ≡ (if place then class.PLACE else class.NUMBER)
     → Meaning action_table means (Emit mark.Number ∷ []) (note (Rattle.action_text.specs.Tables.Token t) st) ts end → MeansPart AYielder st (t ∷ ts) end
@@ -352,10 +389,12 @@ the_bound : LineMeans action_table means (line name.THE_REST class.BOUND false (
 the_bound t st end [] e h s ns notes = absurd h
 the_bound t st end (u ∷ []) e h s ns notes = absurd h.1
 the_bound t st end (u ∷ v ∷ ts) e h s ns notes =
-    let q = quoted_is v (quoted_of_class v h.1.0) in
-    (tree (YielderNode (ykind.Bound s) (unquoted v)) none, (q.1, tt),
-        ([], refl, (refl, (refl, (is_word_of t (codes "bound") e refl, (is_word_of u (codes "to") h.0 refl, (q.0, h.1.1.0)))))),
-        h.1.1.1 ∙ ap (λ x. marked mark.Bound (let r : Noting = record { notes = KeptToken v ∷ x; labels = st.labels } in r)) notes)
+    let q = quoted_is v (quoted_of_class v h.1.0) in (
+      tree (YielderNode (ykind.Bound s) (unquoted v)) none,
+      (q.1, tt),
+      ([], refl, (refl, (refl, (is_word_of t (codes "bound") e refl, (is_word_of u (codes "to") h.0 refl, (q.0, h.1.1.0)))))),
+      h.1.1.1 ∙ ap (λ x. marked mark.Bound (let r : Noting = record { notes = KeptToken v ∷ x; labels = st.labels } in r)) notes,
+    )
 
 the_stored : LineMeans action_table means (line name.THE_REST class.STORED false (Read class.IN ∷ Name name.YIELDER ∷ Emit mark.Stored ∷ []))
 the_stored t st end [] e h s ns notes = absurd h
@@ -376,21 +415,25 @@ at_place t st end (u ∷ ts) e h s ns notes =
     let n = number_of_class u true h.0 in
     let p = place_is n.0 n.2 in
     let spelled : spelled_i64 u ≡ Some (pos (suc p.0)) = n.1 ∙ ap (λ z. Some z) p.1 in
-    let place : place_of (value_of u) ≡ suc p.0 = ap (λ o. place_of (unwrap_or o (pos 0))) spelled ∙ ap (λ b. if b then suc p.0 else 0) p.2 in
-    (tree (YielderNode (ykind.Given s (suc p.0)) []) none, (both (nat_le (suc p.0) 64) p.2, tt),
-        ([], refl, (refl, (refl, (refl, (is_word_of t (35 ∷ []) e refl, (spelled, h.1.0)))))),
-        h.1.1 ∙ ap (λ x. marked mark.GivenAt (let r : Noting = record { notes = KeptToken u ∷ x; labels = st.labels } in r)) notes
-            ∙ ap (λ k. let r : Noting = record { notes = ns; labels = st.labels ++ YielderNode (ykind.Given s k) [] ∷ [] } in r) place)
+    let place : place_of (value_of u) ≡ suc p.0 = ap (λ o. place_of (unwrap_or o (pos 0))) spelled ∙ ap (λ b. if b then suc p.0 else 0) p.2 in (
+      tree (YielderNode (ykind.Given s (suc p.0)) []) none,
+      (both (nat_le (suc p.0) 64) p.2, tt),
+      ([], refl, (refl, (refl, (refl, (is_word_of t (35 ∷ []) e refl, (spelled, h.1.0)))))),
+      h.1.1 ∙ ap (λ x. marked mark.GivenAt (let r : Noting = record { notes = KeptToken u ∷ x; labels = st.labels } in r)) notes
+          ∙ ap (λ k. let r : Noting = record { notes = ns; labels = st.labels ++ YielderNode (ykind.Given s k) [] ∷ [] } in r) place,
+    )
   where
     both : (a : Bool) → a ≡ true → (true && (a && true)) ≡ true
     both true h = refl
     both false h = absurd (cc)
 
 at_no_place : OtherMeans action_table means (other name.AT_PLACE (Emit mark.Given ∷ []))
-at_no_place st end ts h s ns notes =
-    (tree (YielderNode (ykind.Given s 0) []) none, (refl, tt),
-        ([], refl, (refl, (refl, (refl, h.0)))),
-        h.1 ∙ ap (λ x. marked mark.Given (let r : Noting = record { notes = x; labels = st.labels } in r)) notes)
+at_no_place st end ts h s ns notes = (
+  tree (YielderNode (ykind.Given s 0) []) none,
+  (refl, tt),
+  ([], refl, (refl, (refl, (refl, h.0)))),
+  h.1 ∙ ap (λ x. marked mark.Given (let r : Noting = record { notes = x; labels = st.labels } in r)) notes,
+)
 
 sort_row : (s : Sort) → nat_lt (class_of (sort_word s)) word_count ≡ true → (t : List ℕ) (st end : Noting) (ts : List (List ℕ)) → class_of t ≡ class_of (sort_word s)
     → Meaning action_table means (Emit (mark.Sort s) ∷ []) st ts end → MeansSort st (t ∷ ts) end
@@ -398,98 +441,272 @@ sort_row s word t st end ts e h = (s, ap (λ y. t ∷ y) h.0 ∙ ap (λ v. v ∷
 
 pub lines_mean : LinesMean action_table means action_table.lines
 unfolding action_lines
-lines_mean =
-    ((λ t st end ts e h. chain_row kind.Or (codes "or") name.MORE_OR op_Or (λ z u v m. m) refl t st end ts e h),
-    ((λ t st end ts e h. chain_row kind.Then (codes "then") name.MORE_THEN op_Then (λ z u v m. m) refl t st end ts e h),
-    ((λ t st end ts e h. chain_row kind.Trap (codes "trap") name.MORE_TRAP op_Trap (λ z u v m. m) refl t st end ts e h),
-    ((λ t st end ts e h. chain_row kind.Hence (codes "hence") name.MORE_HENCE op_Hence (λ z u v m. m) refl t st end ts e h),
-    ((λ t st end ts e h. chain_row kind.Moreover (codes "moreover") name.MORE_MOREOVER op_Moreover (λ z u v m. m) refl t st end ts e h),
-    ((λ t st end ts e h. chain_row kind.Before (codes "before") name.MORE_BEFORE op_Before (λ z u v m. m) refl t st end ts e h),
-    (chain_and,
-    (and_next_then,
-    ((λ t st end ts e h. more_row kind.Or (codes "or") name.MORE_OR op_Or (λ z u v m. m) refl t st end ts e h),
-    ((λ t st end ts e h. more_row kind.Then (codes "then") name.MORE_THEN op_Then (λ z u v m. m) refl t st end ts e h),
-    ((λ t st end ts e h. more_row kind.Trap (codes "trap") name.MORE_TRAP op_Trap (λ z u v m. m) refl t st end ts e h),
-    ((λ t st end ts e h. more_row kind.Hence (codes "hence") name.MORE_HENCE op_Hence (λ z u v m. m) refl t st end ts e h),
-    ((λ t st end ts e h. more_row kind.Moreover (codes "moreover") name.MORE_MOREOVER op_Moreover (λ z u v m. m) refl t st end ts e h),
-    ((λ t st end ts e h. more_row kind.Before (codes "before") name.MORE_BEFORE op_Before (λ z u v m. m) refl t st end ts e h),
-    ((λ t st end ts e h. more_row kind.And (codes "and") name.MORE_AND op_And (λ z u v m. m) refl t st end ts e h),
-    (more_and_then,
-    ((λ t st end ts e h. node_row AnAction (ActionNode kind.Complete 0 []) (codes "complete") [] (mark.Action kind.Complete) refl refl refl refl (λ z. refl) t st end ts e h),
-    ((λ t st end ts e h. node_row AnAction (ActionNode kind.Fail 0 []) (codes "fail") [] (mark.Action kind.Fail) refl refl refl refl (λ z. refl) t st end ts e h),
-    ((λ t st end ts e h. node_row AnAction (ActionNode kind.Commit 0 []) (codes "commit") [] (mark.Action kind.Commit) refl refl refl refl (λ z. refl) t st end ts e h),
-    ((λ t st end ts e h. node_row AnAction (ActionNode kind.Regive 0 []) (codes "regive") [] (mark.Action kind.Regive) refl refl refl refl (λ z. refl) t st end ts e h),
-    ((λ t st end ts e h. node_row AnAction (ActionNode kind.Rebind 0 []) (codes "rebind") [] (mark.Action kind.Rebind) refl refl refl refl (λ z. refl) t st end ts e h),
-    ((λ t st end ts e h. node_row AnAction (ActionNode kind.Unfold 0 []) (codes "unfold") [] (mark.Action kind.Unfold) refl refl refl refl (λ z. refl) t st end ts e h),
-    (operand_paren,
-    ((λ t st end ts e h. node_row AnAction (ActionNode kind.Unfolding 0 []) (codes "unfolding") (Part ∷ []) (mark.Action kind.Unfolding) refl refl refl refl (λ z. refl) t st end ts e h),
-    ((λ t st end ts e h. node_row AnAction (ActionNode kind.Furthermore 0 []) (codes "furthermore") (Part ∷ []) (mark.Action kind.Furthermore) refl refl refl refl (λ z. refl) t st end ts e h),
-    (operand_escape,
-    (operand_give,
-    ((λ t st end ts e h. node_row AnAction (ActionNode kind.Check 0 []) (codes "check") (Part ∷ []) (mark.Action kind.Check) refl refl refl refl (λ z. refl) t st end ts e h),
-    (operand_bind,
-    (operand_recursively,
-    ((λ t st end ts e h. node_row AnAction (ActionNode kind.Store 0 []) (codes "store") (Part ∷ Fixed (codes "in") ∷ Part ∷ []) (mark.Action kind.Store) refl refl refl refl (λ z. refl) t st end ts e h),
-    ((λ t st end ts e h. node_row AnAction (ActionNode kind.Allocate 0 []) (codes "allocate") (Fixed (codes "a") ∷ Fixed (codes "cell") ∷ []) (mark.Action kind.Allocate) refl refl refl refl (λ z. refl) t st end ts e h),
-    ((λ t st end ts e h. node_row AnAction (ActionNode kind.Send 0 []) (codes "send") (Part ∷ []) (mark.Action kind.Send) refl refl refl refl (λ z. refl) t st end ts e h),
-    ((λ t st end ts e h. node_row AnAction (ActionNode kind.Receive 0 []) (codes "receive") (Fixed (codes "an") ∷ Fixed (codes "integer") ∷ []) (mark.Action kind.Receive) refl refl refl refl (λ z. refl) t st end ts e h),
-    (operand_enact,
-    (enacted_application,
-    (escaped_with,
-    (data_them,
-    (data_paren,
-    (items_none,
-    (more_items_close,
-    (more_items_comma,
-    ((λ t st end ts e h. node_row AnItem (YielderNode ykind.Them []) (codes "them") [] (mark.Yielder ykind.Them) refl refl refl refl (λ z. refl) t st end ts e h),
-    ((yielder_number false),
-    ((yielder_number true),
-    ((λ t st end ts e h. node_row AYielder (YielderNode (ykind.Truth true) []) (codes "true") [] (mark.Yielder (ykind.Truth true)) refl refl refl refl (λ z. refl) t st end ts e h),
-    ((λ t st end ts e h. node_row AYielder (YielderNode (ykind.Truth false) []) (codes "false") [] (mark.Yielder (ykind.Truth false)) refl refl refl refl (λ z. refl) t st end ts e h),
-    (yielder_the,
-    ((λ t st end ts e h. node_row AYielder (YielderNode ykind.Sum []) (codes "sum") two_arguments (mark.Yielder ykind.Sum) refl refl refl refl (λ z. refl) t st end ts e h),
-    ((λ t st end ts e h. node_row AYielder (YielderNode ykind.Difference []) (codes "difference") two_arguments (mark.Yielder ykind.Difference) refl refl refl refl (λ z. refl) t st end ts e h),
-    ((λ t st end ts e h. node_row AYielder (YielderNode ykind.Product []) (codes "product") two_arguments (mark.Yielder ykind.Product) refl refl refl refl (λ z. refl) t st end ts e h),
-    ((λ t st end ts e h. node_row AYielder (YielderNode ykind.Quotient []) (codes "integer-quotient") two_arguments (mark.Yielder ykind.Quotient) refl refl refl refl (λ z. refl) t st end ts e h),
-    ((λ t st end ts e h. node_row AYielder (YielderNode ykind.Remainder []) (codes "integer-remainder") two_arguments (mark.Yielder ykind.Remainder) refl refl refl refl (λ z. refl) t st end ts e h),
-    ((λ t st end ts e h. node_row AYielder (YielderNode ykind.Both []) (codes "both") two_arguments (mark.Yielder ykind.Both) refl refl refl refl (λ z. refl) t st end ts e h),
-    ((λ t st end ts e h. node_row AYielder (YielderNode ykind.Either []) (codes "either") two_arguments (mark.Yielder ykind.Either) refl refl refl refl (λ z. refl) t st end ts e h),
-    (yielder_is,
-    ((λ t st end ts e h. node_row AYielder (YielderNode ykind.Negation []) (codes "negation") one_argument (mark.Yielder ykind.Negation) refl refl refl refl (λ z. refl) t st end ts e h),
-    ((λ t st end ts e h. node_row AYielder (YielderNode ykind.Not []) (codes "not") one_argument (mark.Yielder ykind.Not) refl refl refl refl (λ z. refl) t st end ts e h),
-    ((λ t st end ts e h. node_row AYielder (YielderNode ykind.Closure []) (codes "closure") (Fixed (codes "abstraction") ∷ Fixed (codes "of") ∷ Part ∷ []) (mark.Yielder ykind.Closure) refl refl refl refl (λ z. refl) t st end ts e h),
-    ((λ t st end ts e h. node_row AClosure (YielderNode ykind.Closure []) (codes "closure") (Fixed (codes "abstraction") ∷ Fixed (codes "of") ∷ Part ∷ []) (mark.Yielder ykind.Closure) refl refl refl refl (λ z. refl) t st end ts e h),
-    ((λ t st end ts e h. rest_row AYielder (YielderNode ykind.Less []) (codes "is") (codes "less") (Fixed (codes "than") ∷ two_arguments) (mark.Yielder ykind.Less) refl refl refl refl (λ z. refl) t st end ts e h),
-    ((λ t st end ts e h. rest_row AYielder (YielderNode ykind.Is []) (codes "is") open_paren (Part ∷ Fixed comma ∷ Part ∷ Fixed close_paren ∷ []) (mark.Yielder ykind.Is) refl refl refl refl (λ z. refl) t st end ts e h),
-    (the_given,
-    (the_bound,
-    (the_stored,
-    (at_place,
-    ((sort_row sort.Integer refl),
-    ((sort_row sort.Truth refl),
-    ((sort_row sort.Cell refl),
-    ((sort_row sort.Abstraction refl),
-    tt))))))))))))))))))))))))))))))))))))))))))))))))))))))))))))))))))))))
+lines_mean = (
+  (λ t st end ts e h. chain_row kind.Or (codes "or") name.MORE_OR op_Or (λ z u v m. m) refl t st end ts e h),
+  (
+    (λ t st end ts e h. chain_row kind.Then (codes "then") name.MORE_THEN op_Then (λ z u v m. m) refl t st end ts e h),
+    (
+      (λ t st end ts e h. chain_row kind.Trap (codes "trap") name.MORE_TRAP op_Trap (λ z u v m. m) refl t st end ts e h),
+      (
+        (λ t st end ts e h. chain_row kind.Hence (codes "hence") name.MORE_HENCE op_Hence (λ z u v m. m) refl t st end ts e h),
+        (
+          (λ t st end ts e h. chain_row kind.Moreover (codes "moreover") name.MORE_MOREOVER op_Moreover (λ z u v m. m) refl t st end ts e h),
+          (
+            (λ t st end ts e h. chain_row kind.Before (codes "before") name.MORE_BEFORE op_Before (λ z u v m. m) refl t st end ts e h),
+            (
+              chain_and,
+              (
+                and_next_then,
+                (
+                  (λ t st end ts e h. more_row kind.Or (codes "or") name.MORE_OR op_Or (λ z u v m. m) refl t st end ts e h),
+                  (
+                    (λ t st end ts e h. more_row kind.Then (codes "then") name.MORE_THEN op_Then (λ z u v m. m) refl t st end ts e h),
+                    (
+                      (λ t st end ts e h. more_row kind.Trap (codes "trap") name.MORE_TRAP op_Trap (λ z u v m. m) refl t st end ts e h),
+                      (
+                        (λ t st end ts e h. more_row kind.Hence (codes "hence") name.MORE_HENCE op_Hence (λ z u v m. m) refl t st end ts e h),
+                        (
+                          (λ t st end ts e h. more_row kind.Moreover (codes "moreover") name.MORE_MOREOVER op_Moreover (λ z u v m. m) refl t st end ts e h),
+                          (
+                            (λ t st end ts e h. more_row kind.Before (codes "before") name.MORE_BEFORE op_Before (λ z u v m. m) refl t st end ts e h),
+                            (
+                              (λ t st end ts e h. more_row kind.And (codes "and") name.MORE_AND op_And (λ z u v m. m) refl t st end ts e h),
+                              (
+                                more_and_then,
+                                (
+                                  (λ t st end ts e h. node_row AnAction (ActionNode kind.Complete 0 []) (codes "complete") [] (mark.Action kind.Complete) refl refl refl refl (λ z. refl) t st end ts e h),
+                                  (
+                                    (λ t st end ts e h. node_row AnAction (ActionNode kind.Fail 0 []) (codes "fail") [] (mark.Action kind.Fail) refl refl refl refl (λ z. refl) t st end ts e h),
+                                    (
+                                      (λ t st end ts e h. node_row AnAction (ActionNode kind.Commit 0 []) (codes "commit") [] (mark.Action kind.Commit) refl refl refl refl (λ z. refl) t st end ts e h),
+                                      (
+                                        (λ t st end ts e h. node_row AnAction (ActionNode kind.Regive 0 []) (codes "regive") [] (mark.Action kind.Regive) refl refl refl refl (λ z. refl) t st end ts e h),
+                                        (
+                                          (λ t st end ts e h. node_row AnAction (ActionNode kind.Rebind 0 []) (codes "rebind") [] (mark.Action kind.Rebind) refl refl refl refl (λ z. refl) t st end ts e h),
+                                          (
+                                            (λ t st end ts e h. node_row AnAction (ActionNode kind.Unfold 0 []) (codes "unfold") [] (mark.Action kind.Unfold) refl refl refl refl (λ z. refl) t st end ts e h),
+                                            (
+                                              operand_paren,
+                                              (
+                                                (λ t st end ts e h. node_row AnAction (ActionNode kind.Unfolding 0 []) (codes "unfolding") (Part ∷ []) (mark.Action kind.Unfolding) refl refl refl refl (λ z. refl) t st end ts e h),
+                                                (
+                                                  (λ t st end ts e h. node_row AnAction (ActionNode kind.Furthermore 0 []) (codes "furthermore") (Part ∷ []) (mark.Action kind.Furthermore) refl refl refl refl (λ z. refl) t st end ts e h),
+                                                  (
+                                                    operand_escape,
+                                                    (
+                                                      operand_give,
+                                                      (
+                                                        (λ t st end ts e h. node_row AnAction (ActionNode kind.Check 0 []) (codes "check") (Part ∷ []) (mark.Action kind.Check) refl refl refl refl (λ z. refl) t st end ts e h),
+                                                        (
+                                                          operand_bind,
+                                                          (
+                                                            operand_recursively,
+                                                            (
+                                                              (λ t st end ts e h. node_row AnAction (ActionNode kind.Store 0 []) (codes "store") (Part ∷ Fixed (codes "in") ∷ Part ∷ []) (mark.Action kind.Store) refl refl refl refl (λ z. refl) t st end ts e h),
+                                                              (
+                                                                (λ t st end ts e h. node_row AnAction (ActionNode kind.Allocate 0 []) (codes "allocate") (Fixed (codes "a") ∷ Fixed (codes "cell") ∷ []) (mark.Action kind.Allocate) refl refl refl refl (λ z. refl) t st end ts e h),
+                                                                (
+                                                                  (λ t st end ts e h. node_row AnAction (ActionNode kind.Send 0 []) (codes "send") (Part ∷ []) (mark.Action kind.Send) refl refl refl refl (λ z. refl) t st end ts e h),
+                                                                  (
+                                                                    (λ t st end ts e h. node_row AnAction (ActionNode kind.Receive 0 []) (codes "receive") (Fixed (codes "an") ∷ Fixed (codes "integer") ∷ []) (mark.Action kind.Receive) refl refl refl refl (λ z. refl) t st end ts e h),
+                                                                    (
+                                                                      operand_enact,
+                                                                      (
+                                                                        enacted_application,
+                                                                        (
+                                                                          escaped_with,
+                                                                          (
+                                                                            data_them,
+                                                                            (
+                                                                              data_paren,
+                                                                              (
+                                                                                items_none,
+                                                                                (
+                                                                                  more_items_close,
+                                                                                  (
+                                                                                    more_items_comma,
+                                                                                    (
+                                                                                      (λ t st end ts e h. node_row AnItem (YielderNode ykind.Them []) (codes "them") [] (mark.Yielder ykind.Them) refl refl refl refl (λ z. refl) t st end ts e h),
+                                                                                      (
+                                                                                        (yielder_number false),
+                                                                                        (
+                                                                                          (yielder_number true),
+                                                                                          (
+                                                                                            (λ t st end ts e h. node_row AYielder (YielderNode (ykind.Truth true) []) (codes "true") [] (mark.Yielder (ykind.Truth true)) refl refl refl refl (λ z. refl) t st end ts e h),
+                                                                                            (
+                                                                                              (λ t st end ts e h. node_row AYielder (YielderNode (ykind.Truth false) []) (codes "false") [] (mark.Yielder (ykind.Truth false)) refl refl refl refl (λ z. refl) t st end ts e h),
+                                                                                              (
+                                                                                                yielder_the,
+                                                                                                (
+                                                                                                  (λ t st end ts e h. node_row AYielder (YielderNode ykind.Sum []) (codes "sum") two_arguments (mark.Yielder ykind.Sum) refl refl refl refl (λ z. refl) t st end ts e h),
+                                                                                                  (
+                                                                                                    (λ t st end ts e h. node_row AYielder (YielderNode ykind.Difference []) (codes "difference") two_arguments (mark.Yielder ykind.Difference) refl refl refl refl (λ z. refl) t st end ts e h),
+                                                                                                    (
+                                                                                                      (λ t st end ts e h. node_row AYielder (YielderNode ykind.Product []) (codes "product") two_arguments (mark.Yielder ykind.Product) refl refl refl refl (λ z. refl) t st end ts e h),
+                                                                                                      (
+                                                                                                        (λ t st end ts e h. node_row AYielder (YielderNode ykind.Quotient []) (codes "integer-quotient") two_arguments (mark.Yielder ykind.Quotient) refl refl refl refl (λ z. refl) t st end ts e h),
+                                                                                                        (
+                                                                                                          (λ t st end ts e h. node_row AYielder (YielderNode ykind.Remainder []) (codes "integer-remainder") two_arguments (mark.Yielder ykind.Remainder) refl refl refl refl (λ z. refl) t st end ts e h),
+                                                                                                          (
+                                                                                                            (λ t st end ts e h. node_row AYielder (YielderNode ykind.Both []) (codes "both") two_arguments (mark.Yielder ykind.Both) refl refl refl refl (λ z. refl) t st end ts e h),
+                                                                                                            (
+                                                                                                              (λ t st end ts e h. node_row AYielder (YielderNode ykind.Either []) (codes "either") two_arguments (mark.Yielder ykind.Either) refl refl refl refl (λ z. refl) t st end ts e h),
+                                                                                                              (
+                                                                                                                yielder_is,
+                                                                                                                (
+                                                                                                                  (λ t st end ts e h. node_row AYielder (YielderNode ykind.Negation []) (codes "negation") one_argument (mark.Yielder ykind.Negation) refl refl refl refl (λ z. refl) t st end ts e h),
+                                                                                                                  (
+                                                                                                                    (λ t st end ts e h. node_row AYielder (YielderNode ykind.Not []) (codes "not") one_argument (mark.Yielder ykind.Not) refl refl refl refl (λ z. refl) t st end ts e h),
+                                                                                                                    (
+                                                                                                                      (λ t st end ts e h. node_row AYielder (YielderNode ykind.Closure []) (codes "closure") (Fixed (codes "abstraction") ∷ Fixed (codes "of") ∷ Part ∷ []) (mark.Yielder ykind.Closure) refl refl refl refl (λ z. refl) t st end ts e h),
+                                                                                                                      (
+                                                                                                                        (λ t st end ts e h. node_row AClosure (YielderNode ykind.Closure []) (codes "closure") (Fixed (codes "abstraction") ∷ Fixed (codes "of") ∷ Part ∷ []) (mark.Yielder ykind.Closure) refl refl refl refl (λ z. refl) t st end ts e h),
+                                                                                                                        (
+                                                                                                                          (λ t st end ts e h. rest_row AYielder (YielderNode ykind.Less []) (codes "is") (codes "less") (Fixed (codes "than") ∷ two_arguments) (mark.Yielder ykind.Less) refl refl refl refl (λ z. refl) t st end ts e h),
+                                                                                                                          (
+                                                                                                                            (λ t st end ts e h. rest_row AYielder (YielderNode ykind.Is []) (codes "is") open_paren (Part ∷ Fixed comma ∷ Part ∷ Fixed close_paren ∷ []) (mark.Yielder ykind.Is) refl refl refl refl (λ z. refl) t st end ts e h),
+                                                                                                                            (
+                                                                                                                              the_given,
+                                                                                                                              (
+                                                                                                                                the_bound,
+                                                                                                                                (
+                                                                                                                                  the_stored,
+                                                                                                                                  (
+                                                                                                                                    at_place,
+                                                                                                                                    (
+                                                                                                                                      (sort_row sort.Integer refl),
+                                                                                                                                      (
+                                                                                                                                        (sort_row sort.Truth refl),
+                                                                                                                                        (
+                                                                                                                                          (sort_row sort.Cell refl),
+                                                                                                                                          (
+                                                                                                                                            (sort_row sort.Abstraction refl),
+                                                                                                                                            tt,
+                                                                                                                                          ),
+                                                                                                                                        ),
+                                                                                                                                      ),
+                                                                                                                                    ),
+                                                                                                                                  ),
+                                                                                                                                ),
+                                                                                                                              ),
+                                                                                                                            ),
+                                                                                                                          ),
+                                                                                                                        ),
+                                                                                                                      ),
+                                                                                                                    ),
+                                                                                                                  ),
+                                                                                                                ),
+                                                                                                              ),
+                                                                                                            ),
+                                                                                                          ),
+                                                                                                        ),
+                                                                                                      ),
+                                                                                                    ),
+                                                                                                  ),
+                                                                                                ),
+                                                                                              ),
+                                                                                            ),
+                                                                                          ),
+                                                                                        ),
+                                                                                      ),
+                                                                                    ),
+                                                                                  ),
+                                                                                ),
+                                                                              ),
+                                                                            ),
+                                                                          ),
+                                                                        ),
+                                                                      ),
+                                                                    ),
+                                                                  ),
+                                                                ),
+                                                              ),
+                                                            ),
+                                                          ),
+                                                        ),
+                                                      ),
+                                                    ),
+                                                  ),
+                                                ),
+                                              ),
+                                            ),
+                                          ),
+                                        ),
+                                      ),
+                                    ),
+                                  ),
+                                ),
+                              ),
+                            ),
+                          ),
+                        ),
+                      ),
+                    ),
+                  ),
+                ),
+              ),
+            ),
+          ),
+        ),
+      ),
+    ),
+  ),
+)
 
 pub others_mean : OthersMean action_table means action_table.others
 unfolding action_others
-others_mean =
-    (action_other,
-    ((λ st end ts h. operand_alone st end ts h.0 h.1),
-    (and_next_other,
-    ((λ st end ts h. chain_ends kind.Or st end ts h.0 h.1),
-    ((λ st end ts h. chain_ends kind.And st end ts h.0 h.1),
-    ((λ st end ts h. chain_ends kind.AndThen st end ts h.0 h.1),
-    ((λ st end ts h. chain_ends kind.Then st end ts h.0 h.1),
-    ((λ st end ts h. chain_ends kind.Trap st end ts h.0 h.1),
-    ((λ st end ts h. chain_ends kind.Hence st end ts h.0 h.1),
-    ((λ st end ts h. chain_ends kind.Moreover st end ts h.0 h.1),
-    ((λ st end ts h. chain_ends kind.Before st end ts h.0 h.1),
-    ((λ st end ts h. rest_other AnAction (ActionNode kind.Enact 0 []) (codes "enact") (Part ∷ []) (mark.Action kind.Enact) refl refl refl (λ z. refl) st end ts h),
-    ((λ st end ts h. rest_other AnAction (ActionNode kind.Escape 0 []) (codes "escape") [] (mark.Action kind.Escape) refl refl refl (λ z. refl) st end ts h),
-    (data_other,
-    (items_other,
-    (item_other,
-    (the_other,
-    (at_no_place,
-    tt))))))))))))))))))
+others_mean = (
+  action_other,
+  (
+    (λ st end ts h. operand_alone st end ts h.0 h.1),
+    (
+      and_next_other,
+      (
+        (λ st end ts h. chain_ends kind.Or st end ts h.0 h.1),
+        (
+          (λ st end ts h. chain_ends kind.And st end ts h.0 h.1),
+          (
+            (λ st end ts h. chain_ends kind.AndThen st end ts h.0 h.1),
+            (
+              (λ st end ts h. chain_ends kind.Then st end ts h.0 h.1),
+              (
+                (λ st end ts h. chain_ends kind.Trap st end ts h.0 h.1),
+                (
+                  (λ st end ts h. chain_ends kind.Hence st end ts h.0 h.1),
+                  (
+                    (λ st end ts h. chain_ends kind.Moreover st end ts h.0 h.1),
+                    (
+                      (λ st end ts h. chain_ends kind.Before st end ts h.0 h.1),
+                      (
+                        (λ st end ts h. rest_other AnAction (ActionNode kind.Enact 0 []) (codes "enact") (Part ∷ []) (mark.Action kind.Enact) refl refl refl (λ z. refl) st end ts h),
+                        (
+                          (λ st end ts h. rest_other AnAction (ActionNode kind.Escape 0 []) (codes "escape") [] (mark.Action kind.Escape) refl refl refl (λ z. refl) st end ts h),
+                          (
+                            data_other,
+                            (
+                              items_other,
+                              (
+                                item_other,
+                                (
+                                  the_other,
+                                  (
+                                    at_no_place,
+                                    tt,
+                                  ),
+                                ),
+                              ),
+                            ),
+                          ),
+                        ),
+                      ),
+                    ),
+                  ),
+                ),
+              ),
+            ),
+          ),
+        ),
+      ),
+    ),
+  ),
+)

@@ -118,10 +118,10 @@ operand_goes t p c is zero ts h st = p AnAction is ts h st
 operand_goes t p c is (suc pairs) ts (inner, whole, inl h) st =
     let o = operand_goes t p c is pairs inner h st in
     let alone : Goes (Name name.CHAIN ∷ []) (wrote (postorder t) st) [] (wrote (postorder t) st) =
-        does_other action_table name.CHAIN [] (wrote (postorder t) st) (wrote (postorder t) st) [] refl (does_nothing action_table (wrote (postorder t) st)) in
+    does_other action_table name.CHAIN [] (wrote (postorder t) st) (wrote (postorder t) st) [] refl (does_nothing action_table (wrote (postorder t) st)) in
     let action : Goes (Name name.ACTION ∷ []) st (inner ++ []) (wrote (postorder t) st) =
-        does_other action_table name.ACTION (Name name.OPERAND ∷ Name name.CHAIN ∷ []) st (wrote (postorder t) st) (inner ++ []) refl
-        (name_then name.OPERAND (Name name.CHAIN ∷ []) st (wrote (postorder t) st) (wrote (postorder t) st) inner [] o alone) in
+    does_other action_table name.ACTION (Name name.OPERAND ∷ Name name.CHAIN ∷ []) st (wrote (postorder t) st) (inner ++ []) refl
+    (name_then name.OPERAND (Name name.CHAIN ∷ []) st (wrote (postorder t) st) (wrote (postorder t) st) inner [] o alone) in
     in_parens t inner ts st whole (on_tokens (Name name.ACTION ∷ []) st (wrote (postorder t) st) (inner ++ []) inner (append-nil inner) action)
   where
     in_parens : (t : Tree) (inner ts : List (List ℕ)) (st : Noting) → ts ≡ open_paren ∷ (inner ++ close_paren ∷ []) → Goes (Name name.ACTION ∷ []) st inner (wrote (postorder t) st)
@@ -129,17 +129,17 @@ operand_goes t p c is (suc pairs) ts (inner, whole, inl h) st =
     in_parens t inner ts st whole d =
         on_tokens (Name name.OPERAND ∷ []) st (wrote (postorder t) st) (open_paren ∷ (inner ++ close_paren ∷ [])) ts (sym whole)
         (word_line name.OPERAND open_paren open_paren (Name name.ACTION ∷ Read class.CLOSE_PAREN ∷ []) st (wrote (postorder t) st) (inner ++ close_paren ∷ []) refl refl
-            (name_then name.ACTION (Read class.CLOSE_PAREN ∷ []) st (wrote (postorder t) st) (wrote (postorder t) st) inner (close_paren ∷ []) d
-                (word_read close_paren close_paren [] (wrote (postorder t) st) (wrote (postorder t) st) [] refl (does_nothing action_table (wrote (postorder t) st)))))
+        (name_then name.ACTION (Read class.CLOSE_PAREN ∷ []) st (wrote (postorder t) st) (wrote (postorder t) st) inner (close_paren ∷ []) d
+        (word_read close_paren close_paren [] (wrote (postorder t) st) (wrote (postorder t) st) [] refl (does_nothing action_table (wrote (postorder t) st)))))
 operand_goes t p c is (suc pairs) ts (inner, whole, inr h) st =
     let l = chain_label t inner is h in
     let action : Goes (Name name.ACTION ∷ []) st (inner ++ []) (wrote (postorder t) st) =
-        c is l.0 l.1 inner h st (wrote (postorder t) st) [] (more_ends l.0 (wrote (postorder t) st) l.2 l.3 l.4) in
+    c is l.0 l.1 inner h st (wrote (postorder t) st) [] (more_ends l.0 (wrote (postorder t) st) l.2 l.3 l.4) in
     on_tokens (Name name.OPERAND ∷ []) st (wrote (postorder t) st) (open_paren ∷ (inner ++ close_paren ∷ [])) ts (sym whole)
     (word_line name.OPERAND open_paren open_paren (Name name.ACTION ∷ Read class.CLOSE_PAREN ∷ []) st (wrote (postorder t) st) (inner ++ close_paren ∷ []) refl refl
-        (name_then name.ACTION (Read class.CLOSE_PAREN ∷ []) st (wrote (postorder t) st) (wrote (postorder t) st) inner (close_paren ∷ [])
-            (on_tokens (Name name.ACTION ∷ []) st (wrote (postorder t) st) (inner ++ []) inner (append-nil inner) action)
-            (word_read close_paren close_paren [] (wrote (postorder t) st) (wrote (postorder t) st) [] refl (does_nothing action_table (wrote (postorder t) st)))))
+    (name_then name.ACTION (Read class.CLOSE_PAREN ∷ []) st (wrote (postorder t) st) (wrote (postorder t) st) inner (close_paren ∷ [])
+    (on_tokens (Name name.ACTION ∷ []) st (wrote (postorder t) st) (inner ++ []) inner (append-nil inner) action)
+    (word_read close_paren close_paren [] (wrote (postorder t) st) (wrote (postorder t) st) [] refl (does_nothing action_table (wrote (postorder t) st)))))
 
 -- a part is read in its place
 pub part_goes : (t : Tree) → PlainGoes t → ChainGoes t → (x : Wanted) → Is x t → (ts : List (List ℕ)) → IsPart x (IsPlain t) (IsChain t) ts → (st : Noting) → Goes (Name (name_of x) ∷ []) st ts (wrote (postorder t) st)

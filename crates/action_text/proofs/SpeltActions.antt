@@ -76,16 +76,16 @@ one_item_goes t p is ts plain st = go (item_cases t is)
         let whole : t ≡ tree (YielderNode ykind.Them []) none = e ∙ ap (λ k. tree (YielderNode ykind.Them []) k) alone.0 in
         on_tokens (Name name.DATA ∷ []) st (behind_items 1 (more t none) st) (codes "them" ∷ []) ts (sym alone.1)
         (word_line name.DATA (codes "them") (codes "them") (Emit (mark.Yielder ykind.Them) ∷ Emit mark.FirstItem ∷ []) st (behind_items 1 (more t none) st) [] refl refl
-            (does_emit action_table (mark.Yielder ykind.Them) (Emit mark.FirstItem ∷ []) st (behind_items 1 (more t none) st) []
-                (emits mark.FirstItem (marked (mark.Yielder ykind.Them) st) (behind_items 1 (more t none) st) (ap (λ u. behind_items 1 (more u none) st) (sym whole)))))
+        (does_emit action_table (mark.Yielder ykind.Them) (Emit mark.FirstItem ∷ []) st (behind_items 1 (more t none) st) []
+        (emits mark.FirstItem (marked (mark.Yielder ykind.Them) st) (behind_items 1 (more t none) st) (ap (λ u. behind_items 1 (more u none) st) (sym whole)))))
 
     go : ((kids : Trees) × (t ≡ tree (YielderNode ykind.Them []) kids) × Are [] kids) ⊎ Is AYielder t → Goes (Name name.DATA ∷ []) st ts (behind_items 1 (more t none) st)
     go (inl h) = them_goes h.0 h.1 h.2
     go (inr h) =
         does_other action_table name.DATA (Name name.YIELDER ∷ Emit mark.FirstItem ∷ []) st (behind_items 1 (more t none) st) ts refl
         (on_tokens (Name name.YIELDER ∷ Emit mark.FirstItem ∷ []) st (behind_items 1 (more t none) st) (ts ++ []) ts (append-nil ts)
-            (name_then name.YIELDER (Emit mark.FirstItem ∷ []) st (wrote (postorder t) st) (behind_items 1 (more t none) st) ts [] (p AYielder h ts plain st)
-                (emits mark.FirstItem (wrote (postorder t) st) (behind_items 1 (more t none) st) (end_is t st))))
+        (name_then name.YIELDER (Emit mark.FirstItem ∷ []) st (wrote (postorder t) st) (behind_items 1 (more t none) st) ts [] (p AYielder h ts plain st)
+        (emits mark.FirstItem (wrote (postorder t) st) (behind_items 1 (more t none) st) (end_is t st))))
 
 regroup : (a b c d : List Label) → ((a ++ b) ++ c) ++ d ≡ a ++ (b ++ (c ++ d))
 regroup a b c d = simp append_assoc
@@ -104,7 +104,7 @@ more_items_go zero none parts (t ∷ ts) n ns ls all are spelled woven =
     let st : Noting = record { notes = Count n ∷ ns; labels = ls } in
     let same : n ≡ n + 0 = omega arith in
     let end_is : st ≡ record { notes = Count (n + 0) ∷ ns; labels = ls ++ [] } =
-        ap (λ k. let r : Noting = record { notes = Count k ∷ ns; labels = ls } in r) same ∙ ap (λ y. let r : Noting = record { notes = Count (n + 0) ∷ ns; labels = y } in r) (sym (append-nil ls)) in
+    ap (λ k. let r : Noting = record { notes = Count k ∷ ns; labels = ls } in r) same ∙ ap (λ y. let r : Noting = record { notes = Count (n + 0) ∷ ns; labels = y } in r) (sym (append-nil ls)) in
     let rest : ts ≡ [] = subst (λ (p : List (List (List ℕ))). Weaves [] p ts) spelled woven.1 in
     on_tokens (Name name.MORE_ITEMS ∷ []) st (record { notes = Count (n + 0) ∷ ns; labels = ls ++ [] }) (t ∷ []) (t ∷ ts) (ap (λ y. t ∷ y) (sym rest))
     (word_line name.MORE_ITEMS close_paren t [] st (record { notes = Count (n + 0) ∷ ns; labels = ls ++ [] }) [] refl woven.0 (end_at [] st st (record { notes = Count (n + 0) ∷ ns; labels = ls ++ [] }) [] end_is (does_nothing action_table st)))
@@ -118,12 +118,12 @@ more_items_go (suc m) (more k kids) (part ∷ parts) (t ∷ ts) n ns ls all are 
     let item = part_goes k all.0 all.1 AnItem are.0 part spelled.0 st in
     let rest = more_items_go m kids parts woven.1.0 (n + 1) ns (ls ++ postorder k) all.2 are.1 spelled.1 woven.1.2 in
     let end_is : record { notes = Count ((n + 1) + m) ∷ ns; labels = (ls ++ postorder k) ++ postorders kids } ≡ end =
-        count_on n m ns ((ls ++ postorder k) ++ postorders kids) ∙ ap (λ y. let r : Noting = record { notes = Count (n + suc m) ∷ ns; labels = y } in r) (append_assoc ls (postorder k) (postorders kids)) in
+    count_on n m ns ((ls ++ postorder k) ++ postorders kids) ∙ ap (λ y. let r : Noting = record { notes = Count (n + suc m) ∷ ns; labels = y } in r) (append_assoc ls (postorder k) (postorders kids)) in
     let behind : Goes (Emit mark.NextItem ∷ Name name.MORE_ITEMS ∷ []) (wrote (postorder k) st) woven.1.0 end =
-        does_emit action_table mark.NextItem (Name name.MORE_ITEMS ∷ []) (wrote (postorder k) st) end woven.1.0 (end_at (Name name.MORE_ITEMS ∷ []) (marked mark.NextItem (wrote (postorder k) st)) (record { notes = Count ((n + 1) + m) ∷ ns; labels = (ls ++ postorder k) ++ postorders kids }) end woven.1.0 end_is rest) in
+    does_emit action_table mark.NextItem (Name name.MORE_ITEMS ∷ []) (wrote (postorder k) st) end woven.1.0 (end_at (Name name.MORE_ITEMS ∷ []) (marked mark.NextItem (wrote (postorder k) st)) (record { notes = Count ((n + 1) + m) ∷ ns; labels = (ls ++ postorder k) ++ postorders kids }) end woven.1.0 end_is rest) in
     word_line name.MORE_ITEMS comma t (Name name.ITEM ∷ Emit mark.NextItem ∷ Name name.MORE_ITEMS ∷ []) st end ts refl woven.0
     (on_tokens (Name name.ITEM ∷ Emit mark.NextItem ∷ Name name.MORE_ITEMS ∷ []) st end (part ++ woven.1.0) ts (sym woven.1.1)
-        (name_then name.ITEM (Emit mark.NextItem ∷ Name name.MORE_ITEMS ∷ []) st (wrote (postorder k) st) end part woven.1.0 item behind))
+    (name_then name.ITEM (Emit mark.NextItem ∷ Name name.MORE_ITEMS ∷ []) st (wrote (postorder k) st) end part woven.1.0 item behind))
 
 -- data is read, and the number of its items noted
 items_go : (n : ℕ) (kids : Trees) (parts : List (List (List ℕ))) (ts : List (List ℕ)) (st : Noting) → AllGo kids → Are (copies n AnItem) kids → ArePartsOf kids (copies n AnItem) parts → Weaves (items n) parts ts
@@ -136,7 +136,7 @@ items_go zero none parts (t ∷ u ∷ ts) st all are spelled woven =
     let end_is : marked mark.NoItems st ≡ behind_items 0 none st = ap (λ y. let r : Noting = record { notes = Count 0 ∷ st.notes; labels = y } in r) (sym (append-nil st.labels)) in
     on_tokens (Name name.DATA ∷ []) st (behind_items 0 none st) (t ∷ u ∷ []) (t ∷ u ∷ ts) (ap (λ y. t ∷ u ∷ y) (sym rest))
     (word_line name.DATA open_paren t (Name name.ITEMS ∷ []) st (behind_items 0 none st) (u ∷ []) refl woven.0
-        (word_line name.ITEMS close_paren u (Emit mark.NoItems ∷ []) st (behind_items 0 none st) [] refl woven.1.0 (emits mark.NoItems st (behind_items 0 none st) end_is)))
+    (word_line name.ITEMS close_paren u (Emit mark.NoItems ∷ []) st (behind_items 0 none st) [] refl woven.1.0 (emits mark.NoItems st (behind_items 0 none st) end_is)))
 items_go zero (more k kids) parts ts st all are spelled woven = absurd are
 items_go (suc zero) none parts ts st all are spelled woven = absurd are
 items_go (suc zero) (more k none) [] ts st all are spelled woven = absurd spelled
@@ -165,20 +165,20 @@ items_go (suc (suc n)) (more a (more b kids)) (p ∷ q ∷ parts) (t ∷ ts) st 
         let second = part_goes b all.2.0 all.2.1 AnItem are.1.0 q spelled.1.0 one in
         let rest = more_items_go n kids parts w.1.0 (1 + 1) st.notes ((st.labels ++ postorder a) ++ postorder b) all.2.2 are.1.1 spelled.1.1 w.1.2 in
         let end_is : record { notes = Count ((1 + 1) + n) ∷ st.notes; labels = ((st.labels ++ postorder a) ++ postorder b) ++ postorders kids } ≡ end =
-            count_on 1 n st.notes (((st.labels ++ postorder a) ++ postorder b) ++ postorders kids)
-            ∙ ap (λ k. let r : Noting = record { notes = Count k ∷ st.notes; labels = ((st.labels ++ postorder a) ++ postorder b) ++ postorders kids } in r) (one_more n)
-            ∙ ap (λ y. let r : Noting = record { notes = Count (suc (suc n)) ∷ st.notes; labels = y } in r) (regroup st.labels (postorder a) (postorder b) (postorders kids)) in
+        count_on 1 n st.notes (((st.labels ++ postorder a) ++ postorder b) ++ postorders kids)
+        ∙ ap (λ k. let r : Noting = record { notes = Count k ∷ st.notes; labels = ((st.labels ++ postorder a) ++ postorder b) ++ postorders kids } in r) (one_more n)
+        ∙ ap (λ y. let r : Noting = record { notes = Count (suc (suc n)) ∷ st.notes; labels = y } in r) (regroup st.labels (postorder a) (postorder b) (postorders kids)) in
         let tail : Goes (Emit mark.NextItem ∷ Name name.MORE_ITEMS ∷ []) after_b w.1.0 end =
-            does_emit action_table mark.NextItem (Name name.MORE_ITEMS ∷ []) after_b end w.1.0 (end_at (Name name.MORE_ITEMS ∷ []) (marked mark.NextItem after_b) (record { notes = Count ((1 + 1) + n) ∷ st.notes; labels = ((st.labels ++ postorder a) ++ postorder b) ++ postorders kids }) end w.1.0 end_is rest) in
+        does_emit action_table mark.NextItem (Name name.MORE_ITEMS ∷ []) after_b end w.1.0 (end_at (Name name.MORE_ITEMS ∷ []) (marked mark.NextItem after_b) (record { notes = Count ((1 + 1) + n) ∷ st.notes; labels = ((st.labels ++ postorder a) ++ postorder b) ++ postorders kids }) end w.1.0 end_is rest) in
         let from_b : Goes (Name name.ITEM ∷ Emit mark.NextItem ∷ Name name.MORE_ITEMS ∷ []) one back end =
-            on_tokens (Name name.ITEM ∷ Emit mark.NextItem ∷ Name name.MORE_ITEMS ∷ []) one end (q ++ w.1.0) back (sym w.1.1) (name_then name.ITEM (Emit mark.NextItem ∷ Name name.MORE_ITEMS ∷ []) one after_b end q w.1.0 second tail) in
+        on_tokens (Name name.ITEM ∷ Emit mark.NextItem ∷ Name name.MORE_ITEMS ∷ []) one end (q ++ w.1.0) back (sym w.1.1) (name_then name.ITEM (Emit mark.NextItem ∷ Name name.MORE_ITEMS ∷ []) one after_b end q w.1.0 second tail) in
         let from_comma : Goes (Emit mark.FirstItem ∷ Read class.COMMA ∷ Name name.ITEM ∷ Emit mark.NextItem ∷ Name name.MORE_ITEMS ∷ []) after_a (u ∷ back) end =
-            does_emit action_table mark.FirstItem (Read class.COMMA ∷ Name name.ITEM ∷ Emit mark.NextItem ∷ Name name.MORE_ITEMS ∷ []) after_a end (u ∷ back)
-            (word_read comma u (Name name.ITEM ∷ Emit mark.NextItem ∷ Name name.MORE_ITEMS ∷ []) one end back w.0 from_b) in
+        does_emit action_table mark.FirstItem (Read class.COMMA ∷ Name name.ITEM ∷ Emit mark.NextItem ∷ Name name.MORE_ITEMS ∷ []) after_a end (u ∷ back)
+        (word_read comma u (Name name.ITEM ∷ Emit mark.NextItem ∷ Name name.MORE_ITEMS ∷ []) one end back w.0 from_b) in
         word_line name.DATA open_paren t (Name name.ITEMS ∷ []) st end ts refl woven.0
         (does_other action_table name.ITEMS (Name name.ITEM ∷ Emit mark.FirstItem ∷ Read class.COMMA ∷ Name name.ITEM ∷ Emit mark.NextItem ∷ Name name.MORE_ITEMS ∷ []) st end ts refl
-            (on_tokens (Name name.ITEM ∷ Emit mark.FirstItem ∷ Read class.COMMA ∷ Name name.ITEM ∷ Emit mark.NextItem ∷ Name name.MORE_ITEMS ∷ []) st end (p ++ (u ∷ back)) ts (sym cut)
-                (name_then name.ITEM (Emit mark.FirstItem ∷ Read class.COMMA ∷ Name name.ITEM ∷ Emit mark.NextItem ∷ Name name.MORE_ITEMS ∷ []) st after_a end p (u ∷ back) first from_comma)))
+        (on_tokens (Name name.ITEM ∷ Emit mark.FirstItem ∷ Read class.COMMA ∷ Name name.ITEM ∷ Emit mark.NextItem ∷ Name name.MORE_ITEMS ∷ []) st end (p ++ (u ∷ back)) ts (sym cut)
+        (name_then name.ITEM (Emit mark.FirstItem ∷ Read class.COMMA ∷ Name name.ITEM ∷ Emit mark.NextItem ∷ Name name.MORE_ITEMS ∷ []) st after_a end p (u ∷ back) first from_comma)))
 
 regroup_label : (a b c : List Label) (l : Label) → (a ++ b) ++ (c ++ l ∷ []) ≡ a ++ ((b ++ c) ++ l ∷ [])
 regroup_label a b c l = simp append_assoc
@@ -192,7 +192,7 @@ data_goes : (k : Kind) (n : ℕ) (kids : Trees) (parts : List (List (List ℕ)))
 data_goes k n kids parts ts st all are spelled woven =
     on_tokens (Name name.DATA ∷ Emit (mark.ActionWithItems k) ∷ []) st (wrote (postorders kids ++ ActionNode k n [] ∷ []) st) (ts ++ []) ts (append-nil ts)
     (name_then name.DATA (Emit (mark.ActionWithItems k) ∷ []) st (behind_items n kids st) (wrote (postorders kids ++ ActionNode k n [] ∷ []) st) ts [] (items_go n kids parts ts st all are spelled woven)
-        (emits (mark.ActionWithItems k) (behind_items n kids st) (wrote (postorders kids ++ ActionNode k n [] ∷ []) st) (data_written k n kids st)))
+    (emits (mark.ActionWithItems k) (behind_items n kids st) (wrote (postorders kids ++ ActionNode k n [] ∷ []) st) (data_written k n kids st)))
 
 give_goes : (n : ℕ) → NodeGoes name.OPERAND (ActionNode kind.Give n [])
 unfolding line_of action_lines other_of action_others
@@ -208,7 +208,7 @@ escape_with_goes n kids all are (t ∷ []) (parts, spelled, woven) st = absurd w
 escape_with_goes n kids all are (t ∷ u ∷ ts) (parts, spelled, woven) st =
     word_line name.OPERAND (codes "escape") t (Name name.ESCAPED ∷ []) st (wrote (postorder (tree (ActionNode kind.EscapeWith n []) kids)) st) (u ∷ ts) refl woven.0
     (word_line name.ESCAPED (codes "with") u (Name name.DATA ∷ Emit (mark.ActionWithItems kind.EscapeWith) ∷ []) st (wrote (postorder (tree (ActionNode kind.EscapeWith n []) kids)) st) ts refl woven.1.0
-        (data_goes kind.EscapeWith n kids parts ts st all are spelled woven.1.1))
+    (data_goes kind.EscapeWith n kids parts ts st all are spelled woven.1.1))
 
 apply_goes : (n : ℕ) → NodeGoes name.OPERAND (ActionNode kind.Apply n [])
 unfolding line_of action_lines other_of action_others
@@ -227,14 +227,14 @@ apply_goes n (more k kids) all are (t ∷ u ∷ v ∷ ts) (part ∷ parts, spell
         let first = part_goes k all.0 all.1 AYielder are.0 part spelled.0 st in
         let last = data_goes kind.Apply n kids parts back (wrote (postorder k) st) all.2 are.1 spelled.1 w.1 in
         let end_is : wrote (postorders kids ++ ActionNode kind.Apply n [] ∷ []) (wrote (postorder k) st) ≡ end =
-            ap (λ y. let r : Noting = record { notes = st.notes; labels = y } in r) (regroup_label st.labels (postorder k) (postorders kids) (ActionNode kind.Apply n [])) in
+        ap (λ y. let r : Noting = record { notes = st.notes; labels = y } in r) (regroup_label st.labels (postorder k) (postorders kids) (ActionNode kind.Apply n [])) in
         word_line name.OPERAND (codes "enact") t (Name name.ENACTED ∷ []) st end (u ∷ v ∷ ts) refl woven.0
         (word_line name.ENACTED (codes "application") u (Read class.OF ∷ Name name.YIELDER ∷ Read class.TO ∷ Name name.DATA ∷ Emit (mark.ActionWithItems kind.Apply) ∷ []) st end (v ∷ ts) refl woven.1.0
-            (word_read (codes "of") v (Name name.YIELDER ∷ Read class.TO ∷ Name name.DATA ∷ Emit (mark.ActionWithItems kind.Apply) ∷ []) st end ts woven.1.1.0
-                (on_tokens (Name name.YIELDER ∷ Read class.TO ∷ Name name.DATA ∷ Emit (mark.ActionWithItems kind.Apply) ∷ []) st end (part ++ (x ∷ back)) ts (sym cut)
-                    (name_then name.YIELDER (Read class.TO ∷ Name name.DATA ∷ Emit (mark.ActionWithItems kind.Apply) ∷ []) st (wrote (postorder k) st) end part (x ∷ back) first
-                        (word_read (codes "to") x (Name name.DATA ∷ Emit (mark.ActionWithItems kind.Apply) ∷ []) (wrote (postorder k) st) end back w.0
-                            (end_at (Name name.DATA ∷ Emit (mark.ActionWithItems kind.Apply) ∷ []) (wrote (postorder k) st) (wrote (postorders kids ++ ActionNode kind.Apply n [] ∷ []) (wrote (postorder k) st)) end back end_is last))))))
+        (word_read (codes "of") v (Name name.YIELDER ∷ Read class.TO ∷ Name name.DATA ∷ Emit (mark.ActionWithItems kind.Apply) ∷ []) st end ts woven.1.1.0
+        (on_tokens (Name name.YIELDER ∷ Read class.TO ∷ Name name.DATA ∷ Emit (mark.ActionWithItems kind.Apply) ∷ []) st end (part ++ (x ∷ back)) ts (sym cut)
+        (name_then name.YIELDER (Read class.TO ∷ Name name.DATA ∷ Emit (mark.ActionWithItems kind.Apply) ∷ []) st (wrote (postorder k) st) end part (x ∷ back) first
+        (word_read (codes "to") x (Name name.DATA ∷ Emit (mark.ActionWithItems kind.Apply) ∷ []) (wrote (postorder k) st) end back w.0
+        (end_at (Name name.DATA ∷ Emit (mark.ActionWithItems kind.Apply) ∷ []) (wrote (postorder k) st) (wrote (postorders kids ++ ActionNode kind.Apply n [] ∷ []) (wrote (postorder k) st)) end back end_is last))))))
 
 -- the mark of a node that takes the token that was kept last
 token_written : (k : Kind) (q t : List ℕ) (kids : Trees) (st : Noting) → t ≡ 34 ∷ (q ++ 34 ∷ [])
@@ -252,12 +252,12 @@ bind_goes q token kids all are (t ∷ u ∷ v ∷ ts) (parts, spelled, woven) st
     let end : Noting = wrote (postorder (tree (ActionNode kind.Bind 0 q) kids)) st in
     let kept : Noting = note (Token u) st in
     let last : Goes (Emit (mark.ActionWithToken kind.Bind) ∷ []) (wrote (postorders kids) kept) [] end =
-        emits (mark.ActionWithToken kind.Bind) (wrote (postorders kids) kept) end (token_written kind.Bind q u kids st woven.1.0) in
+    emits (mark.ActionWithToken kind.Bind) (wrote (postorders kids) kept) end (token_written kind.Bind q u kids st woven.1.0) in
     word_line name.OPERAND (codes "bind") t (Keep class.QUOTED ∷ Read class.TO ∷ Name name.YIELDER ∷ Emit (mark.ActionWithToken kind.Bind) ∷ []) st end (u ∷ v ∷ ts) refl woven.0
     (does_keep action_table class.QUOTED (Read class.TO ∷ Name name.YIELDER ∷ Emit (mark.ActionWithToken kind.Bind) ∷ []) st end u (v ∷ ts) (quoted_class q u token woven.1.0)
-        (word_read (codes "to") v (Name name.YIELDER ∷ Emit (mark.ActionWithToken kind.Bind) ∷ []) kept end ts woven.1.1.0
-            (on_tokens (Name name.YIELDER ∷ Emit (mark.ActionWithToken kind.Bind) ∷ []) kept end (ts ++ []) ts (append-nil ts)
-                (pieces_go (Part ∷ []) (AYielder ∷ []) (Emit (mark.ActionWithToken kind.Bind) ∷ []) kept end kids parts ts [] refl all are spelled woven.1.1.1 last))))
+    (word_read (codes "to") v (Name name.YIELDER ∷ Emit (mark.ActionWithToken kind.Bind) ∷ []) kept end ts woven.1.1.0
+    (on_tokens (Name name.YIELDER ∷ Emit (mark.ActionWithToken kind.Bind) ∷ []) kept end (ts ++ []) ts (append-nil ts)
+    (pieces_go (Part ∷ []) (AYielder ∷ []) (Emit (mark.ActionWithToken kind.Bind) ∷ []) kept end kids parts ts [] refl all are spelled woven.1.1.1 last))))
 
 bind_rec_goes : (q : List ℕ) → is_token q ≡ true → NodeGoes name.OPERAND (ActionNode kind.BindRec 0 q)
 unfolding line_of action_lines other_of action_others
@@ -269,13 +269,13 @@ bind_rec_goes q token kids all are (t ∷ b ∷ u ∷ v ∷ ts) (parts, spelled,
     let end : Noting = wrote (postorder (tree (ActionNode kind.BindRec 0 q) kids)) st in
     let kept : Noting = note (Token u) st in
     let last : Goes (Emit (mark.ActionWithToken kind.BindRec) ∷ []) (wrote (postorders kids) kept) [] end =
-        emits (mark.ActionWithToken kind.BindRec) (wrote (postorders kids) kept) end (token_written kind.BindRec q u kids st woven.1.1.0) in
+    emits (mark.ActionWithToken kind.BindRec) (wrote (postorders kids) kept) end (token_written kind.BindRec q u kids st woven.1.1.0) in
     word_line name.OPERAND (codes "recursively") t (Read class.BIND ∷ Keep class.QUOTED ∷ Read class.TO ∷ Name name.CLOSURE ∷ Emit (mark.ActionWithToken kind.BindRec) ∷ []) st end (b ∷ u ∷ v ∷ ts) refl woven.0
     (word_read (codes "bind") b (Keep class.QUOTED ∷ Read class.TO ∷ Name name.CLOSURE ∷ Emit (mark.ActionWithToken kind.BindRec) ∷ []) st end (u ∷ v ∷ ts) woven.1.0
-        (does_keep action_table class.QUOTED (Read class.TO ∷ Name name.CLOSURE ∷ Emit (mark.ActionWithToken kind.BindRec) ∷ []) st end u (v ∷ ts) (quoted_class q u token woven.1.1.0)
-            (word_read (codes "to") v (Name name.CLOSURE ∷ Emit (mark.ActionWithToken kind.BindRec) ∷ []) kept end ts woven.1.1.1.0
-                (on_tokens (Name name.CLOSURE ∷ Emit (mark.ActionWithToken kind.BindRec) ∷ []) kept end (ts ++ []) ts (append-nil ts)
-                    (pieces_go (Part ∷ []) (AClosure ∷ []) (Emit (mark.ActionWithToken kind.BindRec) ∷ []) kept end kids parts ts [] refl all are spelled woven.1.1.1.1 last)))))
+    (does_keep action_table class.QUOTED (Read class.TO ∷ Name name.CLOSURE ∷ Emit (mark.ActionWithToken kind.BindRec) ∷ []) st end u (v ∷ ts) (quoted_class q u token woven.1.1.0)
+    (word_read (codes "to") v (Name name.CLOSURE ∷ Emit (mark.ActionWithToken kind.BindRec) ∷ []) kept end ts woven.1.1.1.0
+    (on_tokens (Name name.CLOSURE ∷ Emit (mark.ActionWithToken kind.BindRec) ∷ []) kept end (ts ++ []) ts (append-nil ts)
+    (pieces_go (Part ∷ []) (AClosure ∷ []) (Emit (mark.ActionWithToken kind.BindRec) ∷ []) kept end kids parts ts [] refl all are spelled woven.1.1.1.1 last)))))
 
 -- each action node with a spelling of its own is read as an operand
 pub action_goes : (k : Kind) (n : ℕ) (q : List ℕ) → serves AnAction (ActionNode k n q) ≡ true → NodeGoes name.OPERAND (ActionNode k n q)

@@ -41,7 +41,7 @@ pub mark_goes : (l : Label) (m : Mark) (kids : Trees) (st : Noting) → ((z : No
 mark_goes l m kids st mark =
     does_emit action_table m [] (wrote (postorders kids) st) (wrote (postorder (tree l kids)) st) []
     (end_at [] (marked m (wrote (postorders kids) st)) (marked m (wrote (postorders kids) st)) (wrote (postorder (tree l kids)) st) []
-        (mark (wrote (postorders kids) st) ∙ wrote_both (postorders kids) (l ∷ []) st) (does_nothing action_table (marked m (wrote (postorders kids) st))))
+    (mark (wrote (postorders kids) st) ∙ wrote_both (postorders kids) (l ∷ []) st) (does_nothing action_table (marked m (wrote (postorders kids) st))))
 
 -- the words and parts of a node behind its first words, and its mark
 pub tail_goes : (l : Label) (ps : List Piece) (m : Mark) (kids : Trees) (parts : List (List (List ℕ))) (ts : List (List ℕ)) (st : Noting) → fits ps (under l) ≡ true → ((z : Noting) → marked m z ≡ writes 0 l z)
@@ -73,7 +73,7 @@ begun_goes n o l v w ps m form fit mark first found kids all are ts (parts, spel
     by_two (t ∷ u ∷ ts) h =
         word_line n v t (Name o ∷ []) st (wrote (postorder (tree l kids)) st) (u ∷ ts) first h.0
         (word_line o w u (symbols ps (under l) ++ Emit m ∷ []) st (wrote (postorder (tree l kids)) st) ts found h.1.0
-            (tail_goes l ps m kids parts ts st fit mark all are spelled h.1.1))
+        (tail_goes l ps m kids parts ts st fit mark all are spelled h.1.1))
 
 -- a node that a row begins, and that ends by what else a name may be
 pub begun_other_goes : (n o : ℕ) (l : Label) (v : List ℕ) (ps : List Piece) (m : Mark) → shape l ≡ Fixed v ∷ ps → fits ps (under l) ≡ true → ((z : Noting) → marked m z ≡ writes 0 l z)
@@ -86,7 +86,7 @@ begun_other_goes n o l v ps m form fit mark first found kids all are ts (parts, 
     by_one (t ∷ ts) h =
         word_line n v t (Name o ∷ []) st (wrote (postorder (tree l kids)) st) ts first h.0
         (does_other action_table o (symbols ps (under l) ++ Emit m ∷ []) st (wrote (postorder (tree l kids)) st) ts found
-            (tail_goes l ps m kids parts ts st fit mark all are spelled h.1))
+        (tail_goes l ps m kids parts ts st fit mark all are spelled h.1))
 
 -- a node without a spelling that has parts is in no text
 pub shapeless : (n : ℕ) (l : Label) (x : Wanted) (xs : List Wanted) → shape l ≡ [] → under l ≡ x ∷ xs → NodeGoes n l

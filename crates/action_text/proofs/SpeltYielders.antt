@@ -45,11 +45,11 @@ number_goes z none all are (t ∷ ts) (parts, spelled, woven) st = by_place (is_
     by_place true h =
         on_tokens (Name name.YIELDER ∷ []) st (wrote (postorder (tree (YielderNode (ykind.Number z) []) none)) st) (t ∷ []) (t ∷ ts) (ap (λ y. t ∷ y) (sym (subst (λ (p : List (List (List ℕ))). Weaves [] p ts) spelled woven.1)))
         (does_line action_table name.YIELDER (line name.YIELDER class.PLACE true (Emit mark.Number ∷ [])) st (wrote (postorder (tree (YielderNode (ykind.Number z) []) none)) st) t []
-            (ap (λ c. line_of action_lines name.YIELDER c) (number_class_of t z true woven.0 h)) written)
+        (ap (λ c. line_of action_lines name.YIELDER c) (number_class_of t z true woven.0 h)) written)
     by_place false h =
         on_tokens (Name name.YIELDER ∷ []) st (wrote (postorder (tree (YielderNode (ykind.Number z) []) none)) st) (t ∷ []) (t ∷ ts) (ap (λ y. t ∷ y) (sym (subst (λ (p : List (List (List ℕ))). Weaves [] p ts) spelled woven.1)))
         (does_line action_table name.YIELDER (line name.YIELDER class.NUMBER true (Emit mark.Number ∷ [])) st (wrote (postorder (tree (YielderNode (ykind.Number z) []) none)) st) t []
-            (ap (λ c. line_of action_lines name.YIELDER c) (number_class_of t z false woven.0 h)) written)
+        (ap (λ c. line_of action_lines name.YIELDER c) (number_class_of t z false woven.0 h)) written)
 number_goes z (more k kids) all are ts p st = absurd are
 
 -- the word of a sort
@@ -67,7 +67,7 @@ unfolding line_of action_lines
 the_given_goes s t u v rest st end a b c d =
     word_line name.YIELDER (codes "the") t (Name name.THE ∷ []) st end (u ∷ v ∷ rest) refl a
     (word_line name.THE (codes "given") u (Name name.SORT ∷ Name name.AT_PLACE ∷ []) st end (v ∷ rest) refl b
-        (name_then name.SORT (Name name.AT_PLACE ∷ []) st (marked (mark.Sort s) st) end (v ∷ []) rest (sort_goes s v st c) d))
+    (name_then name.SORT (Name name.AT_PLACE ∷ []) st (marked (mark.Sort s) st) end (v ∷ []) rest (sort_goes s v st c) d))
 
 -- `the S`, and what stands behind it
 the_sort_goes : (s : Sort) (t v : List ℕ) (rest : List (List ℕ)) (st end : Noting) → t ≡ codes "the" → v ≡ sort_word s
@@ -76,7 +76,7 @@ unfolding line_of action_lines other_of action_others
 the_sort_goes s t v rest st end a c d =
     word_line name.YIELDER (codes "the") t (Name name.THE ∷ []) st end (v ∷ rest) refl a
     (does_other action_table name.THE (Name name.SORT ∷ Name name.THE_REST ∷ []) st end (v ∷ rest) refl
-        (name_then name.SORT (Name name.THE_REST ∷ []) st (marked (mark.Sort s) st) end (v ∷ []) rest (sort_goes s v st c) d))
+    (name_then name.SORT (Name name.THE_REST ∷ []) st (marked (mark.Sort s) st) end (v ∷ []) rest (sort_goes s v st c) d))
 
 given_goes : (s : Sort) → NodeGoes name.YIELDER (YielderNode (ykind.Given s 0) [])
 unfolding line_of action_lines other_of action_others
@@ -87,7 +87,7 @@ given_goes s none all are (t ∷ u ∷ v ∷ ts) (parts, spelled, woven) st =
     let end : Noting = wrote (postorder (tree (YielderNode (ykind.Given s 0) []) none)) st in
     on_tokens (Name name.YIELDER ∷ []) st end (t ∷ u ∷ v ∷ []) (t ∷ u ∷ v ∷ ts) (ap (λ y. t ∷ u ∷ v ∷ y) (sym (subst (λ (p : List (List (List ℕ))). Weaves [] p ts) spelled woven.1.1.1)))
     (the_given_goes s t u v [] st end woven.0 woven.1.0 woven.1.1.0
-        (does_other action_table name.AT_PLACE (Emit mark.Given ∷ []) (marked (mark.Sort s) st) end [] refl (emits mark.Given (marked (mark.Sort s) st) end refl)))
+    (does_other action_table name.AT_PLACE (Emit mark.Given ∷ []) (marked (mark.Sort s) st) end [] refl (emits mark.Given (marked (mark.Sort s) st) end refl)))
 given_goes s (more k kids) all are ts p st = absurd are
 
 given_at_goes : (s : Sort) (n : ℕ) → nat_le (suc n) 64 ≡ true → NodeGoes name.YIELDER (YielderNode (ykind.Given s (suc n)) [])
@@ -103,9 +103,9 @@ given_at_goes s n place none all are (t ∷ u ∷ v ∷ w ∷ x ∷ ts) (parts, 
     let value : place_of (value_of x) ≡ suc n = ap (λ o. place_of (unwrap_or o (pos 0))) woven.1.1.1.1.0 ∙ ap (λ b. if b then suc n else 0) place in
     on_tokens (Name name.YIELDER ∷ []) st end (t ∷ u ∷ v ∷ w ∷ x ∷ []) (t ∷ u ∷ v ∷ w ∷ x ∷ ts) (ap (λ y. t ∷ u ∷ v ∷ w ∷ x ∷ y) (sym (subst (λ (p : List (List (List ℕ))). Weaves [] p ts) spelled woven.1.1.1.1.1)))
     (the_given_goes s t u v (w ∷ x ∷ []) st end woven.0 woven.1.0 woven.1.1.0
-        (word_line name.AT_PLACE (35 ∷ []) w (Keep class.PLACE ∷ Emit mark.GivenAt ∷ []) (marked (mark.Sort s) st) end (x ∷ []) refl woven.1.1.1.0
-            (does_keep action_table class.PLACE (Emit mark.GivenAt ∷ []) (marked (mark.Sort s) st) end x [] (number_class_of x (pos (suc n)) true woven.1.1.1.1.0 (within n place))
-                (emits mark.GivenAt kept end (ap (λ p. wrote (YielderNode (ykind.Given s p) [] ∷ []) st) value)))))
+    (word_line name.AT_PLACE (35 ∷ []) w (Keep class.PLACE ∷ Emit mark.GivenAt ∷ []) (marked (mark.Sort s) st) end (x ∷ []) refl woven.1.1.1.0
+    (does_keep action_table class.PLACE (Emit mark.GivenAt ∷ []) (marked (mark.Sort s) st) end x [] (number_class_of x (pos (suc n)) true woven.1.1.1.1.0 (within n place))
+    (emits mark.GivenAt kept end (ap (λ p. wrote (YielderNode (ykind.Given s p) [] ∷ []) st) value)))))
   where
     within : (n : ℕ) → nat_le (suc n) 64 ≡ true → is_place (pos (suc n)) ≡ true
     within n h = grind (arith, nat_tests)
@@ -123,10 +123,10 @@ bound_goes s q token none all are (t ∷ v ∷ b ∷ o ∷ x ∷ ts) (parts, spe
     let kept : Noting = note (Token x) (marked (mark.Sort s) st) in
     on_tokens (Name name.YIELDER ∷ []) st end (t ∷ v ∷ b ∷ o ∷ x ∷ []) (t ∷ v ∷ b ∷ o ∷ x ∷ ts) (ap (λ y. t ∷ v ∷ b ∷ o ∷ x ∷ y) (sym (subst (λ (p : List (List (List ℕ))). Weaves [] p ts) spelled woven.1.1.1.1.1)))
     (the_sort_goes s t v (b ∷ o ∷ x ∷ []) st end woven.0 woven.1.0
-        (word_line name.THE_REST (codes "bound") b (Read class.TO ∷ Keep class.QUOTED ∷ Emit mark.Bound ∷ []) (marked (mark.Sort s) st) end (o ∷ x ∷ []) refl woven.1.1.0
-            (word_read (codes "to") o (Keep class.QUOTED ∷ Emit mark.Bound ∷ []) (marked (mark.Sort s) st) end (x ∷ []) woven.1.1.1.0
-                (does_keep action_table class.QUOTED (Emit mark.Bound ∷ []) (marked (mark.Sort s) st) end x [] (quoted_class q x token woven.1.1.1.1.0)
-                    (emits mark.Bound kept end (ap (λ r. wrote (YielderNode (ykind.Bound s) r ∷ []) st) (unquoted_back q x woven.1.1.1.1.0)))))))
+    (word_line name.THE_REST (codes "bound") b (Read class.TO ∷ Keep class.QUOTED ∷ Emit mark.Bound ∷ []) (marked (mark.Sort s) st) end (o ∷ x ∷ []) refl woven.1.1.0
+    (word_read (codes "to") o (Keep class.QUOTED ∷ Emit mark.Bound ∷ []) (marked (mark.Sort s) st) end (x ∷ []) woven.1.1.1.0
+    (does_keep action_table class.QUOTED (Emit mark.Bound ∷ []) (marked (mark.Sort s) st) end x [] (quoted_class q x token woven.1.1.1.1.0)
+    (emits mark.Bound kept end (ap (λ r. wrote (YielderNode (ykind.Bound s) r ∷ []) st) (unquoted_back q x woven.1.1.1.1.0)))))))
 bound_goes s q token (more k kids) all are ts p st = absurd are
 
 stored_goes : (s : Sort) → NodeGoes name.YIELDER (YielderNode (ykind.Stored s) [])
@@ -139,13 +139,13 @@ stored_goes s kids all are (t ∷ v ∷ b ∷ i ∷ ts) (parts, spelled, woven) 
     let end : Noting = wrote (postorder (tree (YielderNode (ykind.Stored s) []) kids)) st in
     let noted : Noting = marked (mark.Sort s) st in
     let written : marked mark.Stored (wrote (postorders kids) noted) ≡ end =
-        ap (λ y. let r : Noting = record { notes = st.notes; labels = y } in r) (append_assoc st.labels (postorders kids) (YielderNode (ykind.Stored s) [] ∷ [])) in
+    ap (λ y. let r : Noting = record { notes = st.notes; labels = y } in r) (append_assoc st.labels (postorders kids) (YielderNode (ykind.Stored s) [] ∷ [])) in
     the_sort_goes s t v (b ∷ i ∷ ts) st end woven.0 woven.1.0
     (word_line name.THE_REST (codes "stored") b (Read class.IN ∷ Name name.YIELDER ∷ Emit mark.Stored ∷ []) noted end (i ∷ ts) refl woven.1.1.0
-        (word_read (codes "in") i (Name name.YIELDER ∷ Emit mark.Stored ∷ []) noted end ts woven.1.1.1.0
-            (on_tokens (Name name.YIELDER ∷ Emit mark.Stored ∷ []) noted end (ts ++ []) ts (append-nil ts)
-                (pieces_go (Part ∷ []) (AYielder ∷ []) (Emit mark.Stored ∷ []) noted end kids parts ts [] refl all are spelled woven.1.1.1.1
-                    (emits mark.Stored (wrote (postorders kids) noted) end written)))))
+    (word_read (codes "in") i (Name name.YIELDER ∷ Emit mark.Stored ∷ []) noted end ts woven.1.1.1.0
+    (on_tokens (Name name.YIELDER ∷ Emit mark.Stored ∷ []) noted end (ts ++ []) ts (append-nil ts)
+    (pieces_go (Part ∷ []) (AYielder ∷ []) (Emit mark.Stored ∷ []) noted end kids parts ts [] refl all are spelled woven.1.1.1.1
+    (emits mark.Stored (wrote (postorders kids) noted) end written)))))
 
 -- each yielder is read
 pub yielder_goes : (k : YKind) (q : List ℕ) → serves AYielder (YielderNode k q) ≡ true → NodeGoes name.YIELDER (YielderNode k q)

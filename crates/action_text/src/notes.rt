@@ -1,5 +1,5 @@
 //! What is noted and written while a text is read.
-ghost use Rattle.std.specs.Prelude.{◌≡◌, ◌+◌, [], ◌∷◌, ◌++◌, OnOk, drop, map, reverse};
+ghost use Rattle.std.specs.Prelude.{◌≡◌, ◌+◌, [], ◌∷◌, ◌++◌, OnOk, drop, map, reverse, if◌then◌else◌};
 ghost use Rattle.action_terms.specs.Labels.{ActionNode, YielderNode};
 ghost use Rattle.action_terms.specs.Pushed.{label_of};
 ghost use Rattle.action_text.specs.Notes.{KeptToken, Count, kept, counted, noted_sort, unquoted, value_of, place_of, marked};
@@ -128,11 +128,19 @@ fn count_item(notes: &mut Vec<Note<'_>>) -> Result<(), AllocError>
     }
 }
 
-/// Notes that the token was kept.
-pub fn keep<'t>(notes: &mut Vec<Note<'t>>, token: &'t [u8]) -> Result<(), AllocError>
-    ensures { OnOk result (reverse (map plain_note notes.new.items) ≡ KeptToken token.now ∷ reverse (map plain_note notes.old.items)) }
+/// Notes the token, where it is kept.
+pub fn keep_if<'t>(
+    notes: &mut Vec<Note<'t>>,
+    keeps: bool,
+    token: &'t [u8],
+) -> Result<(), AllocError>
+    ensures { OnOk result (reverse (map plain_note notes.new.items) ≡ (if keeps then KeptToken token.now ∷ reverse (map plain_note notes.old.items) else reverse (map plain_note notes.old.items))) }
 {
-    remember(notes, Note::Kept(token))
+    if keeps {
+        remember(notes, Note::Kept(token))
+    } else {
+        Ok(())
+    }
 }
 
 /// Does what the mark says: notes something, or takes notes and writes the label of a node.

@@ -1,5 +1,5 @@
 //! Reading tokens as an action text: one loop over a stack of what is still expected.
-ghost use Rattle.std.specs.Prelude.{◌≡◌, map, MatchResult};
+ghost use Rattle.std.specs.Prelude.{◌≡◌, ◌<◌, ◌↔◌, length, slice_index, map, IsTrue, MatchResult};
 ghost use Rattle.action_terms.specs.Pushed.{label_of};
 ghost use Rattle.action_text.specs.Reading.{AreLabelsOf, FailsAt};
 ghost use Rattle.action_text.specs.Texts.{texts};
@@ -7,7 +7,7 @@ ghost use Rattle.action_text.specs.declared.reading.PlaceError.TheVariants.{Memo
 
 use crate::lookup::{find_other, push_reversed, row_at};
 use crate::names;
-use crate::notes::{Note, follow, keep};
+use crate::notes::{Note, follow, keep_if};
 use crate::table::{SYMBOLS, Symbol};
 use crate::token_class::classes_of;
 use action_terms::pushed::Pushed;
@@ -40,14 +40,19 @@ impl<T: Drop> From<AllocFailed<T>> for PlaceError {
     }
 }
 
+// Tells whether a token of the class stands at the place.
+fn is_at(classes: &[u32], at: usize, class: u32) -> bool
+    ensures { IsTrue result ↔ ((at < length classes.now) × (slice_index classes.now at ≡ class)) }
+{
+    at < classes.len() && classes[at] == class
+}
+
 /// The labels, in postorder, of the action that the tokens spell.
-pub fn read_labels<'t>(
-    alloc: Global,
-    tokens: &[Token<'t>],
-) -> Result<Vec<Pushed<'t>>, PlaceError>
+pub fn read_labels<'t>(alloc: Global, tokens: &[Token<'t>]) -> Result<Vec<Pushed<'t>>, PlaceError>
     ensures { MatchResult result (λ labels. AreLabelsOf (texts tokens.now) (map label_of labels.items)) (λ e. FailsAt (texts tokens.now) e) }
 {
-    let classes = classes_of(alloc, tokens)?;
+    let list = classes_of(alloc, tokens)?;
+    let classes = list.as_slice();
     let mut stack = Vec::new(alloc);
     stack.push(Symbol::Name(names::ACTION))?;
     let mut notes: Vec<Note<'t>> = Vec::new(alloc);
@@ -57,23 +62,21 @@ pub fn read_labels<'t>(
         match top {
             Symbol::Emit(mark) => follow(mark, &mut notes, &mut labels)?,
             Symbol::Read(class) => {
-                if at >= tokens.len() || classes[at] != class {
+                if !is_at(classes, at, class) {
                     return Err(PlaceError::At(at));
                 }
                 at += 1;
             }
             Symbol::Keep(class) => {
-                if at >= tokens.len() || classes[at] != class {
+                if !is_at(classes, at, class) {
                     return Err(PlaceError::At(at));
                 }
-                keep(&mut notes, tokens[at].bytes)?;
+                keep_if(&mut notes, true, tokens[at].bytes)?;
                 at += 1;
             }
             Symbol::Name(name) => {
-                if let Some(row) = row_at(classes.as_slice(), at, name) {
-                    if row.keeps {
-                        keep(&mut notes, tokens[at].bytes)?;
-                    }
+                if let Some(row) = row_at(classes, at, name) {
+                    keep_if(&mut notes, row.keeps, tokens[at].bytes)?;
                     at += 1;
                     push_reversed(&mut stack, &SYMBOLS[row.from..row.to])?;
                 } else if let Some(other) = find_other(name) {

@@ -1,6 +1,5 @@
 //! The grammar of action text as a table in which one token chooses the line.
-use crate::classes;
-use crate::names;
+use crate::{classes, names};
 use action_terms::kinds::{Kind, Sort, YKind};
 
 /// What is noted or written where a part of a text has been read.

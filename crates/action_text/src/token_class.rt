@@ -9,11 +9,14 @@ use meta_lex::token::{Token, TokenKind};
 use std::alloc::{AllocError, Global};
 
 /// The words and symbols of action texts, one behind the other, in the order of their classes.
-pub static WORD_BYTES: [u8; 331] = *b"orandthentraphencemoreoverbefore(),#unfoldingfurthermorecompletefailescapecommitregiverebindgivewithcheckbindtorecursivelyclosureabstractionofstoreinallocateacellsendreceiveanintegerenactapplicationunfoldthemtruefalsethegivenboundstoredtruth-valuesumdifferenceproductinteger-quotientinteger-remainderislessthanbotheithernegationnot";
+pub static WORD_BYTES: [u8; 331] =
+    *b"orandthentraphencemoreoverbefore(),#unfoldingfurthermorecompletefailescapecommitregiverebindgivewithcheckbindtorecursivelyclosureabstractionofstoreinallocateacellsendreceiveanintegerenactapplicationunfoldthemtruefalsethegivenboundstoredtruth-valuesumdifferenceproductinteger-quotientinteger-remainderislessthanbotheithernegationnot";
 
 /// Where each word begins, and where the last one ends.
 pub static WORD_STARTS: [usize; 61] = [
-    0, 2, 5, 9, 13, 18, 26, 32, 33, 34, 35, 36, 45, 56, 64, 68, 74, 80, 86, 92, 96, 100, 105, 109, 111, 122, 129, 140, 142, 147, 149, 157, 158, 162, 166, 173, 175, 182, 187, 198, 204, 208, 212, 217, 220, 225, 230, 236, 247, 250, 260, 267, 283, 300, 302, 306, 310, 314, 320, 328, 331,
+    0, 2, 5, 9, 13, 18, 26, 32, 33, 34, 35, 36, 45, 56, 64, 68, 74, 80, 86, 92, 96, 100, 105, 109,
+    111, 122, 129, 140, 142, 147, 149, 157, 158, 162, 166, 173, 175, 182, 187, 198, 204, 208, 212,
+    217, 220, 225, 230, 236, 247, 250, 260, 267, 283, 300, 302, 306, 310, 314, 320, 328, 331,
 ];
 
 // The bytes between the two places.
