@@ -21,3 +21,5 @@ pub mod WordCuts
 pub mod KindClasses
 pub mod Weights
 pub mod ReadingMoves
+pub mod TreeSizes
+pub mod PreorderWalk

@@ -62,7 +62,7 @@ beneath_back (more t ts) m st =
     let e : suc (count_of ts) + m ≡ count_of ts + suc m = omega arith in
     ap (λ n. beneath n (stacked ts (t ∷ st))) e ∙ beneath_back ts (suc m) (t ∷ st)
 
-count_is : (xs : List Wanted) (ts : Trees) → Are xs ts → length xs ≡ count_of ts + 0
+pub count_is : (xs : List Wanted) (ts : Trees) → Are xs ts → length xs ≡ count_of ts + 0
 count_is [] none h = omega arith
 count_is [] (more t ts) h = absurd h
 count_is (x ∷ xs) none h = absurd h

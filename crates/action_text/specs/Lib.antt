@@ -9,3 +9,4 @@ pub mod Rows
 pub mod Texts
 pub mod Views
 pub mod Reading
+pub mod Sizes

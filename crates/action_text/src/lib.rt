@@ -5,6 +5,7 @@ pub mod classes;
 pub mod lookup;
 pub mod names;
 pub mod notes;
+pub mod preorder;
 pub mod reading;
 pub mod table;
 pub mod token_class;
