@@ -1,8 +1,10 @@
 -- The walk from labels in postorder to labels in preorder: a stack of the ends of trees, the first tree on top.
 use Rattle.std.proofs.Common.{◌≡◌, ℕ, zero, suc, ◌+◌, ◌-◌, ◌<◌, ◌≤◌, List, [], ◌∷◌, ◌++◌, length, get_or, reverse, refl, sym, ap, subst, ◌∙◌, arith, append_assoc, append-nil, length-append}
-use Rattle.std.proofs.Common.{◌≢◌, ◌⊎◌, inl, inr, true, false, nat_eq}
+use Rattle.std.proofs.Common.{◌≢◌, ◌⊎◌, inl, inr, true, false, nat_eq, map}
+use Rattle.action_terms.specs.Pushed.{label_of}
+use Rattle.action_terms.specs.declared.pushed.Pushed.{Pushed}
 use Rattle.std.proofs.lemmas.Bool.Decides.{eqb_tells}
-use Rattle.std.proofs.lemmas.List.{reverse-append}
+use Rattle.std.proofs.lemmas.List.{reverse-append, map-append}
 use Rattle.action_terms.specs.Labels.{Label, Wanted, AnAction, AnItem, under, copies}
 use Rattle.action_terms.specs.Trees.{Tree, tree, Trees, none, more, Is, Are, IsAction, preorder, preorders}
 use Rattle.action_text.specs.Posts.{postorder, postorders}
@@ -204,3 +206,26 @@ back_one sizes n k s h = let e : n - k ≡ suc (n - (k + 1)) = omega arith in ap
 
 pub ends_one : (sizes : List ℕ) (n k s : ℕ) → k < n → tree_ends sizes (n - k) s ≡ s ∷ tree_ends sizes (n - (k + 1)) (step_back sizes s)
 ends_one sizes n k s h = let e : n - k ≡ suc (n - (k + 1)) = omega arith in ap (λ m. tree_ends sizes m s) e
+
+pub length_labels : (labels : List Pushed) → length (map label_of labels) ≡ length labels
+length_labels [] = refl
+length_labels (l ∷ labels) = ap suc (length_labels labels)
+
+-- the label at a place
+pub label_there : (labels : List Pushed) (i : ℕ) (d : Pushed) (l : Label) → i < length labels → get_or (map label_of labels) i l ≡ label_of (get_or labels i d)
+label_there [] i d l h = absurd (omega arith)
+label_there (x ∷ labels) zero d l h = refl
+label_there (x ∷ labels) (suc i) d l h = label_there labels i d l (omega arith)
+
+-- a step of the walk over nodes as they are pushed
+pub walk_step : (labels : List Pushed) (sizes list old new newer : List ℕ) (end count : ℕ) (ordered others : List Pushed) (d : Pushed) (t : Tree) → AreSizes (map label_of labels) list → sizes ≡ list
+    → old ≡ new ++ end ∷ [] → Walks (map label_of labels) old (map label_of ordered) t → 0 < end → end ≤ length labels → count ≡ length (under (label_of (get_or labels (end - 1) d)))
+    → newer ≡ new ++ tree_ends sizes count (end - 1) → others ≡ ordered ++ get_or labels (end - 1) d ∷ [] → Walks (map label_of labels) newer (map label_of others) t
+walk_step labels sizes list old new newer end count ordered others d t ok same e h some within parts f g =
+    let l : Label = label_of d in
+    let there : get_or (map label_of labels) (end - 1) l ≡ label_of (get_or labels (end - 1) d) = label_there labels (end - 1) d l (omega arith) in
+    let ends : newer ≡ new ++ tree_ends list (length (under (get_or (map label_of labels) (end - 1) l))) (end - 1) =
+        f ∙ ap (λ z. new ++ tree_ends z count (end - 1)) same ∙ ap (λ n. new ++ tree_ends list n (end - 1)) (parts ∙ ap (λ k. length (under k)) (sym there)) in
+    let written : map label_of others ≡ map label_of ordered ++ get_or (map label_of labels) (end - 1) l ∷ [] =
+        ap (map label_of) g ∙ map-append label_of ordered (get_or labels (end - 1) d ∷ []) ∙ ap (λ k. map label_of ordered ++ k ∷ []) (sym there) in
+    walk_goes_on (map label_of labels) list old new newer end (map label_of ordered) (map label_of others) l t ok e h ends written
