@@ -10,3 +10,4 @@ pub mod Texts
 pub mod Views
 pub mod Reading
 pub mod Sizes
+pub mod Answers
