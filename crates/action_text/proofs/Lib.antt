@@ -23,3 +23,4 @@ pub mod Weights
 pub mod ReadingMoves
 pub mod TreeSizes
 pub mod PreorderWalk
+pub mod TextAnswers

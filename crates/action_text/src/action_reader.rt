@@ -20,9 +20,10 @@ use std::alloc::Global;
 fn offset_at(list: &[Token<'_>], place: usize, size: u32) -> u32
     ensures { result ≡ offset_of (map plain_token list.now) place size }
 {
-    match list.get(place) {
-        Some(token) => token.offset,
-        None => size,
+    if place < list.len() {
+        list[place].offset
+    } else {
+        size
     }
 }
 
@@ -55,7 +56,8 @@ fn read_preorder<'s>(
 // Pushes one node.
 fn push(builder: &mut GraphBuilder<'_>, label: Pushed<'_>) -> Result<(), GraphError>
     ensures pushed { OnOk result (builder.new ≡ builder.old ++ label_of label.entry ∷ []) }
-    ensures nodes { IsErrOf result GraphError.Nodes → 65536 ≤ length builder.old }
+    ensures room { OnOk result (length builder.old < node_limit) }
+    ensures nodes { IsErrOf result GraphError.Nodes → node_limit ≤ length builder.old }
     ensures never_stray { (node : ℕ) → IsErrOf result (GraphError.StrayUnfold node) → ⊥ }
 {
     match label {
