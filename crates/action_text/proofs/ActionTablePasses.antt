@@ -1,9 +1,7 @@
 -- The table of action text passes the tests: one token chooses, and each name can be read to its end.
-use Rattle.std.proofs.Common.{◌≡◌, ℕ, zero, suc, ◌<◌, Bool, true, false, cond, ◌&&◌, not, List, [], ◌∷◌, ◌++◌, refl, get_or, codes, nat_eq, nat_lt, eqb-true, if◌then◌else◌}
-use Rattle.std.specs.Prelude.{Option, Some, None}
+use Rattle.std.proofs.Common.{◌≡◌, ℕ, Bool, true, false, List, [], ◌∷◌, ◌++◌, refl, get_or, codes, nat_eq, eqb-true}
 use Rattle.action_text.specs.declared.classes.TheConstants as class
-use Rattle.action_text.specs.declared.names.TheConstants as name
-use Rattle.action_text.specs.Tables.{line_of, other_of}
+use Rattle.action_text.specs.Tables.{other_of}
 use Rattle.action_text.specs.ActionTable.{action_table, action_lines, action_others}
 use Rattle.action_text.specs.Classes.{class_of, words}
 use Rattle.action_text.proofs.Starts.{Known, Starting, Choosing}

@@ -1,30 +1,28 @@
 -- The table of action text and the grammar agree: what the one reads the other spells.
-use Rattle.std.proofs.Common.{◌≡◌, ◌⊎◌, inl, inr, ℕ, zero, suc, Bool, true, false, ◌&&◌, List, [], ◌∷◌, ◌++◌, Some, None, refl, sym, ap, subst, ◌∙◌, append_assoc, append-nil, codes, nat_lt}
-use Rattle.action_terms.specs.Labels.{Label, ActionNode, YielderNode, Wanted, AnAction, AYielder, AnItem, AClosure, under, serves, is_datum, is_closure, yielder_fits, has_no_token}
+use Rattle.std.proofs.Common.{◌≡◌, ◌⊎◌, inl, inr, ℕ, false, List, [], ◌∷◌, ◌++◌, Some, refl, sym, ap, subst, ◌∙◌, append_assoc, append-nil, codes}
+use Rattle.action_terms.specs.Labels.{Label, ActionNode, YielderNode, AnAction, AYielder, AnItem, AClosure}
 use Rattle.action_terms.specs.Trees.{Tree, tree, Trees, none, more, Is, Are, IsAction}
 use Rattle.action_terms.specs.declared.kinds.Kind.{Kind}
 use Rattle.action_terms.specs.declared.kinds.Kind.TheVariants as kind
 use Rattle.action_terms.specs.declared.kinds.YKind.TheVariants as ykind
-use Rattle.action_text.specs.declared.table.Symbol.{Symbol}
-use Rattle.action_text.specs.declared.table.Symbol.TheVariants.{Read, Keep, Emit, Name}
+use Rattle.action_text.specs.declared.table.Symbol.TheVariants.{Read, Emit, Name}
 use Rattle.action_text.specs.declared.table.Mark.TheVariants as mark
 use Rattle.action_text.specs.declared.classes.TheConstants as class
 use Rattle.action_text.specs.declared.names.TheConstants as name
 use Rattle.action_text.specs.Tables.{Written, line_of, other_of, Reads}
-use Rattle.action_text.specs.Shapes.{Fixed, Part, operator, operator_of}
-use Rattle.action_text.specs.ActionText.{IsPlain, IsChain, IsOperand, IsActionText, Spells, label_of}
-use Rattle.action_text.specs.Posts.{postorder, postorders}
-use Rattle.action_text.specs.Notes.{Noting, marked, noted}
+use Rattle.action_text.specs.Shapes.{Fixed, Part, operator}
+use Rattle.action_text.specs.ActionText.{IsPlain, IsChain, IsOperand, Spells, label_of}
+use Rattle.action_text.specs.Posts.{postorder}
+use Rattle.action_text.specs.Notes.{Noting, noted}
 use Rattle.action_text.specs.Classes.{class_of}
 use Rattle.action_text.specs.ActionTable.{action_table, action_lines, action_others, line}
 use Rattle.action_text.proofs.Meanings.{moves_mean, does_nothing, does_other}
-use Rattle.action_text.proofs.Means.{means, wrote, replaced}
-use Rattle.action_text.proofs.Nodes.{name_of, and_left, and_right}
+use Rattle.action_text.proofs.Means.{means, wrote}
 use Rattle.action_text.proofs.Chains.{IsOperator, joined, joined_labels, last_name}
 use Rattle.action_text.proofs.Rows.{lines_mean, others_mean, op_Or, op_And, op_AndThen, op_Then, op_Trap, op_Hence, op_Moreover, op_Before}
-use Rattle.action_text.proofs.Spelling.{Goes, PlainGoes, ChainGoes, AllGo, more_of, more_ends, chain_label, operand_goes, word_line, word_read, name_then, end_at, on_tokens}
+use Rattle.action_text.proofs.Spelling.{Goes, PlainGoes, ChainGoes, AllGo, more_of, more_ends, chain_label, operand_goes, word_line, word_read, name_then, on_tokens}
 use Rattle.action_text.proofs.SpeltNodes.{NodeGoes, node_goes, no_token}
-use Rattle.action_text.proofs.SpeltActions.{action_goes, item_cases, them_alone, emits}
+use Rattle.action_text.proofs.SpeltActions.{action_goes, item_cases}
 use Rattle.action_text.proofs.SpeltYielders.{yielder_goes}
 
 -- what the table reads spells an action, and its labels are written

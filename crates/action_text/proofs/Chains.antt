@@ -1,20 +1,17 @@
 -- Chains: an operand behind an operator goes a chain on.
-use Rattle.std.proofs.Common.{◌≡◌, ◌⊎◌, inl, inr, ℕ, zero, suc, Bool, true, false, List, [], ◌∷◌, ◌++◌, refl, sym, ap, subst, ◌∙◌, append_assoc, append-nil, codes}
-use Rattle.action_terms.specs.Labels.{Label, ActionNode, YielderNode, Wanted, AnAction, under, serves}
-use Rattle.action_terms.specs.Trees.{Tree, tree, Trees, none, more, Is, Are, IsAction}
+use Rattle.std.proofs.Common.{◌≡◌, ◌⊎◌, inl, inr, ℕ, true, List, [], ◌∷◌, ◌++◌, refl, sym, ap, subst, ◌∙◌, append_assoc, append-nil}
+use Rattle.action_terms.specs.Labels.{Label, ActionNode, AnAction, under, serves}
+use Rattle.action_terms.specs.Trees.{Tree, tree, none, more, IsAction}
 use Rattle.action_terms.specs.declared.kinds.Kind.{Kind}
-use Rattle.action_terms.specs.declared.kinds.Kind.TheVariants as kind
-use Rattle.action_text.specs.declared.table.Symbol.{Symbol}
-use Rattle.action_text.specs.declared.table.Symbol.TheVariants.{Read, Keep, Emit, Name}
-use Rattle.action_text.specs.declared.table.Mark.{Mark}
+use Rattle.action_text.specs.declared.table.Symbol.TheVariants.{Name}
 use Rattle.action_text.specs.declared.table.Mark.TheVariants as mark
 use Rattle.action_text.specs.Shapes.{operator}
-use Rattle.action_text.specs.ActionText.{IsPlain, IsChain, IsPart, IsOperand, IsActionText, label_of}
-use Rattle.action_text.specs.Posts.{postorder, postorders}
-use Rattle.action_text.specs.Notes.{Noting, marked, writes}
+use Rattle.action_text.specs.ActionText.{IsPlain, IsChain, IsOperand, IsActionText, label_of}
+use Rattle.action_text.specs.Posts.{postorder}
+use Rattle.action_text.specs.Notes.{Noting, marked}
 use Rattle.action_text.specs.ActionTable.{action_table}
 use Rattle.action_text.proofs.Meanings.{Meant, Meaning}
-use Rattle.action_text.proofs.Means.{means, wrote, replaced, MeansPart, MeansAction, MeansChain, MeansMore}
+use Rattle.action_text.proofs.Means.{wrote, replaced, MeansPart, MeansAction, MeansChain, MeansMore}
 
 -- the two sides of an operator
 abbrev pub joined : Kind → Tree → Tree → Tree

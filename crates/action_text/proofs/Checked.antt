@@ -3,7 +3,6 @@ use Rattle.std.proofs.Common.{◌≡◌, ◌≢◌, ◌⊎◌, inl, inr, ℕ, ze
 use Rattle.std.proofs.lemmas.Bool.Decides.{eqb_tells}
 use Rattle.action_text.specs.declared.table.Symbol.{Symbol}
 use Rattle.action_text.specs.declared.table.Symbol.TheVariants.{Read, Keep, Emit, Name}
-use Rattle.action_text.specs.declared.table.Mark.{Mark}
 use Rattle.action_text.specs.Tables.{Written, Token, Line, Other, Table, line_of, other_of, with_token, Reads, Noted}
 use Rattle.action_text.proofs.Starts.{member, Known, can_start, can_be_empty, Starting, Choosing, Safe, SafeRight}
 use Rattle.action_text.proofs.Moves.{reads_both}

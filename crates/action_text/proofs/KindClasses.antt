@@ -1,5 +1,5 @@
 -- The class of a token of each kind.
-use Rattle.std.proofs.Common.{◌≡◌, ◌≢◌, ℕ, zero, suc, ◌≤◌, Bool, true, false, ◌&&◌, ◌==◌, List, [], ◌∷◌, length, take, Option, Some, None, refl, sym, ap, ◌∙◌, arith, nat_lt, if◌then◌else◌}
+use Rattle.std.proofs.Common.{◌≡◌, ℕ, suc, Bool, true, false, ◌&&◌, ◌==◌, List, [], ◌∷◌, length, take, Option, Some, None, refl, sym, ◌∙◌, arith, nat_lt, if◌then◌else◌}
 use Rattle.std.proofs.Math.Seq.{take-length}
 use Rattle.std.specs.Prelude.{ℤ, pos, neg_ℤ}
 use Rattle.std.specs.Option.{option_map, option_and_then}
@@ -7,11 +7,9 @@ use Rattle.std.specs.Char.{is_ascii_digit}
 use Rattle.std.specs.Str.{all_ascii_digits}
 use Rattle.std.proofs.lemmas.Bool.Decides.{nat_tests}
 use Rattle.acg_base.specs.Decimals.{spelled_i64, spelled_number, fits_i64, number_of}
-use Rattle.meta_lex.specs.Bytes.{is_letter, is_digit}
 use Rattle.meta_lex.specs.Forms.{has_form, is_quoted, kind_of}
-use Rattle.meta_lex.specs.Tokens.{IsToken}
 use Rattle.meta_lex.specs.declared.token.TokenKind.{TokenKind}
-use Rattle.meta_lex.specs.declared.token.TokenKind.TheVariants.{Word, Number, Quoted, Symbol}
+use Rattle.meta_lex.specs.declared.token.TokenKind.TheVariants.{Number, Quoted}
 use Rattle.meta_lex.proofs.FirstBytes.{kind_of_front, no_form}
 use Rattle.action_text.specs.declared.classes.TheConstants as class
 use Rattle.action_text.specs.Classes.{words, word_class, number_class, class_of}

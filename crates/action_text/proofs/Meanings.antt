@@ -1,5 +1,5 @@
 -- What names mean, and what symbols mean then: from moves to meanings, and from parts to moves.
-use Rattle.std.proofs.Common.{◌≡◌, ◌⊎◌, inl, inr, ℕ, zero, suc, Bool, true, false, List, [], ◌∷◌, ◌++◌, Option, Some, None, refl, sym, ap, ◌∙◌, append_assoc, append-nil, nat_eq, if◌then◌else◌, eqb-true}
+use Rattle.std.proofs.Common.{◌≡◌, inl, inr, ℕ, zero, suc, Bool, true, false, List, [], ◌∷◌, ◌++◌, Some, refl, sym, ap, ◌∙◌, append_assoc, append-nil, nat_eq, if◌then◌else◌, eqb-true}
 use Rattle.action_text.specs.declared.table.Symbol.{Symbol}
 use Rattle.action_text.specs.declared.table.Symbol.TheVariants.{Read, Keep, Emit, Name}
 use Rattle.action_text.specs.declared.table.Mark.{Mark}

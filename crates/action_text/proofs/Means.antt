@@ -1,10 +1,10 @@
 -- What each name of the table of action text means.
-use Rattle.std.proofs.Common.{◌≡◌, ◌⊎◌, inl, inr, ℕ, zero, suc, ◌+◌, Bool, true, false, List, [], ◌∷◌, ◌++◌, refl, sym, ap, ◌∙◌, append_assoc, append-nil, get_or, drop, codes}
-use Rattle.action_terms.specs.Labels.{Label, ActionNode, YielderNode, Wanted, AnAction, AYielder, AnItem, AClosure, under, copies, serves}
-use Rattle.action_terms.specs.Trees.{Tree, tree, Trees, none, more, Is, Are, IsAction}
+use Rattle.std.proofs.Common.{◌≡◌, ℕ, ◌+◌, List, [], ◌∷◌, ◌++◌, get_or, codes}
+use Rattle.action_terms.specs.Labels.{Label, ActionNode, Wanted, AnAction, AYielder, AnItem, AClosure, copies}
+use Rattle.action_terms.specs.Trees.{Tree, Trees, Is, Are, IsAction}
 use Rattle.action_terms.specs.declared.kinds.Kind.{Kind}
 use Rattle.action_terms.specs.declared.kinds.Kind.TheVariants as kind
-use Rattle.action_text.specs.Shapes.{Piece, Fixed, Numeral, Quoted, Part, shape, items, more_items, sort_word, open_paren}
+use Rattle.action_text.specs.Shapes.{items, more_items, sort_word, open_paren}
 use Rattle.action_text.specs.ActionText.{IsPlain, IsChain, ArePartsOf, IsPart, IsOperand, IsActionText, Weaves, label_of}
 use Rattle.action_text.specs.Posts.{postorder, postorders}
 use Rattle.action_text.specs.Notes.{Noting, Note, Count, NotedSort}

@@ -1,15 +1,15 @@
 -- The nodes whose own tokens are words and symbols alone: from the symbols of a row to the node.
-use Rattle.std.proofs.Common.{◌≡◌, ◌⊎◌, inl, inr, ℕ, zero, suc, Bool, true, false, ◌&&◌, List, [], ◌∷◌, ◌++◌, refl, sym, ap, subst, ◌∙◌, append_assoc, append-nil, nat_lt}
-use Rattle.action_terms.specs.Labels.{Label, ActionNode, YielderNode, Wanted, AnAction, AYielder, AnItem, AClosure, under, serves}
+use Rattle.std.proofs.Common.{◌≡◌, ℕ, Bool, true, false, ◌&&◌, List, [], ◌∷◌, ◌++◌, refl, sym, ap, subst, ◌∙◌, append_assoc, append-nil, nat_lt}
+use Rattle.action_terms.specs.Labels.{Label, Wanted, AnAction, AYielder, AnItem, AClosure, under, serves}
 use Rattle.action_terms.specs.Trees.{Tree, tree, Trees, none, more, Is, Are}
 use Rattle.action_text.specs.declared.table.Symbol.{Symbol}
-use Rattle.action_text.specs.declared.table.Symbol.TheVariants.{Read, Keep, Emit, Name}
+use Rattle.action_text.specs.declared.table.Symbol.TheVariants.{Read, Emit, Name}
 use Rattle.action_text.specs.declared.table.Mark.{Mark}
 use Rattle.action_text.specs.declared.names.TheConstants as name
 use Rattle.action_text.specs.Shapes.{Piece, Fixed, Numeral, Quoted, Part, shape}
 use Rattle.action_text.specs.ActionText.{IsPlain, IsChain, ArePartsOf, IsPart, Weaves}
 use Rattle.action_text.specs.Posts.{postorder, postorders}
-use Rattle.action_text.specs.Notes.{Noting, Note, marked, writes, note}
+use Rattle.action_text.specs.Notes.{Noting, Note, marked, writes}
 use Rattle.action_text.specs.Classes.{class_of}
 use Rattle.action_text.specs.ActionTable.{action_table}
 use Rattle.action_text.proofs.Meanings.{Meaning}

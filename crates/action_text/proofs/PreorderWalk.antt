@@ -5,12 +5,12 @@ use Rattle.action_terms.specs.Pushed.{label_of}
 use Rattle.action_terms.specs.declared.pushed.Pushed.{Pushed}
 use Rattle.std.proofs.lemmas.Bool.Decides.{eqb_tells}
 use Rattle.std.proofs.lemmas.List.{reverse-append, map-append}
-use Rattle.action_terms.specs.Labels.{Label, Wanted, AnAction, AnItem, under, copies}
+use Rattle.action_terms.specs.Labels.{Label, Wanted, AnAction, under, copies}
 use Rattle.action_terms.specs.Trees.{Tree, tree, Trees, none, more, Is, Are, IsAction, preorder, preorders}
 use Rattle.action_text.specs.Posts.{postorder, postorders}
 use Rattle.action_text.specs.Sizes.{step_back, start_back, tree_ends, AreSizes}
 use Rattle.action_text.proofs.OneTree.{count_of}
-use Rattle.action_text.proofs.TreeSizes.{tree_ends_last, start_back_last, start_front, trees_begin, tree_begins, under_count, label_at, inside}
+use Rattle.action_text.proofs.TreeSizes.{tree_ends_last, start_front, trees_begin, under_count, label_at, inside}
 
 pub length-copies : (n : ℕ) (x : Wanted) → length (copies n x) ≡ n
 length-copies zero x = refl
@@ -92,16 +92,19 @@ kids_end L sizes ok (more k kids) (x ∷ xs) are before after e es ts all =
     let end : length before + length (postorder k ++ postorders kids) ≡ length (before ++ postorder k) + length (postorders kids) = omega arith in
     let whole : L ≡ (before ++ postorder k) ++ (postorders kids ++ after) = e ∙ regroup before (postorder k) (postorders kids) after in
     let first : EndsAt L (start_back sizes (count_of kids) (length (before ++ postorder k) + length (postorders kids))) k = record {
-        wanted = x; is = are.0; before = before; after = postorders kids ++ after;
-        whole = e ∙ ap (λ y. before ++ y) (append_assoc (postorder k) (postorders kids) after);
-        end_is = trees_begin L sizes ok kids xs are.1 (before ++ postorder k) after whole ∙ m;
+      wanted = x;
+      is = are.0;
+      before = before;
+      after = postorders kids ++ after;
+      whole = e ∙ ap (λ y. before ++ y) (append_assoc (postorder k) (postorders kids) after);
+      end_is = trees_begin L sizes ok kids xs are.1 (before ++ postorder k) after whole ∙ m;
     } in
     let others = kids_end L sizes ok kids xs are.1 (before ++ postorder k) after whole es ts all in
     let list : reverse (tree_ends sizes (suc (count_of kids)) (length before + length (postorder k ++ postorders kids)))
-            ≡ start_back sizes (count_of kids) (length (before ++ postorder k) + length (postorders kids)) ∷ reverse (tree_ends sizes (count_of kids) (length (before ++ postorder k) + length (postorders kids))) =
-        ap (λ p. reverse (tree_ends sizes (suc (count_of kids)) p)) end
-        ∙ ap reverse (tree_ends_last sizes (count_of kids) (length (before ++ postorder k) + length (postorders kids)))
-        ∙ reverse-append (tree_ends sizes (count_of kids) (length (before ++ postorder k) + length (postorders kids))) (start_back sizes (count_of kids) (length (before ++ postorder k) + length (postorders kids)) ∷ []) in
+    ≡ start_back sizes (count_of kids) (length (before ++ postorder k) + length (postorders kids)) ∷ reverse (tree_ends sizes (count_of kids) (length (before ++ postorder k) + length (postorders kids))) =
+    ap (λ p. reverse (tree_ends sizes (suc (count_of kids)) p)) end
+    ∙ ap reverse (tree_ends_last sizes (count_of kids) (length (before ++ postorder k) + length (postorders kids)))
+    ∙ reverse-append (tree_ends sizes (count_of kids) (length (before ++ postorder k) + length (postorders kids))) (start_back sizes (count_of kids) (length (before ++ postorder k) + length (postorders kids)) ∷ []) in
     subst (λ y. AllEnd L (y ++ es) (k ∷ (listed kids ++ ts))) (sym list) (first, others)
 
 to_come_listed : (kids : Trees) (ts : List Tree) → to_come (listed kids ++ ts) ≡ preorders kids ++ to_come ts
@@ -116,18 +119,19 @@ walk_goes_on L sizes old new newer end ordered others d t ok e h f g =
     let label : get_or L (end - 1) d ≡ top.label = top_label L end top.label d top.kids top.ends in
     let place : end - 1 ≡ length top.ends.before + length (postorders top.kids) = (top_place L end top.label top.kids top.ends).0 in
     let whole : L ≡ top.ends.before ++ (postorders top.kids ++ (top.label ∷ top.ends.after)) =
-        top.ends.whole ∙ ap (λ y. top.ends.before ++ y) (append_assoc (postorders top.kids) (top.label ∷ []) top.ends.after) in
+    top.ends.whole ∙ ap (λ y. top.ends.before ++ y) (append_assoc (postorders top.kids) (top.label ∷ []) top.ends.after) in
     let ends = kids_end L sizes ok top.kids (under top.label) top.ends.is.1 top.ends.before (top.label ∷ top.ends.after) whole (reverse new) top.others top.rest in
     let stacked : reverse newer ≡ reverse (tree_ends sizes (count_of top.kids) (length top.ends.before + length (postorders top.kids))) ++ reverse new =
-        ap reverse f ∙ reverse-append new (tree_ends sizes (length (under (get_or L (end - 1) d))) (end - 1))
-        ∙ ap (λ n. reverse (tree_ends sizes n (end - 1)) ++ reverse new) (ap (λ k. length (under k)) label ∙ under_count top.label top.kids top.ends.is.1)
-        ∙ ap (λ p. reverse (tree_ends sizes (count_of top.kids) p) ++ reverse new) place in
-    (listed top.kids ++ top.others,
-        subst (λ y. AllEnd L y (listed top.kids ++ top.others)) (sym stacked) ends,
-        ap (λ y. y ++ to_come (listed top.kids ++ top.others)) (g ∙ ap (λ k. ordered ++ k ∷ []) label)
-        ∙ append_assoc ordered (top.label ∷ []) (to_come (listed top.kids ++ top.others))
-        ∙ ap (λ y. ordered ++ (top.label ∷ y)) (to_come_listed top.kids top.others)
-        ∙ top.labels)
+    ap reverse f ∙ reverse-append new (tree_ends sizes (length (under (get_or L (end - 1) d))) (end - 1))
+    ∙ ap (λ n. reverse (tree_ends sizes n (end - 1)) ++ reverse new) (ap (λ k. length (under k)) label ∙ under_count top.label top.kids top.ends.is.1)
+    ∙ ap (λ p. reverse (tree_ends sizes (count_of top.kids) p) ++ reverse new) place in (
+      listed top.kids ++ top.others,
+      subst (λ y. AllEnd L y (listed top.kids ++ top.others)) (sym stacked) ends,
+      ap (λ y. y ++ to_come (listed top.kids ++ top.others)) (g ∙ ap (λ k. ordered ++ k ∷ []) label)
+          ∙ append_assoc ordered (top.label ∷ []) (to_come (listed top.kids ++ top.others))
+          ∙ ap (λ y. ordered ++ (top.label ∷ y)) (to_come_listed top.kids top.others)
+          ∙ top.labels,
+    )
 
 -- the walk is over
 pub walk_ends : (L : List Label) (stack : List ℕ) (ordered : List Label) (t : Tree) → length stack ≡ 0 → Walks L stack ordered t → ordered ≡ preorder t
@@ -177,8 +181,8 @@ get_or_last (y ∷ xs) x (suc i) h = get_or_last xs x i (omega arith)
 
 pub sizes_more : (L : List Label) (sizes : List ℕ) (n x : ℕ) → SizesTo L sizes n → ((l : Label) → x ≡ (n + 1) - start_back sizes (length (under (get_or L n l))) n) → SizesTo L (sizes ++ x ∷ []) (n + 1)
 sizes_more L sizes n x h new = record {
-    lengths = omega (arith, length-append sizes (x ∷ []), h.lengths);
-    each = λ i l below. by_place i l below (eqb_tells i n);
+  lengths = omega (arith, length-append sizes (x ∷ []), h.lengths);
+  each = λ i l below. by_place i l below (eqb_tells i n);
 }
   where
     by_place : (i : ℕ) (l : Label) → i < n + 1 → ((nat_eq i n ≡ true) × (i ≡ n)) ⊎ ((nat_eq i n ≡ false) × (i ≢ n))
@@ -225,7 +229,7 @@ walk_step labels sizes list old new newer end count ordered others d t ok same e
     let l : Label = label_of d in
     let there : get_or (map label_of labels) (end - 1) l ≡ label_of (get_or labels (end - 1) d) = label_there labels (end - 1) d l (omega arith) in
     let ends : newer ≡ new ++ tree_ends list (length (under (get_or (map label_of labels) (end - 1) l))) (end - 1) =
-        f ∙ ap (λ z. new ++ tree_ends z count (end - 1)) same ∙ ap (λ n. new ++ tree_ends list n (end - 1)) (parts ∙ ap (λ k. length (under k)) (sym there)) in
+    f ∙ ap (λ z. new ++ tree_ends z count (end - 1)) same ∙ ap (λ n. new ++ tree_ends list n (end - 1)) (parts ∙ ap (λ k. length (under k)) (sym there)) in
     let written : map label_of others ≡ map label_of ordered ++ get_or (map label_of labels) (end - 1) l ∷ [] =
-        ap (map label_of) g ∙ map-append label_of ordered (get_or labels (end - 1) d ∷ []) ∙ ap (λ k. map label_of ordered ++ k ∷ []) (sym there) in
+    ap (map label_of) g ∙ map-append label_of ordered (get_or labels (end - 1) d ∷ []) ∙ ap (λ k. map label_of ordered ++ k ∷ []) (sym there) in
     walk_goes_on (map label_of labels) list old new newer end (map label_of ordered) (map label_of others) l t ok e h ends written

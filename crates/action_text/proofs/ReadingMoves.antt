@@ -214,8 +214,8 @@ le_cases n m le = elim (eqb_tells n m) [ inl e ↦ inl e.1 | inr e ↦ inr (let 
 pub not_at : (all : List (List ℕ)) (classes : List ℕ) (at c : ℕ) (found : Bool) → classes ≡ map class_of all → at ≤ length all → ((at < length classes) × (get_or classes at 0 ≡ c) → found ≡ true) → found ≡ false → NotAt all at c
 not_at all classes at c found e le test none_found =
     elim (le_cases at (length all) le) [
-        inl end ↦ inl end
-        | inr lt ↦ inr (lt, λ same. let both : true ≡ false = sym (test (omega (arith, length_classes all classes e), class_at all classes at e lt ∙ same)) ∙ none_found in cc)
+      | inl end ↦ inl end
+      | inr lt ↦ inr (lt, λ same. let both : true ≡ false = sym (test (omega (arith, length_classes all classes e), class_at all classes at e lt ∙ same)) ∙ none_found in cc)
     ]
 
 -- a token of the class stands at the place

@@ -1,27 +1,26 @@
 -- Each row of the table of action text does what its name means.
-use Rattle.std.proofs.Common.{◌≡◌, ◌⊎◌, inl, inr, ℕ, zero, suc, ◌+◌, Bool, true, false, ◌&&◌, List, [], ◌∷◌, ◌++◌, Option, Some, None, refl, sym, ap, subst, ◌∙◌, append_assoc, append-nil, codes, drop, nat_lt, if◌then◌else◌, arith}
+use Rattle.std.proofs.Common.{◌≡◌, inl, inr, ℕ, zero, suc, ◌+◌, Bool, true, false, ◌&&◌, List, [], ◌∷◌, ◌++◌, Some, refl, sym, ap, subst, ◌∙◌, append_assoc, append-nil, codes, drop, nat_lt, if◌then◌else◌, arith}
 use Rattle.std.specs.Prelude.{ℤ, pos, negsuc, nat_le, unwrap_or}
 use Rattle.acg_base.specs.Decimals.{spelled_i64}
 use Rattle.action_terms.specs.Labels.{Label, ActionNode, YielderNode, Wanted, AnAction, AYielder, AnItem, AClosure, under, copies, serves, is_token}
-use Rattle.action_terms.specs.Trees.{Tree, tree, Trees, none, more, Is, Are, IsAction}
+use Rattle.action_terms.specs.Trees.{Tree, tree, Trees, none, more, Is, Are}
 use Rattle.action_terms.specs.declared.kinds.Kind.{Kind}
 use Rattle.action_terms.specs.declared.kinds.Kind.TheVariants as kind
 use Rattle.action_terms.specs.declared.kinds.YKind.TheVariants as ykind
 use Rattle.action_terms.specs.declared.kinds.Sort.{Sort}
 use Rattle.action_terms.specs.declared.kinds.Sort.TheVariants as sort
-use Rattle.action_text.specs.declared.table.Symbol.{Symbol}
 use Rattle.action_text.specs.declared.table.Symbol.TheVariants.{Read, Keep, Emit, Name}
 use Rattle.action_text.specs.declared.table.Mark.TheVariants as mark
 use Rattle.action_text.specs.declared.classes.TheConstants as class
 use Rattle.action_text.specs.declared.names.TheConstants as name
-use Rattle.action_text.specs.Shapes.{Piece, Fixed, Numeral, Quoted, Part, shape, items, more_items, sort_word, open_paren, close_paren, comma, one_argument, two_arguments}
-use Rattle.action_text.specs.ActionText.{IsPlain, IsChain, ArePartsOf, IsPart, IsOperand, IsEnclosed, IsActionText, Weaves}
+use Rattle.action_text.specs.Shapes.{Fixed, Part, shape, items, more_items, sort_word, open_paren, close_paren, comma, one_argument, two_arguments}
+use Rattle.action_text.specs.ActionText.{IsPlain, IsChain, ArePartsOf, IsOperand, IsActionText, Weaves}
 use Rattle.action_text.specs.Posts.{postorder, postorders}
 use Rattle.action_text.specs.Notes.{Noting, Note, KeptToken, Count, NotedSort, marked, note, unquoted, value_of, place_of}
 use Rattle.action_text.specs.Classes.{class_of, is_place}
 use Rattle.action_text.specs.ActionTable.{action_table, action_lines, action_others, line, other}
 use Rattle.action_text.proofs.Meanings.{Meaning, LineMeans, LinesMean, OtherMeans, OthersMean}
-use Rattle.action_text.proofs.Means.{means, wrote, MeansPart, MeansAction, MeansRest, MeansChain, MeansMore, MeansItems, MeansMoreItems, MeansSorted, MeansSort}
+use Rattle.action_text.proofs.Means.{means, wrote, MeansPart, MeansRest, MeansChain, MeansMore, MeansItems, MeansMoreItems, MeansSorted, MeansSort}
 use Rattle.action_text.proofs.Words.{word_count, is_word_of, quoted_of_class, number_of_class}
 use Rattle.action_text.proofs.QuotedTokens.{quoted_is}
 use Rattle.action_text.proofs.Nodes.{node_row, rest_row, rest_other, under_means, noted_node, plain_part}

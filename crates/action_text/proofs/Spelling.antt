@@ -1,27 +1,24 @@
 -- From the spelling of a node to the moves that read it: words, parts and chains.
-use Rattle.std.proofs.Common.{◌≡◌, ◌⊎◌, inl, inr, ℕ, zero, suc, Bool, true, false, ◌&&◌, List, [], ◌∷◌, ◌++◌, Option, Some, None, refl, sym, ap, subst, ◌∙◌, append_assoc, append-nil, codes, nat_eq, nat_lt, if◌then◌else◌, eqb-true}
-use Rattle.action_terms.specs.Labels.{Label, ActionNode, YielderNode, Wanted, AnAction, AYielder, AnItem, AClosure, under, serves, items_fit, token_fits, has_no_token}
+use Rattle.std.proofs.Common.{◌≡◌, inl, inr, ℕ, zero, suc, true, false, List, [], ◌∷◌, ◌++◌, Some, refl, sym, ap, subst, ◌∙◌, append_assoc, append-nil, nat_eq, nat_lt, eqb-true}
+use Rattle.action_terms.specs.Labels.{ActionNode, YielderNode, Wanted, AnAction, AYielder, AnItem, AClosure, items_fit, token_fits, has_no_token}
 use Rattle.action_terms.specs.Trees.{Tree, tree, Trees, none, more, Is, Are, IsAction}
 use Rattle.action_terms.specs.declared.kinds.Kind.{Kind}
 use Rattle.action_terms.specs.declared.kinds.Kind.TheVariants as kind
 use Rattle.action_text.specs.declared.table.Symbol.{Symbol}
-use Rattle.action_text.specs.declared.table.Symbol.TheVariants.{Read, Keep, Emit, Name}
-use Rattle.action_text.specs.declared.table.Mark.{Mark}
-use Rattle.action_text.specs.declared.table.Mark.TheVariants as mark
+use Rattle.action_text.specs.declared.table.Symbol.TheVariants.{Read, Name}
 use Rattle.action_text.specs.declared.classes.TheConstants as class
 use Rattle.action_text.specs.declared.names.TheConstants as name
 use Rattle.action_text.specs.Tables.{line_of, other_of}
-use Rattle.action_text.specs.Shapes.{Piece, Fixed, Numeral, Quoted, Part, shape, operator, operator_of, open_paren, close_paren}
-use Rattle.action_text.specs.ActionText.{IsPlain, IsChain, ArePartsOf, IsPart, IsOperand, IsEnclosed, IsActionText, Weaves, label_of}
+use Rattle.action_text.specs.Shapes.{Piece, Fixed, Numeral, Quoted, Part, operator, open_paren, close_paren}
+use Rattle.action_text.specs.ActionText.{IsPlain, IsChain, ArePartsOf, IsPart, IsEnclosed, Weaves, label_of}
 use Rattle.action_text.specs.Posts.{postorder, postorders}
-use Rattle.action_text.specs.Notes.{Noting, Note, marked, writes, note}
+use Rattle.action_text.specs.Notes.{Noting}
 use Rattle.action_text.specs.Classes.{class_of}
 use Rattle.action_text.specs.ActionTable.{action_table, action_lines, action_others, line, other}
-use Rattle.action_text.proofs.Meanings.{Does, does_nothing, does_read, does_keep, does_emit, does_both, does_line, does_other}
-use Rattle.action_text.proofs.Means.{wrote, replaced}
+use Rattle.action_text.proofs.Meanings.{Does, does_nothing, does_read, does_both, does_line, does_other}
+use Rattle.action_text.proofs.Means.{wrote}
 use Rattle.action_text.proofs.Nodes.{name_of, symbols, is_named, fits, and_left, and_right, wrote_both, wrote_nothing}
 use Rattle.action_text.proofs.Words.{word_count}
-use Rattle.action_text.proofs.Chains.{IsOperator, joined, joined_labels}
 
 -- the symbols lead from the one state over the tokens to the other
 abbrev pub Goes : List Symbol → Noting → List (List ℕ) → Noting → Type 0

@@ -1,28 +1,26 @@
 -- The action nodes that are spelled by their own tokens are read.
-use Rattle.std.proofs.Common.{◌≡◌, ◌⊎◌, inl, inr, ℕ, zero, suc, ◌+◌, Bool, true, false, ◌&&◌, List, [], ◌∷◌, ◌++◌, Some, None, refl, sym, ap, subst, ◌∙◌, append_assoc, append-nil, codes, drop, nat_eq, nat_lt, eqb-true, arith}
-use Rattle.action_terms.specs.Labels.{Label, ActionNode, YielderNode, Wanted, AnAction, AYielder, AnItem, AClosure, under, copies, serves, items_fit, token_fits, has_no_token, is_token, is_datum, yielder_fits}
-use Rattle.action_terms.specs.Trees.{Tree, tree, Trees, none, more, Is, Are, IsAction}
+use Rattle.std.proofs.Common.{◌≡◌, ◌⊎◌, inl, inr, ℕ, zero, suc, ◌+◌, true, List, [], ◌∷◌, ◌++◌, refl, sym, ap, subst, ◌∙◌, append_assoc, append-nil, codes, nat_eq, eqb-true, arith}
+use Rattle.action_terms.specs.Labels.{Label, ActionNode, YielderNode, AnAction, AYielder, AnItem, AClosure, copies, serves, has_no_token, is_token}
+use Rattle.action_terms.specs.Trees.{Tree, tree, Trees, none, more, Is, Are}
 use Rattle.action_terms.specs.declared.kinds.Kind.{Kind}
 use Rattle.action_terms.specs.declared.kinds.Kind.TheVariants as kind
 use Rattle.action_terms.specs.declared.kinds.YKind.TheVariants as ykind
-use Rattle.action_text.specs.declared.table.Symbol.{Symbol}
 use Rattle.action_text.specs.declared.table.Symbol.TheVariants.{Read, Keep, Emit, Name}
 use Rattle.action_text.specs.declared.table.Mark.TheVariants as mark
 use Rattle.action_text.specs.declared.classes.TheConstants as class
 use Rattle.action_text.specs.declared.names.TheConstants as name
 use Rattle.action_text.specs.Tables.{line_of, other_of, Token}
-use Rattle.action_text.specs.Shapes.{Piece, Fixed, Numeral, Quoted, Part, shape, items, more_items, open_paren, close_paren, comma}
-use Rattle.action_text.specs.ActionText.{IsPlain, IsChain, ArePartsOf, IsPart, IsOperand, Weaves}
+use Rattle.action_text.specs.Shapes.{Fixed, Part, items, more_items, open_paren, close_paren, comma}
+use Rattle.action_text.specs.ActionText.{IsPlain, ArePartsOf, Weaves}
 use Rattle.action_text.specs.Posts.{postorder, postorders}
-use Rattle.action_text.specs.Notes.{Noting, Note, KeptToken, Count, marked, note, unquoted, counted}
-use Rattle.action_text.specs.Classes.{class_of}
-use Rattle.action_text.specs.ActionTable.{action_table, action_lines, action_others, line, other}
-use Rattle.action_text.proofs.Meanings.{does_nothing, does_keep, does_emit, does_line, does_other}
+use Rattle.action_text.specs.Notes.{Noting, Note, Count, marked, note}
+use Rattle.action_text.specs.ActionTable.{action_table, action_lines, action_others}
+use Rattle.action_text.proofs.Meanings.{does_nothing, does_keep, does_emit, does_other}
 use Rattle.action_text.proofs.Means.{wrote}
-use Rattle.action_text.proofs.Nodes.{and_left, and_right, wrote_both}
+use Rattle.action_text.proofs.Nodes.{and_left, and_right}
 use Rattle.action_text.proofs.QuotedTokens.{unquoted_back}
-use Rattle.action_text.proofs.Spelling.{Goes, AllGo, PlainGoes, ChainGoes, word_line, word_read, name_then, end_at, on_tokens, part_goes, pieces_go}
-use Rattle.action_text.proofs.SpeltNodes.{NodeGoes, node_goes, begun_goes, begun_other_goes, shapeless, bare, no_token, quoted_class}
+use Rattle.action_text.proofs.Spelling.{Goes, AllGo, PlainGoes, word_line, word_read, name_then, end_at, on_tokens, part_goes, pieces_go}
+use Rattle.action_text.proofs.SpeltNodes.{NodeGoes, node_goes, begun_other_goes, shapeless, bare, no_token, quoted_class}
 
 -- the state behind data: the number of items is noted, and their labels are written
 abbrev pub behind_items : ℕ → Trees → Noting → Noting

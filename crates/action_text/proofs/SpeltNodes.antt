@@ -1,36 +1,28 @@
 -- Each node that is spelled by its own tokens is read.
-use Rattle.std.proofs.Common.{◌≡◌, ◌≢◌, ◌⊎◌, inl, inr, ℕ, zero, suc, ◌+◌, Bool, true, false, ◌&&◌, not, List, [], ◌∷◌, ◌++◌, Option, Some, None, refl, sym, ap, subst, ◌∙◌, append_assoc, append-nil, codes, drop, nat_eq, nat_lt, if◌then◌else◌, eqb-true, ◌==◌, arith, length}
-use Rattle.std.specs.Prelude.{ℤ, pos, negsuc, nat_le, unwrap_or}
+use Rattle.std.proofs.Common.{◌≡◌, ℕ, Bool, true, false, ◌&&◌, List, [], ◌∷◌, ◌++◌, Option, Some, None, refl, sym, ap, subst, ◌∙◌, append-nil, nat_eq, nat_lt, if◌then◌else◌, eqb-true, ◌==◌, length}
+use Rattle.std.specs.Prelude.{ℤ, pos}
 use Rattle.std.specs.Option.{option_map, option_and_then}
 use Rattle.acg_base.specs.Decimals.{spelled_i64, fits_i64, number_of}
 use Rattle.meta_lex.specs.Forms.{is_quoted, is_closed}
-use Rattle.action_terms.specs.Labels.{Label, ActionNode, YielderNode, Wanted, AnAction, AYielder, AnItem, AClosure, under, under_action, copies, serves, items_fit, token_fits, has_no_token, is_token, is_datum, is_closure, yielder_fits}
-use Rattle.action_terms.specs.Trees.{Tree, tree, Trees, none, more, Is, Are, IsAction}
+use Rattle.action_terms.specs.Labels.{Label, ActionNode, YielderNode, Wanted, under, has_no_token, is_token}
+use Rattle.action_terms.specs.Trees.{tree, Trees, none, more, Are}
 use Rattle.action_terms.specs.declared.kinds.Kind.{Kind}
-use Rattle.action_terms.specs.declared.kinds.Kind.TheVariants as kind
 use Rattle.action_terms.specs.declared.kinds.YKind.{YKind}
-use Rattle.action_terms.specs.declared.kinds.YKind.TheVariants as ykind
-use Rattle.action_terms.specs.declared.kinds.Sort.{Sort}
-use Rattle.action_terms.specs.declared.kinds.Sort.TheVariants as sort
-use Rattle.action_text.specs.declared.table.Symbol.{Symbol}
-use Rattle.action_text.specs.declared.table.Symbol.TheVariants.{Read, Keep, Emit, Name}
+use Rattle.action_text.specs.declared.table.Symbol.TheVariants.{Emit, Name}
 use Rattle.action_text.specs.declared.table.Mark.{Mark}
-use Rattle.action_text.specs.declared.table.Mark.TheVariants as mark
 use Rattle.action_text.specs.declared.classes.TheConstants as class
-use Rattle.action_text.specs.declared.names.TheConstants as name
-use Rattle.action_text.specs.Tables.{line_of, other_of, Token}
-use Rattle.action_text.specs.Shapes.{Piece, Fixed, Numeral, Quoted, Part, shape, items, more_items, sort_word, open_paren, close_paren, comma, one_argument, two_arguments}
-use Rattle.action_text.specs.ActionText.{IsPlain, IsChain, ArePartsOf, IsPart, IsOperand, Weaves}
+use Rattle.action_text.specs.Tables.{line_of, other_of}
+use Rattle.action_text.specs.Shapes.{Piece, Fixed, shape}
+use Rattle.action_text.specs.ActionText.{IsPlain, ArePartsOf, Weaves}
 use Rattle.action_text.specs.Posts.{postorder, postorders}
-use Rattle.action_text.specs.Notes.{Noting, Note, KeptToken, Count, NotedSort, marked, writes, note, unquoted, value_of, place_of, counted}
-use Rattle.action_text.specs.Classes.{class_of, is_place, number_class}
-use Rattle.action_text.specs.ActionTable.{action_table, action_lines, action_others, line, other}
-use Rattle.action_text.proofs.Meanings.{does_nothing, does_keep, does_emit, does_line, does_other}
+use Rattle.action_text.specs.Notes.{Noting, marked, writes}
+use Rattle.action_text.specs.Classes.{class_of, is_place}
+use Rattle.action_text.specs.ActionTable.{action_table, action_lines, action_others, line}
+use Rattle.action_text.proofs.Meanings.{does_nothing, does_emit, does_other}
 use Rattle.action_text.proofs.Means.{wrote}
-use Rattle.action_text.proofs.Nodes.{name_of, symbols, is_named, fits, and_left, and_right, wrote_both, wrote_nothing}
-use Rattle.action_text.proofs.Words.{word_count}
-use Rattle.action_text.proofs.QuotedTokens.{quoted_of_token, unquoted_back}
-use Rattle.action_text.proofs.Spelling.{Goes, AllGo, word_line, word_read, name_then, end_at, on_tokens, part_goes, pieces_go}
+use Rattle.action_text.proofs.Nodes.{symbols, fits, wrote_both}
+use Rattle.action_text.proofs.QuotedTokens.{quoted_of_token}
+use Rattle.action_text.proofs.Spelling.{Goes, AllGo, word_line, end_at, on_tokens, pieces_go}
 
 -- a node of the label is read where the name stands
 abbrev pub NodeGoes : ℕ → Label → Type 0

@@ -1,32 +1,30 @@
 -- The yielders are read as they are spelled.
-use Rattle.std.proofs.Common.{◌≡◌, ◌⊎◌, inl, inr, ℕ, zero, suc, ◌+◌, Bool, true, false, ◌&&◌, List, [], ◌∷◌, ◌++◌, Option, Some, None, refl, sym, ap, subst, ◌∙◌, append_assoc, append-nil, codes, drop, nat_eq, nat_lt, if◌then◌else◌, arith}
-use Rattle.std.specs.Prelude.{ℤ, pos, negsuc, nat_le, unwrap_or}
+use Rattle.std.proofs.Common.{◌≡◌, ℕ, zero, suc, Bool, true, false, List, [], ◌∷◌, ◌++◌, refl, sym, ap, subst, ◌∙◌, append_assoc, append-nil, codes, if◌then◌else◌, arith}
+use Rattle.std.specs.Prelude.{ℤ, pos, nat_le, unwrap_or}
 use Rattle.std.proofs.lemmas.Bool.Decides.{nat_tests}
-use Rattle.acg_base.specs.Decimals.{spelled_i64}
-use Rattle.action_terms.specs.Labels.{Label, ActionNode, YielderNode, Wanted, AnAction, AYielder, AnItem, AClosure, under, serves, has_no_token, is_token, is_datum, is_closure, yielder_fits}
-use Rattle.action_terms.specs.Trees.{Tree, tree, Trees, none, more, Is, Are}
+use Rattle.action_terms.specs.Labels.{YielderNode, AYielder, serves, has_no_token, is_token}
+use Rattle.action_terms.specs.Trees.{tree, none, more}
 use Rattle.action_terms.specs.declared.kinds.YKind.{YKind}
 use Rattle.action_terms.specs.declared.kinds.YKind.TheVariants as ykind
 use Rattle.action_terms.specs.declared.kinds.Sort.{Sort}
 use Rattle.action_terms.specs.declared.kinds.Sort.TheVariants as sort
-use Rattle.action_text.specs.declared.table.Symbol.{Symbol}
 use Rattle.action_text.specs.declared.table.Symbol.TheVariants.{Read, Keep, Emit, Name}
 use Rattle.action_text.specs.declared.table.Mark.TheVariants as mark
 use Rattle.action_text.specs.declared.classes.TheConstants as class
 use Rattle.action_text.specs.declared.names.TheConstants as name
 use Rattle.action_text.specs.Tables.{line_of, other_of, Token}
-use Rattle.action_text.specs.Shapes.{Piece, Fixed, Numeral, Quoted, Part, shape, sort_word, open_paren, close_paren, comma, one_argument, two_arguments}
-use Rattle.action_text.specs.ActionText.{IsPlain, ArePartsOf, Weaves}
+use Rattle.action_text.specs.Shapes.{Fixed, Part, sort_word, open_paren, close_paren, comma, one_argument, two_arguments}
+use Rattle.action_text.specs.ActionText.{Weaves}
 use Rattle.action_text.specs.Posts.{postorder, postorders}
-use Rattle.action_text.specs.Notes.{Noting, Note, KeptToken, NotedSort, marked, note, unquoted, value_of, place_of}
-use Rattle.action_text.specs.Classes.{class_of, is_place}
-use Rattle.action_text.specs.ActionTable.{action_table, action_lines, action_others, line, other}
-use Rattle.action_text.proofs.Meanings.{does_nothing, does_keep, does_emit, does_line, does_other}
+use Rattle.action_text.specs.Notes.{Noting, marked, note, value_of, place_of}
+use Rattle.action_text.specs.Classes.{is_place}
+use Rattle.action_text.specs.ActionTable.{action_table, action_lines, action_others, line}
+use Rattle.action_text.proofs.Meanings.{does_keep, does_line, does_other}
 use Rattle.action_text.proofs.Means.{wrote}
 use Rattle.action_text.proofs.Nodes.{and_left, and_right}
 use Rattle.action_text.proofs.QuotedTokens.{unquoted_back}
-use Rattle.action_text.proofs.Spelling.{Goes, AllGo, word_line, word_read, name_then, end_at, on_tokens, pieces_go}
-use Rattle.action_text.proofs.SpeltNodes.{NodeGoes, node_goes, begun_goes, bare_yielder, no_token, quoted_class, number_class_of}
+use Rattle.action_text.proofs.Spelling.{Goes, word_line, word_read, name_then, on_tokens, pieces_go}
+use Rattle.action_text.proofs.SpeltNodes.{NodeGoes, node_goes, begun_goes, bare_yielder, quoted_class, number_class_of}
 use Rattle.action_text.proofs.SpeltActions.{emits}
 
 number_goes : (z : ℤ) → NodeGoes name.YIELDER (YielderNode (ykind.Number z) [])

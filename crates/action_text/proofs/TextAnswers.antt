@@ -1,5 +1,5 @@
 -- What the parts of reading an action text answer together.
-use Rattle.std.proofs.Common.{◌≡◌, ℕ, zero, suc, ◌+◌, ◌<◌, ◌≤◌, List, [], ◌∷◌, length, get_or, map, refl, sym, ap, subst, ◌∙◌, arith}
+use Rattle.std.proofs.Common.{◌≡◌, ℕ, zero, suc, ◌<◌, ◌≤◌, List, [], ◌∷◌, length, get_or, map, refl, ap, subst, ◌∙◌, arith}
 use Rattle.meta_lex.specs.Tokens.{PlainToken, AreTokens, plain_token}
 use Rattle.meta_lex.specs.declared.token.Token.{Token}
 use Rattle.action_terms.specs.Trees.{Tree}
@@ -25,11 +25,11 @@ is_text bytes tokens read t e are spells =
 pub is_bad : (bytes : List ℕ) (tokens : List Token) (read : List PlainToken) (place offset : ℕ) → map plain_token tokens ≡ read → AreTokens bytes read → IsFirstBad (texts tokens) place
     → offset ≡ offset_of (map plain_token tokens) place (length bytes) → IsBadText bytes offset
 is_bad bytes tokens read place offset e are bad at = record {
-    tokens = read;
-    are_tokens = are;
-    place = place;
-    first_bad = subst (λ y. IsFirstBad y place) (texts_read tokens read e) bad;
-    offset_is = at ∙ ap (λ y. offset_of y place (length bytes)) e;
+  tokens = read;
+  are_tokens = are;
+  place = place;
+  first_bad = subst (λ y. IsFirstBad y place) (texts_read tokens read e) bad;
+  offset_is = at ∙ ap (λ y. offset_of y place (length bytes)) e;
 }
 
 pub offset_here : (tokens : List Token) (place size : ℕ) (d : Token) → place < length tokens → offset_of (map plain_token tokens) place size ≡ (get_or tokens place d).offset

@@ -1,8 +1,7 @@
 -- The sizes of the trees that end with each label.
-use Rattle.std.proofs.Common.{◌≡◌, ℕ, zero, suc, ◌+◌, ◌-◌, ◌<◌, ◌≤◌, List, [], ◌∷◌, ◌++◌, length, get_or, reverse, refl, sym, ap, subst, ◌∙◌, arith, append_assoc, append-nil, length-append}
-use Rattle.std.proofs.lemmas.List.{reverse-append}
-use Rattle.action_terms.specs.Labels.{Label, Wanted, AnAction, under}
-use Rattle.action_terms.specs.Trees.{Tree, tree, Trees, none, more, Is, Are, IsAction, preorder, preorders}
+use Rattle.std.proofs.Common.{◌≡◌, ℕ, zero, suc, ◌+◌, ◌-◌, ◌<◌, ◌≤◌, List, [], ◌∷◌, ◌++◌, length, get_or, refl, sym, ap, ◌∙◌, arith, append_assoc, length-append}
+use Rattle.action_terms.specs.Labels.{Label, Wanted, under}
+use Rattle.action_terms.specs.Trees.{Tree, tree, Trees, none, more, Is, Are}
 use Rattle.action_text.specs.Posts.{postorder, postorders}
 use Rattle.action_text.specs.Sizes.{step_back, start_back, tree_ends, AreSizes}
 use Rattle.action_text.proofs.OneTree.{count_of, count_is}
@@ -45,7 +44,7 @@ under_count l kids are = let e = count_is (under l) kids are in omega (arith, e)
 pub label_at : (L before after : List Label) (ts : Trees) (l d : Label) → L ≡ before ++ ((postorders ts ++ l ∷ []) ++ after) → get_or L (length before + length (postorders ts)) d ≡ l
 label_at L before after ts l d e =
     let whole : L ≡ (before ++ postorders ts) ++ l ∷ after =
-        e ∙ ap (λ y. before ++ y) (append_assoc (postorders ts) (l ∷ []) after) ∙ sym (append_assoc before (postorders ts) (l ∷ after)) in
+    e ∙ ap (λ y. before ++ y) (append_assoc (postorders ts) (l ∷ []) after) ∙ sym (append_assoc before (postorders ts) (l ∷ after)) in
     let place : length before + length (postorders ts) ≡ length (before ++ postorders ts) = sym (length-append before (postorders ts)) in
     ap (λ y. get_or y (length before + length (postorders ts)) d) whole
     ∙ ap (λ n. get_or ((before ++ postorders ts) ++ l ∷ after) n d) place
@@ -77,14 +76,14 @@ mutual
       let place : ℕ = length before + length (postorders ts) in
       let fits : length before + length (postorders ts ++ l ∷ []) ≤ length L = inside L before (postorders ts ++ l ∷ []) after e in
       let kids : start_back sizes (count_of ts) (length before + length (postorders ts)) ≡ length before =
-          trees_begin L sizes ok ts (under l) is.1 before (l ∷ after) (e ∙ ap (λ y. before ++ y) (append_assoc (postorders ts) (l ∷ []) after)) in
+      trees_begin L sizes ok ts (under l) is.1 before (l ∷ after) (e ∙ ap (λ y. before ++ y) (append_assoc (postorders ts) (l ∷ []) after)) in
       let there : get_or L (length before + length (postorders ts)) l ≡ l = label_at L before after ts l l e in
       let size : get_or sizes (length before + length (postorders ts)) 0 ≡ (length before + length (postorders ts) + 1) - start_back sizes (length (under (get_or L (length before + length (postorders ts)) l))) (length before + length (postorders ts)) =
-          ok.each (length before + length (postorders ts)) l (omega arith) in
+      ok.each (length before + length (postorders ts)) l (omega arith) in
       let size_is : get_or sizes (length before + length (postorders ts)) 0 ≡ length (postorders ts) + 1 =
-          size ∙ ap (λ k. (length before + length (postorders ts) + 1) - start_back sizes (length (under k)) (length before + length (postorders ts))) there
-          ∙ ap (λ k. (length before + length (postorders ts) + 1) - start_back sizes k (length before + length (postorders ts))) (under_count l ts is.1)
-          ∙ ap (λ k. (length before + length (postorders ts) + 1) - k) kids ∙ left (length before) (length (postorders ts)) in
+      size ∙ ap (λ k. (length before + length (postorders ts) + 1) - start_back sizes (length (under k)) (length before + length (postorders ts))) there
+      ∙ ap (λ k. (length before + length (postorders ts) + 1) - start_back sizes k (length before + length (postorders ts))) (under_count l ts is.1)
+      ∙ ap (λ k. (length before + length (postorders ts) + 1) - k) kids ∙ left (length before) (length (postorders ts)) in
       let end : length before + length (postorders ts ++ l ∷ []) ≡ suc (length before + length (postorders ts)) = omega arith in
       ap (step_back sizes) end ∙ ap (λ k. suc (length before + length (postorders ts)) - get_or sizes k 0) (one_less (length before + length (postorders ts)))
       ∙ back (length before) (length (postorders ts)) (get_or sizes (length before + length (postorders ts)) 0) size_is
@@ -98,7 +97,7 @@ mutual
       let m : length (before ++ postorder t) ≡ length before + length (postorder t) = length-append before (postorder t) in
       let end : length before + length (postorder t ++ postorders ts) ≡ length (before ++ postorder t) + length (postorders ts) = omega arith in
       let others : start_back sizes (count_of ts) (length (before ++ postorder t) + length (postorders ts)) ≡ length (before ++ postorder t) =
-          trees_begin L sizes ok ts xs are.1 (before ++ postorder t) after (e ∙ regroup before (postorder t) (postorders ts) after) in
+      trees_begin L sizes ok ts xs are.1 (before ++ postorder t) after (e ∙ regroup before (postorder t) (postorders ts) after) in
       start_back_last sizes (count_of ts) (length before + length (postorder t ++ postorders ts))
       ∙ ap (λ k. step_back sizes (start_back sizes (count_of ts) k)) end
       ∙ ap (step_back sizes) (others ∙ m)

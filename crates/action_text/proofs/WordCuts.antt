@@ -1,8 +1,6 @@
 -- The words, as they stand one behind the other.
 use Rattle.std.proofs.Common.{◌≡◌, ℕ, zero, suc, ◌+◌, ◌<◌, ◌≤◌, Bool, true, false, ◌&&◌, List, [], ◌∷◌, length, get_or, refl, drop, arith, nat_lt, ltb-true, if◌then◌else◌}
 use Rattle.std.specs.Prelude.{slice_range}
-use Rattle.std.proofs.Math.Seq.{drop-cons}
-use Rattle.action_text.specs.declared.classes.TheConstants as class
 use Rattle.action_text.specs.declared.token_class.TheConstants.{WORD_BYTES, WORD_STARTS}
 use Rattle.action_text.specs.Classes.{words, same_bytes, word_class}
 use Rattle.action_text.proofs.Checked.{below, below_each}

@@ -1,7 +1,6 @@
 -- What the class of a token says of its bytes.
-use Rattle.std.proofs.Common.{◌≡◌, ◌⊎◌, inl, inr, ℕ, zero, suc, ◌+◌, ◌-◌, ◌<◌, ◌≤◌, Bool, true, false, ◌&&◌, List, [], ◌∷◌, ◌++◌, length, take, drop, Option, Some, None, refl, sym, ap, ◌∙◌, arith, get_or, nat_eq, nat_lt, if◌then◌else◌, eqb-true, eq-eqb, ltb-true}
-use Rattle.std.specs.Prelude.{ℤ, pos, negsuc, nat_le}
-use Rattle.std.proofs.lemmas.Bool.Decides.{nat_tests}
+use Rattle.std.proofs.Common.{◌≡◌, ℕ, suc, ◌+◌, ◌<◌, Bool, true, false, ◌&&◌, List, [], ◌∷◌, length, Option, Some, None, refl, sym, ap, ◌∙◌, arith, get_or, nat_eq, nat_lt, if◌then◌else◌, eqb-true, eq-eqb, ltb-true}
+use Rattle.std.specs.Prelude.{ℤ}
 use Rattle.acg_base.specs.Decimals.{spelled_i64}
 use Rattle.meta_lex.specs.Forms.{is_quoted}
 use Rattle.action_text.specs.declared.classes.TheConstants as class

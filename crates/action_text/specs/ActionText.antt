@@ -1,5 +1,5 @@
 -- The grammar of action text, as a relation between trees and lists of tokens, each given by its bytes.
-use Rattle.std.specs.Prelude.{◌≡◌, ◌⊎◌, ℕ, zero, suc, Bool, true, false, not, List, [], ◌∷◌, ◌++◌, Option, Some, None, length, take, ◌<◌, ◌≤◌, ◌+◌}
+use Rattle.std.specs.Prelude.{◌≡◌, ◌⊎◌, ℕ, zero, suc, List, [], ◌∷◌, ◌++◌, Some, length, take, ◌<◌, ◌≤◌, ◌+◌}
 use Rattle.acg_base.specs.Decimals.{spelled_i64}
 use Rattle.action_terms.specs.Labels.{Label, Wanted, AnAction, AYielder, AnItem, AClosure, under}
 use Rattle.action_terms.specs.Trees.{Tree, tree, Trees, none, more, IsAction}

@@ -1,8 +1,7 @@
 -- What reading an action text answers, and when each error comes.
-use Rattle.std.specs.Prelude.{◌≡◌, ℕ, zero, suc, ◌+◌, ◌<◌, ◌≤◌, List, [], ◌∷◌, length, map, Some, slice_get}
+use Rattle.std.specs.Prelude.{◌≡◌, ℕ, zero, suc, ◌<◌, ◌≤◌, List, [], ◌∷◌, length, map, Some, slice_get}
 use Rattle.meta_lex.specs.Tokens.{PlainToken, AreTokens, IsBadByte}
-use Rattle.action_terms.specs.Labels.{Label}
-use Rattle.action_terms.specs.Trees.{Tree, IsAction, preorder}
+use Rattle.action_terms.specs.Trees.{Tree, preorder}
 use Rattle.action_terms.specs.Numbering.{Listed, IsGraphOf, strays, node_limit}
 use Rattle.action_text.specs.declared.errors.TextError.{TextError}
 use Rattle.action_text.specs.declared.errors.TextError.TheVariants as error

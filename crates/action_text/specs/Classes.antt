@@ -1,5 +1,5 @@
 -- The class of a token, by its bytes.
-use Rattle.std.specs.Prelude.{ℕ, zero, suc, ◌+◌, Bool, true, false, ◌&&◌, List, [], ◌∷◌, Option, Some, None, ℤ, pos, negsuc, codes, nat_eq, nat_le, if◌then◌else◌}
+use Rattle.std.specs.Prelude.{ℕ, suc, Bool, true, false, ◌&&◌, List, [], ◌∷◌, Option, Some, None, ℤ, pos, negsuc, codes, nat_eq, nat_le, if◌then◌else◌}
 use Rattle.acg_base.specs.Decimals.{spelled_i64}
 use Rattle.meta_lex.specs.Forms.{is_quoted}
 use Rattle.action_text.specs.declared.classes.TheConstants as class

@@ -1,5 +1,5 @@
 -- What the marks of a text write: the labels of its nodes, each behind those of its parts.
-use Rattle.std.specs.Prelude.{ℕ, zero, suc, ◌+◌, ◌-◌, List, [], ◌∷◌, ◌++◌, length, take, drop, Option, Some, None, ℤ, pos, negsuc, unwrap_or, nat_le, if◌then◌else◌}
+use Rattle.std.specs.Prelude.{ℕ, ◌+◌, ◌-◌, List, [], ◌∷◌, ◌++◌, length, take, drop, ℤ, pos, negsuc, unwrap_or, nat_le, if◌then◌else◌}
 use Rattle.acg_base.specs.Decimals.{spelled_i64}
 use Rattle.action_terms.specs.Labels.{Label, ActionNode, YielderNode}
 use Rattle.action_terms.specs.declared.kinds.YKind.TheVariants as ykind

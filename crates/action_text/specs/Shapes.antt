@@ -1,5 +1,5 @@
 -- How each node of an action is spelled: its own tokens, and the places of its parts among them.
-use Rattle.std.specs.Prelude.{ℕ, zero, suc, ℤ, pos, Bool, true, false, List, [], ◌∷◌, codes}
+use Rattle.std.specs.Prelude.{ℕ, zero, suc, ℤ, pos, true, false, List, [], ◌∷◌, codes}
 use Rattle.action_terms.specs.Labels.{Label, ActionNode, YielderNode}
 use Rattle.action_terms.specs.declared.kinds.Kind.{Kind}
 use Rattle.action_terms.specs.declared.kinds.Kind.TheVariants as kind

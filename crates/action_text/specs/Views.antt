@@ -1,6 +1,5 @@
 -- What contracts see of notes and labels.
-use Rattle.std.specs.Prelude.{◌≡◌, ℕ, List, [], map, reverse}
-use Rattle.action_terms.specs.Labels.{Label}
+use Rattle.std.specs.Prelude.{List, map, reverse}
 use Rattle.action_terms.specs.Pushed.{label_of}
 use Rattle.action_terms.specs.declared.pushed.Pushed.{Pushed}
 use Rattle.action_text.specs.declared.notes.Note.{Note}

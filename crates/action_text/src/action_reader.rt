@@ -68,11 +68,7 @@ fn push(builder: &mut GraphBuilder<'_>, label: Pushed<'_>) -> Result<(), GraphEr
 }
 
 // The graph of an action, of its labels in preorder.
-fn build<'a>(
-    alloc: Global,
-    arena: &'a Bump,
-    labels: &[Pushed<'_>],
-) -> Result<Graph<'a>, GraphError>
+fn build<'a>(alloc: Global, arena: &'a Bump, labels: &[Pushed<'_>]) -> Result<Graph<'a>, GraphError>
     requires { IsWhole (map label_of labels.now) }
     ensures graph { IfOk result (λ g. (t : Tree) → IsAction t → preorder t ≡ map label_of labels.now → IsGraphOf g t) }
     ensures nodes { IsErrOf result GraphError.Nodes → node_limit < length labels.now }
@@ -92,11 +88,7 @@ fn build<'a>(
 ///
 /// The errors come in the order of `TextError`: a bad byte before a text that is no action text,
 /// that before too many nodes, and those before a stray `unfold`. Want of memory may come at any time.
-pub fn read_action<'a>(
-    alloc: Global,
-    arena: &'a Bump,
-    bytes: &[u8],
-) -> Result<Graph<'a>, TextError>
+pub fn read_action<'a>(alloc: Global, arena: &'a Bump, bytes: &[u8]) -> Result<Graph<'a>, TextError>
     requires { length bytes.now < 4294967295 }
     ensures graph { IfOk result (λ g. IsReadAs bytes.now g) }
     ensures error { IfErr result (λ e. IsTextError bytes.now e) }

@@ -10,4 +10,6 @@ pub mod notes;
 pub mod preorder;
 pub mod reading;
 pub mod table;
+#[cfg(test)]
+mod tests;
 pub mod token_class;

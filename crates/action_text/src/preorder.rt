@@ -122,10 +122,7 @@ fn push_ends(
 }
 
 /// The labels of an action in preorder, of the same action's labels in postorder.
-pub fn preorder_of<'t>(
-    alloc: Global,
-    labels: &[Pushed<'t>],
-) -> Result<Vec<Pushed<'t>>, AllocError>
+pub fn preorder_of<'t>(alloc: Global, labels: &[Pushed<'t>]) -> Result<Vec<Pushed<'t>>, AllocError>
     requires { IsPostorder (map label_of labels.now) }
     ensures { IfOk result (λ v. IsReordered (map label_of labels.now) (map label_of v.items)) }
 {

@@ -13,6 +13,8 @@ returns-in-Err-At-clause-error c =
 
 pub returns-clause-labels : goal.returns-clause-labels
 returns-clause-labels c =
-    let l = c.in-Ok-read_labels.ensures in
-    (l.0, is_text c.args.bytes.now c.read.inside.list.now c.in-Ok.read l.0 c.read.view_is c.in-Ok.ensures.tokens l.1,
-        c.in_ok-preorder_of.ensures l.0 l.1.0 (ap (map label_of) c.as_slice.ensures.value ∙ l.2))
+    let l = c.in-Ok-read_labels.ensures in (
+      l.0,
+      is_text c.args.bytes.now c.read.inside.list.now c.in-Ok.read l.0 c.read.view_is c.in-Ok.ensures.tokens l.1,
+      c.in_ok-preorder_of.ensures l.0 l.1.0 (ap (map label_of) c.as_slice.ensures.value ∙ l.2),
+    )

@@ -1,4 +1,4 @@
-use Rattle.std.proofs.Common.{◌∙◌, suc, ◌+◌, get_or, ap, add-one}
+use Rattle.std.proofs.Common.{◌∙◌, add-one}
 use Rattle.action_text.proofs.WordCuts.{word_cut}
 use Rattle.action_text.proofs.token_class.word_at.Goals as goal
 
