@@ -19,7 +19,8 @@ use Rattle.action_text.specs.ActionTable.{action_table, action_lines, action_oth
 use Rattle.action_text.proofs.Meanings.{moves_mean, does_nothing, does_other}
 use Rattle.action_text.proofs.Means.{means, wrote}
 use Rattle.action_text.proofs.Chains.{IsOperator, joined, joined_labels, last_name}
-use Rattle.action_text.proofs.Rows.{lines_mean, others_mean, op_Or, op_And, op_AndThen, op_Then, op_Trap, op_Hence, op_Moreover, op_Before}
+use Rattle.action_text.proofs.Rows.{lines_mean, others_mean}
+use Rattle.action_text.proofs.ChainRows.{op_Or, op_And, op_AndThen, op_Then, op_Trap, op_Hence, op_Moreover, op_Before}
 use Rattle.action_text.proofs.Spelling.{Goes, PlainGoes, ChainGoes, AllGo, more_of, more_ends, chain_label, operand_goes, word_line, word_read, name_then, on_tokens}
 use Rattle.action_text.proofs.SpeltNodes.{NodeGoes, node_goes, no_token}
 use Rattle.action_text.proofs.SpeltActions.{action_goes, item_cases}

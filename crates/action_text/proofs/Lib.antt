@@ -8,6 +8,10 @@ pub mod Means
 pub mod Nodes
 pub mod Chains
 pub mod QuotedTokens
+pub mod ChainRows
+pub mod OperandRows
+pub mod ItemRows
+pub mod YielderRows
 pub mod Rows
 pub mod Spelling
 pub mod SpeltNodes

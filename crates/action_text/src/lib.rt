@@ -1,15 +1,15 @@
-//! Action texts: reading them as graphs of actions, and printing graphs.
+//! Action texts: reading them as graphs of actions.
 #![tactic(auto)]
 
 pub mod action_reader;
-pub mod classes;
+mod classes;
 pub mod errors;
-pub mod lookup;
-pub mod names;
-pub mod notes;
-pub mod preorder;
-pub mod reading;
-pub mod table;
+mod lookup;
+mod names;
+mod notes;
+mod preorder;
+mod reading;
+mod table;
 #[cfg(test)]
 mod tests;
-pub mod token_class;
+mod token_class;
