@@ -1,9 +1,9 @@
 -- The output only grows.
-use Rattle.std.proofs.Common.{◌≡◌, ℕ, zero, suc, ◌+◌, ◌-◌, ◌%◌, ◌<◌, ◌≤◌, ◌&&◌, min, Bool, true, false, nat_eq, List, [], ◌∷◌, ◌++◌, length, take, Option, Some, None, refl, sym, ap, ◌∙◌, arith, append-nil, append_assoc, if◌then◌else◌}
+use Rattle.std.proofs.Common.{◌≡◌, ℕ, zero, suc, ◌+◌, ◌%◌, ◌<◌, ◌&&◌, min, Bool, true, false, nat_eq, List, [], ◌∷◌, ◌++◌, length, take, Option, Some, None, refl, sym, ap, ◌∙◌, arith, append-nil, append_assoc, if◌then◌else◌}
 use Rattle.std.proofs.lemmas.List.{take-append-le, take_min}
 use Rattle.std.proofs.Math.Seq.{take-append-add}
 use Rattle.acg_base.specs.Outside.{GainsFrontOf}
-use Rattle.rv_code.specs.Machine.{State, Outcome, Segment, Ran, Exited, Trapped, read_bytes, write_bytes, holder, register, goes_on, sets, jumps, loads, stores, receives, sends, receive_call, send_call, call, execute, executes, fetches, after, step, run}
+use Rattle.rv_code.specs.Machine.{State, Outcome, Segment, Ran, Exited, Trapped, read_bytes, write_bytes, holder, register, sets, loads, stores, receives, sends, receive_call, send_call, execute, executes, fetches, after, step, run}
 use Rattle.rv_code.specs.Table.{decode}
 use Rattle.rv_code.specs.Bytes.{number_of, bytes_of}
 use Rattle.rv_code.specs.Arithmetic.{wrap, unsigned, load_size, extended, store_size, is_taken}

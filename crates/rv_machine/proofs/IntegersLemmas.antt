@@ -1,5 +1,5 @@
 -- Integers of 32, 64 and 128 bits: which results fit, and casts that change nothing.
-use Rattle.std.proofs.Common.{◌≡◌, ◌≢◌, ℕ, zero, suc, ◌+◌, ◌*◌, ◌/◌, ◌%◌, ◌-◌, ◌^◌, ◌<◌, ◌≤◌, ℤ, pos, negsuc, refl, sym, ap, ◌∙◌, arith, false, nat_eq, w32, w64, lit<}
+use Rattle.std.proofs.Common.{◌≡◌, ℕ, zero, suc, ◌/◌, ◌%◌, ◌-◌, ◌^◌, ◌<◌, ◌≤◌, ℤ, pos, negsuc, refl, ◌∙◌, arith, false, nat_eq, w32, w64, lit<}
 use Rattle.std.specs.Prelude.{◌*ℤ◌}
 use Rattle.std.specs.Int.{w128}
 use Rattle.std.specs.Int.RustNames.{unsigned_abs}
@@ -9,7 +9,7 @@ use Rattle.std.proofs.Math.Nat.{div-le_self}
 use mir.Val.{SFits, of_z, to_z}
 use lib.IntN.{neg_ℤ}
 use lib.Signed.{quot_z, rem_z, shr_z}
-use Rattle.rv_code.specs.Arithmetic.{signed_word, word, unsigned, high}
+use Rattle.rv_code.specs.Arithmetic.{signed_word, unsigned, high}
 
 -- an integer of 32 bits is one of 64
 pub widened : (z : ℤ) → SFits w32 z → SFits w64 z

@@ -1,10 +1,10 @@
 -- The segment that has the bytes from an address on.
-use Rattle.std.proofs.Common.{◌≡◌, ℕ, ◌+◌, ◌-◌, ◌<◌, ◌≤◌, Bool, true, List, length, take, drop, Option, Some, None, refl, sym, ap, ◌∙◌, arith, slice_index_or, slice_set, option_map}
+use Rattle.std.proofs.Common.{◌≡◌, ℕ, ◌+◌, ◌-◌, ◌<◌, ◌≤◌, true, List, length, take, drop, Some, None, refl, sym, arith, slice_index_or, slice_set}
 use Rattle.std.proofs.lemmas.Bool.Decides.{nat_tests}
 use Rattle.std.proofs.lemmas.List.Quantifiers.{position-Some}
 use Rattle.std.proofs.lemmas.Option.{slice_get-get_or}
 use Rattle.rv_code.specs.Bytes.{bytes_of, put_at}
-use Rattle.rv_code.specs.Machine.{Segment, holds, holder, empty_segment, bytes_in, read_bytes, written_in, write_bytes}
+use Rattle.rv_code.specs.Machine.{Segment, holds, holder, empty_segment, read_bytes, write_bytes}
 use Rattle.rv_code.proofs.ByteLaws.{length-bytes}
 
 -- the bytes lie in the segment

@@ -1,5 +1,5 @@
 -- Runs: one more step, and a stop.
-use Rattle.std.proofs.Common.{◌≡◌, ℕ, zero, suc, ◌+◌, ◌<◌, List, [], ◌∷◌, ◌++◌, refl, sym, ap, ◌∙◌, arith, append-nil, append_assoc, add-one}
+use Rattle.std.proofs.Common.{◌≡◌, ℕ, zero, suc, ◌+◌, ◌<◌, List, [], ◌++◌, refl, ap, ◌∙◌, arith, append-nil, append_assoc, add-one}
 use Rattle.rv_code.specs.Machine.{State, Outcome, Ran, Exited, Trapped, after, step, run}
 use Rattle.rv_code.specs.declared.cause.Cause.{Cause}
 use Rattle.rv_machine.specs.Machines.{MachineValue, state_of, state_behind, sent, last, sent_in, Steps, StepExits, StepTraps, Runs, RunExits, RunTraps, IsCounted}

@@ -1,12 +1,11 @@
 -- One step: what it sends, and where it leads.
-use Rattle.std.proofs.Common.{◌≡◌, ℕ, zero, ◌+◌, min, Bool, true, false, nat_eq, List, [], ◌∷◌, ◌++◌, length, take, drop, Option, Some, None, Ok, Err, refl, sym, ap, ◌∙◌, arith, append-nil, option_map, if◌then◌else◌}
+use Rattle.std.proofs.Common.{◌≡◌, ℕ, ◌+◌, min, Bool, true, false, nat_eq, List, [], length, take, drop, Option, Some, None, Ok, refl, sym, ap, ◌∙◌, arith, append-nil, option_map, if◌then◌else◌}
 use Rattle.std.proofs.lemmas.Bool.Decides.{nat_tests}
 use Rattle.std.proofs.lemmas.List.{drop-drop}
 use Rattle.rv_code.specs.Arithmetic.{wrap}
-use Rattle.rv_code.specs.Machine.{Segment, State, Outcome, Ran, Exited, Trapped, with_register, holder, read_bytes, written_in, sets, receives, sends, receive_call, send_call, execute, step}
-use Rattle.rv_code.specs.declared.cause.Cause.{Cause}
+use Rattle.rv_code.specs.Machine.{Segment, State, Ran, with_register, holder, read_bytes, written_in, sets, receives, execute, step}
 use Rattle.rv_code.specs.declared.instruction.Inst.{Inst}
-use Rattle.rv_machine.specs.Machines.{MachineValue, InputValue, left, state_of, output_behind, sent, Steps, StepTraps, StepSends}
+use Rattle.rv_machine.specs.Machines.{MachineValue, InputValue, left, state_of, output_behind, sent, Steps, StepSends}
 use Rattle.rv_machine.specs.Effects.{Does, Fetches, AtReceive, AtSend}
 
 not-zero : (n : ℕ) → (n ≡ 0 → ⊥) → nat_eq n 0 ≡ false

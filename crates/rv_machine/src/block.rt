@@ -1,11 +1,11 @@
 //! The memory of a machine.
 
-ghost use Rattle.std.specs.Prelude.{◌≡◌, ℕ, ◌+◌, ◌-◌, ◌*◌, ◌^◌, ◌<◌, ◌≤◌, ◌++◌, IsTrue, IsSome, Some, None, IfSome, IfNone, IfOk, min, All, length, map, take, drop, slice_get, slice_set, option_map, replicate};
+ghost use Rattle.std.specs.Prelude.{◌≡◌, ◌+◌, ◌-◌, ◌*◌, ◌^◌, ◌<◌, ◌≤◌, Some, None, IfSome, IfNone, IfOk, min, All, length, map, take, drop, option_map};
 ghost use Rattle.rv_code.specs.Bytes.{number_of, bytes_of, put_at};
-ghost use Rattle.rv_code.specs.Machine.{has_flag, holds, holder, empty_segment, bytes_in, read_bytes, written_in, write_bytes};
+ghost use Rattle.rv_code.specs.Machine.{holds, holder, read_bytes, written_in, write_bytes};
 ghost use Rattle.std.specs.Bool.{OnTrue, OnFalse};
 ghost use Rattle.rv_code.specs.Machine.{Segment as SegmentValue};
-ghost use Rattle.rv_code.specs.Images.{filled, ImageSegment};
+ghost use Rattle.rv_code.specs.Images.{filled};
 ghost use Rattle.rv_machine.specs.Machines.{left};
 
 use crate::image::Segment;

@@ -34,6 +34,7 @@ impl Model for Segment {
 pub struct Image {
     /// The address of the first instruction.
     pub entry: u64,
+    /// Its segments, in any order.
     pub segments: Vec<Segment>,
 }
 

@@ -5,6 +5,7 @@ use std::marker::Model;
 /// An input. The bytes from `at` on are those that are left.
 #[derive(Debug, Drop)]
 pub struct Input<'a> {
+    /// All of its bytes, also those that are taken.
     pub bytes: &'a [u8],
     /// How many bytes are taken: at most as many as there are.
     pub at: usize,

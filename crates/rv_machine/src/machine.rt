@@ -35,11 +35,11 @@ impl Model for Machine {
 }
 
 impl Machine {
-    ghost use Rattle.std.specs.Prelude.{◌≡◌, ◌≢◌, ◌↔◌, ℕ, ◌+◌, ◌-◌, ◌%◌, ◌^◌, ◌<◌, ◌≤◌, min, nat_eq, if◌then◌else◌, IsTrue, IfSome, IfNone, option_map, take, length, IfOk, IfErr, OnOk, OnErr, List, [], ◌++◌, Some, None};
+    ghost use Rattle.std.specs.Prelude.{◌≡◌, ◌≢◌, ℕ, ◌+◌, ◌-◌, ◌%◌, ◌≤◌, min, nat_eq, if◌then◌else◌, IsTrue, IfSome, IfNone, option_map, take, length, IfOk, IfErr, OnOk, OnErr, List, [], ◌++◌, Some, None};
     ghost use Rattle.acg_base.specs.Outside.{Rose, counted, GainsFrontOf};
-    ghost use Rattle.rv_code.specs.Arithmetic.{wrap, unsigned, load_size, extended, store_size};
+    ghost use Rattle.rv_code.specs.Arithmetic.{wrap, load_size, extended, store_size};
     ghost use Rattle.rv_code.specs.Bytes.{bytes_of};
-    ghost use Rattle.rv_code.specs.Machine.{register, with_register, read_bytes, write_bytes, written_in, holder, goes_on, sets, jumps, loads, stores, receive_call, send_call, execute, step, Ran, Trapped};
+    ghost use Rattle.rv_code.specs.Machine.{register, with_register, read_bytes, write_bytes, written_in, holder, jumps, loads, stores, execute, step, Ran, Trapped};
     ghost use Rattle.rv_code.specs.Images.{started};
     ghost use Rattle.rv_code.specs.declared.cause.Cause.{Cause as CauseValue};
     ghost use Rattle.rv_machine.specs.Machines.{left, state_of, loaded_machine, sent, sent_in, Steps, StepExits, StepTraps, StepSends, Runs, RunsBelow, IsCounted, RunExits, RunTraps};
@@ -153,7 +153,7 @@ impl Machine {
         }
     }
 
-    // Does an instruction that isn't a call.
+    // Does an instruction that isn't a call: `call` does those.
     fn execute(&mut self, inst: Inst) -> Result<(), Cause>
         requires plain { inst ≢ Inst.Ecall }
         requires amount { AmountFits inst }

@@ -1,4 +1,4 @@
-use Rattle.std.proofs.Common.{◌≡◌, ◌+◌, ◌<◌, ◌^◌, length, arith, Fits, w8}
+use Rattle.std.proofs.Common.{length, arith, Fits, w8}
 use Rattle.rv_machine.proofs.NumbersLemmas.{more-bytes, seven-bytes}
 use Rattle.rv_machine.proofs.block.+number.Goals as goal
 

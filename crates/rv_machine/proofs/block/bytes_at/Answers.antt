@@ -1,5 +1,4 @@
-use Rattle.std.proofs.Common.{slice_index_or}
-use Rattle.rv_machine.proofs.MemoryLemmas.{HasRoom, holder-room}
+use Rattle.rv_machine.proofs.MemoryLemmas.{holder-room}
 use Rattle.rv_machine.proofs.block.bytes_at.Goals as goal
 
 pub bytes_at-requires-clause-low : goal.bytes_at-requires-clause-low

@@ -1,4 +1,3 @@
-use Rattle.std.proofs.Common.{◌≡◌, refl}
 use Rattle.rv_machine.proofs.StepsLemmas.{receive-silent, receive-none, receive-some}
 use Rattle.rv_machine.specs.Machines.{left}
 use Rattle.rv_machine.proofs.machine.Machine.receive.Goals as goal

@@ -1,4 +1,4 @@
-use Rattle.std.proofs.Common.{◌≡◌, refl, sym, ap, ◌∙◌, append-nil, append_assoc}
+use Rattle.std.proofs.Common.{◌≡◌, refl, sym, ◌∙◌, append-nil, append_assoc}
 use Rattle.rv_machine.specs.Machines.{left, sent, sent_in}
 use Rattle.rv_machine.proofs.RunsLemmas.{runs-none, runs-more, sent_in-none, sent_in-more, sent_in-exit, sent_in-trap, run-exits, run-traps, counted-none, counted-more}
 use Rattle.rv_machine.proofs.GrowsLemmas.{sent_in-passes, front-passes}
