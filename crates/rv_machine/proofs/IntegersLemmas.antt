@@ -38,7 +38,7 @@ half-fits (negsuc n) h = record { sfits = omega (arith, h.sfits) }
 
 -- the casts round the upper half of a product change nothing
 pub high-half : (p : ℤ) → SFits w128 p →
-  of_z w64 (to_z w64 (of_z w64 (to_z w128 (of_z w128 (shr_z (to_z w128 (of_z w128 p)) (2 ^ 64)))))) ≡ high p
+    of_z w64 (to_z w64 (of_z w64 (to_z w128 (of_z w128 (shr_z (to_z w128 (of_z w128 p)) (2 ^ 64)))))) ≡ high p
 high-half p h =
     let half : SFits w64 (shr_z p (2 ^ 64)) = half-fits p h in
     let wide : SFits w128 (shr_z p (2 ^ 64)) = doubled _ half in
@@ -61,9 +61,9 @@ remainder-fits a b h = record { sfits = omega (arith, h.sfits, mag_rem a b) }
 
 -- a product of two integers of 64 bits, and its upper half
 pub mulh-bits : (a b : ℕ) (x y p q : ℤ) (r : ℕ) → mag x < 2 ^ 63 → mag y < 2 ^ 63 → x ≡ to_z w64 a → y ≡ to_z w64 b →
-  p ≡ to_z w64 (of_z w64 x) → q ≡ to_z w64 (of_z w64 y) →
-  r ≡ of_z w64 (to_z w64 (of_z w64 (to_z w128 (of_z w128 (shr_z (to_z w128 (of_z w128 (to_z w128 (of_z w128 p) *ℤ to_z w128 (of_z w128 q)))) (2 ^ 64)))))) →
-  r ≡ high (to_z w64 a *ℤ to_z w64 b)
+    p ≡ to_z w64 (of_z w64 x) → q ≡ to_z w64 (of_z w64 y) →
+    r ≡ of_z w64 (to_z w64 (of_z w64 (to_z w128 (of_z w128 (shr_z (to_z w128 (of_z w128 (to_z w128 (of_z w128 p) *ℤ to_z w128 (of_z w128 q)))) (2 ^ 64)))))) →
+    r ≡ high (to_z w64 a *ℤ to_z w64 b)
 mulh-bits a b x y p q r mx my ex ey ep eq er =
     let fx : SFits w64 x = record { sfits = mx } in
     let fy : SFits w64 y = record { sfits = my } in
@@ -73,9 +73,9 @@ mulh-bits a b x y p q r mx my ex ey ep eq er =
 
 -- a product of an integer and a number of 64 bits, and its upper half
 pub mulhsu-bits : (a b : ℕ) (x p q : ℤ) (r : ℕ) → mag x < 2 ^ 63 → b < 2 ^ 64 → x ≡ to_z w64 a →
-  p ≡ to_z w64 (of_z w64 x) → q ≡ pos b →
-  r ≡ of_z w64 (to_z w64 (of_z w64 (to_z w128 (of_z w128 (shr_z (to_z w128 (of_z w128 (to_z w128 (of_z w128 p) *ℤ to_z w128 (of_z w128 q)))) (2 ^ 64)))))) →
-  r ≡ high (to_z w64 a *ℤ pos b)
+    p ≡ to_z w64 (of_z w64 x) → q ≡ pos b →
+    r ≡ of_z w64 (to_z w64 (of_z w64 (to_z w128 (of_z w128 (shr_z (to_z w128 (of_z w128 (to_z w128 (of_z w128 p) *ℤ to_z w128 (of_z w128 q)))) (2 ^ 64)))))) →
+    r ≡ high (to_z w64 a *ℤ pos b)
 mulhsu-bits a b x p q r mx mb ex ep eq er =
     let fx : SFits w64 x = record { sfits = mx } in
     let fb : SFits w128 (pos b) = record { sfits = omega (arith, mb) } in
@@ -84,9 +84,9 @@ mulhsu-bits a b x p q r mx mb ex ep eq er =
 
 -- a quotient of two integers of 32 bits
 pub quotient-bits : (a b : ℤ) (s t x y : ℤ) (r : ℕ) → mag s < 2 ^ 31 → mag t < 2 ^ 31 → s ≡ a → t ≡ b →
-  x ≡ to_z w32 (of_z w32 s) → y ≡ to_z w32 (of_z w32 t) →
-  r ≡ of_z w64 (to_z w64 (of_z w64 (quot_z (to_z w64 (of_z w64 x)) (to_z w64 (of_z w64 y))))) →
-  r ≡ unsigned (quot_z a b)
+    x ≡ to_z w32 (of_z w32 s) → y ≡ to_z w32 (of_z w32 t) →
+    r ≡ of_z w64 (to_z w64 (of_z w64 (quot_z (to_z w64 (of_z w64 x)) (to_z w64 (of_z w64 y))))) →
+    r ≡ unsigned (quot_z a b)
 quotient-bits a b s t x y r ms mt es et ex ey er =
     let fs : SFits w32 s = record { sfits = ms } in
     let ft : SFits w32 t = record { sfits = mt } in
@@ -96,9 +96,9 @@ quotient-bits a b s t x y r ms mt es et ex ey er =
 
 -- a remainder of two integers of 32 bits
 pub remainder-bits : (a b : ℤ) (s t x y : ℤ) (r : ℕ) → mag s < 2 ^ 31 → mag t < 2 ^ 31 → s ≡ a → t ≡ b →
-  x ≡ to_z w32 (of_z w32 s) → y ≡ to_z w32 (of_z w32 t) →
-  r ≡ of_z w64 (to_z w64 (of_z w64 (rem_z (to_z w64 (of_z w64 x)) (to_z w64 (of_z w64 y))))) →
-  r ≡ unsigned (rem_z a b)
+    x ≡ to_z w32 (of_z w32 s) → y ≡ to_z w32 (of_z w32 t) →
+    r ≡ of_z w64 (to_z w64 (of_z w64 (rem_z (to_z w64 (of_z w64 x)) (to_z w64 (of_z w64 y))))) →
+    r ≡ unsigned (rem_z a b)
 remainder-bits a b s t x y r ms mt es et ex ey er =
     let fs : SFits w32 s = record { sfits = ms } in
     let ft : SFits w32 t = record { sfits = mt } in

@@ -1,3 +1,4 @@
+pub mod GrowsLemmas
 pub mod IntegersLemmas
 pub mod MemoryLemmas
 pub mod NumbersLemmas

@@ -16,7 +16,7 @@ pub holds-room : (flag address size : ℕ) (s : Segment) → holds flag address 
 holds-room flag address size s h = record { low = grind (arith, nat_tests); high = grind (arith, nat_tests) }
 
 pub holder-room : (blocks : List Segment) (flag address size i : ℕ) (d : Segment) → Some i ≡ holder blocks flag address size →
-  HasRoom address size (slice_index_or blocks i d)
+    HasRoom address size (slice_index_or blocks i d)
 holder-room blocks flag address size i d e =
     holds-room flag address size (slice_index_or blocks i d) (position-Some (holds flag address size) blocks i d (sym e)).1
 
@@ -29,22 +29,16 @@ same-default blocks i d e h =
 
 -- writing the bytes of a number in the segment that has them
 pub writes : (blocks : List Segment) (address size number i : ℕ) (d new : Segment) → i < length blocks → Some i ≡ holder blocks 2 address size →
-  new ≡ record (slice_index_or blocks i d) { bytes = put_at (slice_index_or blocks i d).bytes (address - (slice_index_or blocks i d).address) (bytes_of size number) } →
-  write_bytes blocks address (bytes_of size number) ≡ Some (slice_set blocks i new)
+    new ≡ record (slice_index_or blocks i d) { bytes = put_at (slice_index_or blocks i d).bytes (address - (slice_index_or blocks i d).address) (bytes_of size number) } →
+    write_bytes blocks address (bytes_of size number) ≡ Some (slice_set blocks i new)
 writes blocks address size number i d new h e n =
     rw (length-bytes, sym e, n, same-default blocks i d empty_segment h) refl
 
 pub writes-none : (blocks : List Segment) (address size number : ℕ) → None ≡ holder blocks 2 address size →
-  write_bytes blocks address (bytes_of size number) ≡ None
+    write_bytes blocks address (bytes_of size number) ≡ None
 writes-none blocks address size number e = rw (length-bytes, sym e) refl
 
 -- the bytes in the segment that has them
 pub reads : (blocks : List Segment) (flag address size i : ℕ) (d : Segment) → i < length blocks → Some i ≡ holder blocks flag address size →
-  read_bytes blocks flag address size ≡ Some (take size (drop (address - (slice_index_or blocks i d).address) (slice_index_or blocks i d).bytes))
+    read_bytes blocks flag address size ≡ Some (take size (drop (address - (slice_index_or blocks i d).address) (slice_index_or blocks i d).bytes))
 reads blocks flag address size i d h e = rw (sym e, same-default blocks i d empty_segment h) refl
-
--- writing other bytes in the segment that has room for more
-pub writes-front : (blocks : List Segment) (address size i : ℕ) (bytes : List ℕ) (d new : Segment) → i < length blocks → Some i ≡ holder blocks 2 address size →
-  new ≡ record (slice_index_or blocks i d) { bytes = put_at (slice_index_or blocks i d).bytes (address - (slice_index_or blocks i d).address) bytes } →
-  option_map (written_in blocks address bytes) (holder blocks 2 address size) ≡ Some (slice_set blocks i new)
-writes-front blocks address size i bytes d new h e n = rw (sym e, n, same-default blocks i d empty_segment h) refl

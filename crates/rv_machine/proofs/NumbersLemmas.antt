@@ -28,7 +28,7 @@ bytes-end n = refl
 
 -- a loop that writes the bytes of a number has written one more
 pub written-more : (out : List ℕ) (i n : ℕ) (all : List ℕ) → i < length out → take i out ++ bytes_of (length out - i) n ≡ all →
-  take (i + 1) (set out i (n % 256)) ++ bytes_of (length (set out i (n % 256)) - (i + 1)) (n / 256) ≡ all
+    take (i + 1) (set out i (n % 256)) ++ bytes_of (length (set out i (n % 256)) - (i + 1)) (n / 256) ≡ all
 written-more out i n all h e =
     let s : length out - i ≡ length out - (i + 1) + 1 = omega arith in
     rw (take_more_set out i (n % 256) h, length-set, append_assoc) (rw (bytes-step _ _ n s) at e)
@@ -42,7 +42,7 @@ written-all out i n all h e =
 
 -- the number that four bytes spell
 pub number-word : (bs : List ℕ) → length bs ≡ 4 →
-  number_of bs ≡ slice_index bs 0 + 256 * slice_index bs 1 + 65536 * slice_index bs 2 + 16777216 * slice_index bs 3
+    number_of bs ≡ slice_index bs 0 + 256 * slice_index bs 1 + 65536 * slice_index bs 2 + 16777216 * slice_index bs 3
 unfolding number_of
 number-word [] h = absurd (omega (arith, h))
 number-word (a ∷ []) h = absurd (omega (arith, h))

@@ -1,5 +1,5 @@
 -- The machine and its input as callers see them, and what the definition says of their steps and runs.
-use Rattle.std.specs.Prelude.{◌≡◌, ℕ, zero, suc, List, [], ◌++◌, drop, map, replicate}
+use Rattle.std.specs.Prelude.{◌≡◌, ℕ, zero, suc, ◌+◌, ◌-◌, ◌^◌, ◌<◌, nat_le, if◌then◌else◌, List, [], ◌++◌, drop, map, replicate}
 use Rattle.rv_code.specs.Machine.{Segment, State, Outcome, Ran, Exited, Trapped, step, run}
 use Rattle.rv_code.specs.Images.{Image, filled}
 use Rattle.rv_code.specs.declared.cause.Cause.{Cause}
@@ -79,10 +79,19 @@ abbrev pub StepSends : MachineValue → (input : List ℕ) → Type 0
 StepSends machine input =
     (output : List ℕ) → output_behind (step (state_of machine input output)) ≡ output ++ sent machine
 
+-- n instructions more are counted, up to the greatest value of 64 bits
+abbrev pub IsCounted : ℕ → (old new : MachineValue) → Type 0
+IsCounted n old new = new.taken ≡ (if nat_le n (2 ^ 64 - 1 - old.taken) then old.taken + n else 2 ^ 64 - 1)
+
 -- n instructions lead from one machine and its input to others, whatever the output so far
 abbrev pub Runs : ℕ → (old : MachineValue) (input : List ℕ) (new : MachineValue) (rest : List ℕ) → Type 0
 Runs n old input new rest =
     (output : List ℕ) → run n (state_of old input output) ≡ Ran (state_of new rest (output ++ sent_in n old input))
+
+-- fewer than n instructions lead from one machine and its input to others, and are what the new one counts more
+abbrev pub RunsBelow : ℕ → (old : MachineValue) (input : List ℕ) (new : MachineValue) (rest : List ℕ) → Type 0
+RunsBelow n old input new rest =
+    (count : ℕ) × ((count < n) × (Runs count old input new rest × IsCounted count old new))
 
 -- a run of at most n instructions exits, whatever the output so far
 abbrev pub RunExits : ℕ → MachineValue → (input : List ℕ) → (code : ℕ) → Type 0

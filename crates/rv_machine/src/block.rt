@@ -149,7 +149,9 @@ pub(crate) fn find(blocks: &[Block], flag: u32, address: u64, size: u64) -> Opti
     ensures is { result ≡ holder blocks.now flag address size }
     ensures below { IfSome result (λ i. i < length blocks.now) }
 {
-    blocks.iter().position(|block| block.holds(flag, address, size))
+    blocks
+        .iter()
+        .position(|block| block.holds(flag, address, size))
 }
 
 /// Lends the bytes from an address on, where they lie in one block with the flag.
@@ -201,7 +203,12 @@ pub(crate) fn write_number(blocks: &mut [Block], address: u64, size: u64, number
 
 /// Takes the next `size` bytes of an input, or as many as are left, to an address, and answers how many. `None` where
 /// the `size` bytes from the address on don't lie in one block with the flag W.
-pub(crate) fn receive(blocks: &mut [Block], address: u64, size: u64, input: &mut Input<'_>) -> Option<u64>
+pub(crate) fn receive(
+    blocks: &mut [Block],
+    address: u64,
+    size: u64,
+    input: &mut Input<'_>,
+) -> Option<u64>
     ensures count { IfSome result (λ count. count ≡ min size (length (left input.old))) }
     ensures written { IfSome result (λ count. option_map (written_in blocks.old address (take count (left input.old)))
         (holder blocks.old 2 address size) ≡ Some blocks.new) }

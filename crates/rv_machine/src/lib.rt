@@ -12,6 +12,8 @@ mod registers;
 pub use answers::{Run, Step};
 pub use image::{Image, Segment};
 pub use input::Input;
-
-pub use rv_code::Cause;
 pub use machine::Machine;
+pub use rv_code::Cause;
+
+#[cfg(test)]
+mod tests;

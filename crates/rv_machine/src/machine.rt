@@ -1,12 +1,10 @@
 //! The machine.
 
-use crate::answers::Step;
-use crate::arithmetic;
-use crate::block;
+use crate::answers::{Run, Step};
 use crate::block::Block;
 use crate::image::Image;
 use crate::input::Input;
-use crate::registers;
+use crate::{arithmetic, block, registers};
 use acg_base::{Memory, Sink};
 use rv_code::{Cause, Inst, LoadOp, Reg, StoreOp, decode};
 use std::alloc::Global;
@@ -44,7 +42,7 @@ impl Machine {
     ghost use Rattle.rv_code.specs.Machine.{register, with_register, read_bytes, write_bytes, written_in, holder, goes_on, sets, jumps, loads, stores, receive_call, send_call, execute, step, Ran, Trapped};
     ghost use Rattle.rv_code.specs.Images.{started};
     ghost use Rattle.rv_code.specs.declared.cause.Cause.{Cause as CauseValue};
-    ghost use Rattle.rv_machine.specs.Machines.{left, state_of, loaded_machine, sent, Steps, StepExits, StepTraps, StepSends};
+    ghost use Rattle.rv_machine.specs.Machines.{left, state_of, loaded_machine, sent, sent_in, Steps, StepExits, StepTraps, StepSends, Runs, RunsBelow, IsCounted, RunExits, RunTraps};
     ghost use Rattle.rv_machine.specs.Effects.{Does, Fetches, AtCall, AtReceive, AtSend, AmountFits};
 
     /// The machine before the first instruction of an image. Takes all memory of the run.
@@ -84,8 +82,8 @@ impl Machine {
     // Goes on behind the instruction, with a register set.
     fn set(&mut self, rd: Reg, value: u64)
         ensures { self.new ≡ record self.old {
-            pc = wrap (self.old.pc + 4);
-            registers = with_register self.old.registers rd value;
+          pc = wrap (self.old.pc + 4);
+          registers = with_register self.old.registers rd value;
         } }
     {
         registers::set_register(&mut self.registers, rd, value);
@@ -291,6 +289,7 @@ impl Machine {
 
         // What the sink gets is what the instruction sends. No other instruction writes to it.
         ensures untouched { sent self.old ≡ [] → out.new ≡ out.old }
+        ensures idle { result ≢ Step.Ran → result ≢ Step.SinkFault → out.new ≡ out.old }
         ensures told { result ≡ Step.Ran → IsTrue (K.tells out.old) →
             K.written out.new ≡ K.written out.old ++ sent self.old }
         ensures part { result ≡ Step.SinkFault → IsTrue (K.tells out.old) →
@@ -333,6 +332,7 @@ impl Machine {
 
         // What the sink gets is what the instruction sends. No other instruction writes to it.
         ensures untouched { sent self.old ≡ [] → out.new ≡ out.old }
+        ensures idle { result ≢ Step.Ran → result ≢ Step.SinkFault → out.new ≡ out.old }
         ensures told { result ≡ Step.Ran → IsTrue (K.tells out.old) →
             K.written out.new ≡ K.written out.old ++ sent self.old }
         ensures part { result ≡ Step.SinkFault → IsTrue (K.tells out.old) →
@@ -374,6 +374,7 @@ impl Machine {
 
         // What the sink gets is what the instruction sends. No other instruction writes to it.
         ensures untouched { sent self.old ≡ [] → out.new ≡ out.old }
+        ensures idle { result ≢ Step.Ran → result ≢ Step.SinkFault → out.new ≡ out.old }
         ensures told { result ≡ Step.Ran → IsTrue (K.tells out.old) →
             K.written out.new ≡ K.written out.old ++ sent self.old }
         ensures part { result ≡ Step.SinkFault → IsTrue (K.tells out.old) →
@@ -412,6 +413,7 @@ impl Machine {
 
         // What the sink gets is what the instruction sends. No other instruction writes to it.
         ensures untouched { sent self.old ≡ [] → out.new ≡ out.old }
+        ensures idle { result ≢ Step.Ran → result ≢ Step.SinkFault → out.new ≡ out.old }
         ensures told { result ≡ Step.Ran → IsTrue (K.tells out.old) →
             K.written out.new ≡ K.written out.old ++ sent self.old }
         ensures part { result ≡ Step.SinkFault → IsTrue (K.tells out.old) →
@@ -423,5 +425,48 @@ impl Machine {
             self.taken = self.taken.saturating_add(1);
         }
         answer
+    }
+
+    /// Does at most `budget` instructions. It takes no memory.
+    ///
+    /// `Budget` comes exactly where all of them ran. Otherwise the machine and the input stand before the
+    /// instruction that exited, trapped or met a fault of the sink, as `step` leaves them.
+    pub fn run<K: Sink>(&mut self, budget: u64, input: &mut Input<'_>, out: &mut K) -> Run
+        ensures budget { result ≡ Run.Budget → Runs budget self.old (left input.old) self.new (left input.new) }
+        ensures exited { (code : ℕ) → result ≡ Run.Exited code → RunExits budget self.old (left input.old) code }
+        ensures trapped { (cause : CauseValue) (pc : ℕ) → result ≡ Run.Trapped cause pc →
+            RunTraps budget self.old (left input.old) cause × (pc ≡ self.new.pc) }
+
+        // Where fewer instructions ran, the machine stands before the one that ended the run.
+        ensures stops { result ≢ Run.Budget →
+            RunsBelow budget self.old (left input.old) self.new (left input.new) }
+        ensures exit { (code : ℕ) → result ≡ Run.Exited code → StepExits self.new (left input.new) code }
+        ensures trap { (cause : CauseValue) (pc : ℕ) → result ≡ Run.Trapped cause pc →
+            StepTraps self.new (left input.new) cause }
+        ensures bytes { input.new.bytes ≡ input.old.bytes }
+        ensures taken { result ≡ Run.Budget → IsCounted budget self.old self.new }
+
+        // A fault of the sink comes only at an instruction that runs by the definition and sends bytes.
+        ensures fault { result ≡ Run.SinkFault → (sent self.new ≢ []) × StepSends self.new (left input.new) }
+        ensures rose { result ≡ Run.SinkFault → Rose (K.faults out.old) (K.faults out.new) }
+        ensures still { result ≢ Run.SinkFault → K.faults out.new ≡ K.faults out.old }
+        ensures counts { K.faults out.old ≤ K.faults out.new }
+
+        // What the sink gets is what the run sends, or a front of it where the sink fails.
+        ensures told { result ≢ Run.SinkFault → IsTrue (K.tells out.old) →
+            K.written out.new ≡ K.written out.old ++ sent_in budget self.old (left input.old) }
+        ensures part { result ≡ Run.SinkFault → IsTrue (K.tells out.old) →
+            GainsFrontOf (sent_in budget self.old (left input.old)) (K.written out.old) (K.written out.new) }
+        ensures tells_still { K.tells out.new ≡ K.tells out.old }
+    {
+        for _i in 0..budget {
+            match self.step(input, out) {
+                Step::Ran => {}
+                Step::Exited { code } => return Run::Exited { code },
+                Step::Trapped { cause, pc } => return Run::Trapped { cause, pc },
+                Step::SinkFault => return Run::SinkFault,
+            }
+        }
+        Run::Budget
     }
 }

@@ -15,4 +15,4 @@ returns-in-None-clause-missing c = writes-none c.args.blocks.now c.args.address 
 pub returns-in-Some-clause-written : goal.returns-in-Some-clause-written
 returns-in-Some-clause-written c =
     writes c.args.blocks.now c.args.address c.args.size c.args.number c.in-Some.index c.index-blocks-index.result c.write_number.new.self
-      c.in-Some.ensures.below c.in-Some.ensures.is c.write_number.ensures
+    c.in-Some.ensures.below c.in-Some.ensures.is c.write_number.ensures

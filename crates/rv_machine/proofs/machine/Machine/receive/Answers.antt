@@ -17,7 +17,7 @@ pub returns-in-Some-clause-ran : goal.returns-in-Some-clause-ran
 returns-in-Some-clause-ran c =
     let e = c.in-Some.ensures in
     receive-some c.args.self.now c.set-in-Some.new.self c.args.address c.args.size c.in-Some.count c.args.input.now c.take_input.new.input
-      c.take_input.new.self.segments c.requires c.if-size-eq0.false e.count e.written e.input (rw c.take_input.ensures.others at c.set-in-Some.ensures)
+    c.take_input.new.self.segments c.requires c.if-size-eq0.false e.count e.written e.input (rw c.take_input.ensures.others at c.set-in-Some.ensures)
 
 pub returns-in-Some-clause-silent : goal.returns-in-Some-clause-silent
 returns-in-Some-clause-silent c = receive-silent c.args.self.now c.args.address c.args.size c.requires

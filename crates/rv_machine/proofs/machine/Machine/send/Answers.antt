@@ -17,7 +17,7 @@ returns-in-Err-clause-fault g c =
     let some = c.if-size-eq0.false in
     λ _. (
       send-some-not_empty c.args.self.now c.args.address c.args.size c.in-Some.bytes.now c.requires some e.bytes e.length,
-      send-some-sends c.args.self.now c.args.address c.args.size (left c.args.input.now) c.in-Some.bytes.now c.requires some e.bytes
+      send-some-sends c.args.self.now c.args.address c.args.size (left c.args.input.now) c.in-Some.bytes.now c.requires some e.bytes,
     )
 
 pub returns-in-Err-clause-untouched : goal.returns-in-Err-clause-untouched
