@@ -2,3 +2,5 @@
 #![tactic(auto)]
 
 mod lines;
+mod outbox;
+mod performing;
