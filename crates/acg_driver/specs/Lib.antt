@@ -3,3 +3,4 @@ pub mod Lines
 pub mod Answers
 pub mod Prints
 pub mod Serving
+pub mod Outboxes

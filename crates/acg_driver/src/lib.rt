@@ -5,3 +5,5 @@ mod image;
 mod lines;
 mod text;
 mod words;
+mod outbox;
+mod performing;

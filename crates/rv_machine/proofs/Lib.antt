@@ -3,4 +3,5 @@ pub mod IntegersLemmas
 pub mod MemoryLemmas
 pub mod NumbersLemmas
 pub mod RunsLemmas
+pub mod SentLaws
 pub mod StepsLemmas

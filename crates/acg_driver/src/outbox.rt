@@ -1,0 +1,71 @@
+//! What one instruction sends, before it is printed.
+
+ghost use Rattle.std.specs.Prelude.{◌≡◌, ◌<◌, ◌≤◌, length, vec_capacity};
+
+use acg_base::{Memory, Sink, SinkError};
+use std::alloc::Global;
+
+/// Bytes in memory up to a fixed room.
+#[derive(Debug, Drop)]
+pub(crate) struct Outbox {
+    room: usize,
+    bytes: Vec<u8>,
+    faults: u64,
+    ghost fits: { length bytes.items ≤ room },
+    ghost taken: { room ≤ vec_capacity bytes },
+    // A write that doesn't fit fills the room.
+    ghost full: { 0 < faults → length bytes.items ≡ room },
+}
+
+impl Outbox {
+    ghost use Rattle.std.specs.Prelude.{◌≡◌, [], IfOk};
+
+    /// An empty outbox with room for so many bytes. Takes all of its memory.
+    pub(crate) fn new(alloc: Global, room: usize) -> Result<Outbox, Memory>
+        ensures empty { IfOk result (λ outbox. outbox.bytes.items ≡ []) }
+        ensures room { IfOk result (λ outbox. outbox.room ≡ room) }
+    {
+        let bytes = Vec::with_capacity(alloc, room)?;
+        Ok(Outbox {
+            room,
+            bytes,
+            faults: 0,
+        })
+    }
+
+    /// Lends the bytes that it holds.
+    pub(crate) fn bytes(&self) -> &[u8]
+        ensures { result.now ≡ self.now.bytes.items }
+    {
+        self.bytes.as_slice()
+    }
+
+    /// Drops the bytes that it holds, and forgets its faults. The room stays.
+    pub(crate) fn clear(&mut self)
+        ensures empty { self.new.bytes.items ≡ [] }
+        ensures room { self.new.room ≡ self.old.room }
+    {
+        self.bytes.clear();
+        self.faults = 0;
+    }
+}
+
+impl Sink for Outbox {
+    ghost use Rattle.std.specs.Prelude.{true};
+
+    ghost written = { λ outbox. outbox.bytes.items };
+
+    ghost tells = { λ _. true };
+
+    ghost faults = { λ outbox. outbox.faults };
+
+    /// Fails where the piece passes the room, and then appends what fits.
+    fn write(&mut self, piece: &[u8]) -> Result<(), SinkError> {
+        let fits = piece.len().min(self.room - self.bytes.len());
+        if self.bytes.extend_from_slice(&piece[..fits]).is_err() || fits < piece.len() {
+            self.faults = self.faults.saturating_add(1);
+            return Err(SinkError::Failed);
+        }
+        Ok(())
+    }
+}
