@@ -3,9 +3,14 @@ use Rattle.std.specs.Prelude.{◌≡◌, ◌≢◌, ◌⊎◌, ℕ, ◌≤◌, B
 use Rattle.acg_base.specs.Outside.{Contents, SameContents, Grew, Rose}
 use Rattle.acg_base.specs.declared.status.Status.{Status}
 use Rattle.acg_base.specs.declared.status.Status.TheVariants as status
+use Rattle.action_terms.specs.Numbering.{Listed}
+use Rattle.rv_code.specs.Images.{Image}
+use Rattle.rv_machine.specs.Machines.{MachineValue, loaded_machine}
+use Rattle.rv_codegen.specs.RightImage.{IsRight}
+use Rattle.rv_codegen.specs.Measures.{subject_of, node_count}
 use Rattle.acg_driver.specs.Commands.{command_of}
 use Rattle.acg_driver.specs.Lines.{words_line, memory_line, read_fault_line}
-use Rattle.acg_driver.specs.Answers.{IsAnswer}
+use Rattle.acg_driver.specs.Answers.{IsAnswer, default_stack, default_units}
 
 -- the content is what the store has at the name, where it tells its contents
 abbrev pub IsContentAt : Bool → Contents → (name content : List ℕ) → Type 0
@@ -40,3 +45,9 @@ pub record Looked {S : Type 0} (contents : S → Contents) (failed_reads failed_
 pub record FaultsSurely (contents : Contents) (name : List ℕ) (result : Status) : Type 0 where
   pub only : result ≡ status.ReadFault → contents name ≡ None
   pub all : contents name ≡ None → (result ≡ status.ReadFault) ⊎ ((result ≡ status.Memory) ⊎ (result ≡ status.WriteFault))
+
+-- the machine stands before the first instruction of an image that is right for the graph's action, with the default capacity
+abbrev pub IsRightStart : Listed → MachineValue → Type 0
+IsRightStart g machine =
+    (image : Image) × IsRight image (node_count g) (subject_of g default_stack default_units)
+    × (machine ≡ loaded_machine image)

@@ -3,7 +3,11 @@
 
 mod image;
 mod lines;
-mod text;
-mod words;
 mod outbox;
 mod performing;
+mod running;
+mod serving;
+mod text;
+mod words;
+
+pub use serving::serve;
