@@ -1,3 +1,5 @@
 pub mod WordsLemmas
 pub mod PrintsLemmas
 pub mod CodeBytes
+pub mod Speaking
+pub mod Replies
