@@ -1,36 +1,34 @@
 //! What one instruction sends, before it is printed.
 
 ghost use Rattle.std.specs.Prelude.{◌≡◌, ◌<◌, ◌≤◌, length, vec_capacity};
+ghost use Rattle.acg_driver.specs.declared.outbox.TheConstants.{ROOM};
 
 use acg_base::{Memory, Sink, SinkError};
 use std::alloc::Global;
 
+/// The room of an outbox: one byte more than the region of the default capacity has.
+const ROOM: usize = 12_587_009;
+
 /// Bytes in memory up to a fixed room.
 #[derive(Debug, Drop)]
 pub(crate) struct Outbox {
-    room: usize,
     bytes: Vec<u8>,
     faults: u64,
-    ghost fits: { length bytes.items ≤ room },
-    ghost taken: { room ≤ vec_capacity bytes },
+    ghost fits: { length bytes.items ≤ ROOM },
+    ghost taken: { ROOM ≤ vec_capacity bytes },
     // A write that doesn't fit fills the room.
-    ghost full: { 0 < faults → length bytes.items ≡ room },
+    ghost full: { 0 < faults → length bytes.items ≡ ROOM },
 }
 
 impl Outbox {
     ghost use Rattle.std.specs.Prelude.{◌≡◌, [], IfOk};
 
-    /// An empty outbox with room for so many bytes. Takes all of its memory.
-    pub(crate) fn new(alloc: Global, room: usize) -> Result<Outbox, Memory>
-        ensures empty { IfOk result (λ outbox. outbox.bytes.items ≡ []) }
-        ensures room { IfOk result (λ outbox. outbox.room ≡ room) }
+    /// An empty outbox. Takes all of its memory.
+    pub(crate) fn new(alloc: Global) -> Result<Outbox, Memory>
+        ensures { IfOk result (λ outbox. outbox.bytes.items ≡ []) }
     {
-        let bytes = Vec::with_capacity(alloc, room)?;
-        Ok(Outbox {
-            room,
-            bytes,
-            faults: 0,
-        })
+        let bytes = Vec::with_capacity(alloc, ROOM)?;
+        Ok(Outbox { bytes, faults: 0 })
     }
 
     /// Lends the bytes that it holds.
@@ -40,10 +38,9 @@ impl Outbox {
         self.bytes.as_slice()
     }
 
-    /// Drops the bytes that it holds, and forgets its faults. The room stays.
+    /// Drops the bytes that it holds, and forgets its faults.
     pub(crate) fn clear(&mut self)
-        ensures empty { self.new.bytes.items ≡ [] }
-        ensures room { self.new.room ≡ self.old.room }
+        ensures { self.new.bytes.items ≡ [] }
     {
         self.bytes.clear();
         self.faults = 0;
@@ -61,7 +58,7 @@ impl Sink for Outbox {
 
     /// Fails where the piece passes the room, and then appends what fits.
     fn write(&mut self, piece: &[u8]) -> Result<(), SinkError> {
-        let fits = piece.len().min(self.room - self.bytes.len());
+        let fits = piece.len().min(ROOM - self.bytes.len());
         if self.bytes.extend_from_slice(&piece[..fits]).is_err() || fits < piece.len() {
             self.faults = self.faults.saturating_add(1);
             return Err(SinkError::Failed);

@@ -1,13 +1,13 @@
 //! A run of an image: its messages printed as they are sent, and how it ended.
 
-ghost use Rattle.std.specs.Prelude.{◌≡◌, ◌≢◌, ℕ, ◌+◌, ◌<◌, ◌≤◌, List, [], ◌∷◌, ◌++◌, length, codes, All, IsTrue, IsErrOf, IfSome, IfNone, OnOk, OnErr};
+ghost use Rattle.std.specs.Prelude.{◌≡◌, ◌≢◌, ℕ, ◌+◌, ◌<◌, ◌≤◌, List, [], ◌∷◌, ◌++◌, length, IsTrue, IsErrOf, IfSome, IfNone, OnOk, OnErr};
 ghost use Rattle.acg_base.specs.Outside.{Grew, Rose};
 ghost use Rattle.action_terms.specs.Performances.{records};
 ghost use Rattle.rv_code.specs.Machine.{run};
 ghost use Rattle.rv_machine.specs.Machines.{state_of};
-ghost use Rattle.acg_driver.specs.Lines.{message_line, output_lines, running_line};
+ghost use Rattle.acg_driver.specs.Lines.{message_line, output_lines};
 ghost use Rattle.acg_driver.specs.Answers.{IsExit, IsRunOf};
-ghost use Rattle.acg_driver.specs.Outboxes.{IsWhole, SendsMessages};
+ghost use Rattle.acg_driver.specs.Outboxes.{SendsMessages, FitsOutbox};
 
 use crate::outbox::Outbox;
 use acg_base::{Sink, SinkError, Status, decimal_into};
@@ -98,8 +98,8 @@ fn print_exit<K: Sink>(out: &mut K, code: u8) -> Status
 /// Runs a machine on no input for at most `budget` instructions. Prints each message as it is sent, a decimal on a
 /// line, and then how the run ended. Takes no memory.
 ///
-/// The outbox holds what one instruction sends, so its room is more than any segment of the machine has. The answer is
-/// the status of the outcome, or `WriteFault` where a write of `out` failed.
+/// The outbox holds what one instruction sends. The answer is the status of the outcome, or `WriteFault` where a write of
+/// `out` failed.
 pub(crate) fn perform<K: Sink>(
     machine: &mut Machine,
     outbox: &mut Outbox,
@@ -107,7 +107,7 @@ pub(crate) fn perform<K: Sink>(
     out: &mut K,
 ) -> Status
     requires messages { (m : ℕ) → SendsMessages (run m (state_of machine.old [] [])) }
-    requires room { All (λ s. length s.bytes < outbox.old.room) machine.old.segments }
+    requires room { FitsOutbox machine.old.segments }
 
     // What is printed are the messages of the run and its outcome, whose status is answered.
     ensures ran { result ≢ Status.WriteFault → ((printed : List ℕ)
@@ -126,12 +126,13 @@ pub(crate) fn perform<K: Sink>(
         match machine.step(&mut input, outbox) {
             Step::Ran => {}
             Step::Exited { code } => return print_exit(out, code),
-            Step::Trapped { .. } | Step::SinkFault => unreachable!(),
+            Step::Trapped { .. } => unreachable!(),
+            Step::SinkFault => unreachable!(),
         }
-        if print_messages(outbox.bytes(), out).is_err() {
-            return Status::WriteFault;
+        match print_messages(outbox.bytes(), out) {
+            Ok(()) => outbox.clear(),
+            Err(_) => return Status::WriteFault,
         }
-        outbox.clear();
     }
     print_outcome(out, b"running\n", Status::Running)
 }

@@ -1,9 +1,9 @@
--- The room of memory: an instruction sends no more bytes than a segment has, and no segment gains bytes.
+-- The room of memory: an instruction sends no more bytes than a readable segment has, and no segment gains bytes.
 use Rattle.std.proofs.Common.{◌≡◌, ℕ, zero, suc, ◌+◌, ◌-◌, ◌%◌, ◌<◌, ◌≤◌, ◌&&◌, min, Bool, true, false, nat_eq, List, [], ◌∷◌, ◌++◌, length, take, drop, Option, Some, None, refl, sym, ap, ◌∙◌, arith, All, option_map, slice_index_or, if◌then◌else◌}
 use Rattle.std.proofs.lemmas.List.{length-append, length-take, length-drop}
 use Rattle.std.proofs.lemmas.List.Elements.{All-set, All-get_or}
 use Rattle.std.proofs.lemmas.List.Quantifiers.{position-Some}
-use Rattle.rv_code.specs.Machine.{State, Outcome, Segment, Ran, Exited, Trapped, holds, holder, empty_segment, bytes_in, written_in, read_bytes, write_bytes, register, goes_on, sets, jumps, loads, stores, receives, sends, receive_call, send_call, call, execute, executes, fetches, step}
+use Rattle.rv_code.specs.Machine.{State, Outcome, Segment, Ran, Exited, Trapped, has_flag, holds, holder, empty_segment, bytes_in, written_in, read_bytes, write_bytes, register, goes_on, sets, jumps, loads, stores, receives, sends, receive_call, send_call, call, execute, executes, fetches, step}
 use Rattle.rv_code.specs.Table.{decode}
 use Rattle.rv_code.specs.Bytes.{number_of, bytes_of, put_at}
 use Rattle.rv_code.specs.Arithmetic.{wrap, unsigned, load_size, extended, store_size, is_taken}
@@ -14,11 +14,15 @@ use Rattle.rv_code.specs.declared.instruction.Inst.TheVariants.{Op, OpImm, Shift
 use Rattle.rv_machine.specs.Machines.{MachineValue, state_of, output_behind, sent, Steps}
 use Rattle.rv_machine.proofs.MemoryLemmas.{holder-room}
 
--- each segment has at most so many bytes
-abbrev pub Within : ℕ → List Segment → Type 0
-Within n segments = All (λ s. length s.bytes ≤ n) segments
+-- a segment that can be read has at most so many bytes
+abbrev pub IsWithin : ℕ → Segment → Type 0
+IsWithin n s = has_flag s.flags 4 ≡ true → length s.bytes ≤ n
 
--- behind an instruction each segment has at most so many bytes, and at most so many bytes are sent
+-- each segment that can be read has at most so many bytes
+abbrev pub Within : ℕ → List Segment → Type 0
+Within n segments = All (IsWithin n) segments
+
+-- behind an instruction each segment that can be read has at most so many bytes, and at most so many bytes are sent
 pub record Keeps (n : ℕ) (s t : State) : Type 0 where
   pub within : Within n t.segments
   pub few : length t.output ≤ length s.output + n
@@ -34,8 +38,15 @@ same n s t w e f = record { within = rw e w; few = rw f (omega arith) }
 
 -- ---- memory
 
+first-true : (a b : Bool) → (a && b) ≡ true → a ≡ true
+first-true true b h = refl
+first-true false b h = h
+
 put_at-length : (xs bs : List ℕ) (i : ℕ) → i + length bs ≤ length xs → length (put_at xs i bs) ≡ length xs
 put_at-length xs bs i h = simp (length-append, length-take, length-drop) (omega arith)
+
+holds-flag : (flag address size : ℕ) (s : Segment) → holds flag address size s ≡ true → has_flag s.flags flag ≡ true
+holds-flag flag address size s h = first-true (has_flag s.flags flag) _ h
 
 written-within : (n : ℕ) (segments : List Segment) (address size i : ℕ) (bytes : List ℕ) → Within n segments →
   Some i ≡ holder segments 2 address size → length bytes ≤ size → Within n (written_in segments address bytes i)
@@ -43,17 +54,20 @@ written-within n segments address size i bytes w e h =
     let s = slice_index_or segments i empty_segment in
     let room = holder-room segments 2 address size i empty_segment e in
     let below : i < length segments = (position-Some (holds 2 address size) segments i empty_segment (sym e)).0 in
-    let few : length s.bytes ≤ n = All-get_or (λ t. length t.bytes ≤ n) segments i empty_segment below w in
+    let few : IsWithin n s = All-get_or (IsWithin n) segments i empty_segment below w in
     let fits : address - s.address + length bytes ≤ length s.bytes = omega (arith, room.low, room.high, h) in
-    let kept : length (put_at s.bytes (address - s.address) bytes) ≤ n = rw (put_at-length s.bytes bytes (address - s.address) fits) few in
-    All-set (λ t. length t.bytes ≤ n) segments i (record s { bytes = put_at s.bytes (address - s.address) bytes }) kept w
+    let kept : IsWithin n (record s { bytes = put_at s.bytes (address - s.address) bytes }) =
+      λ reads. rw (put_at-length s.bytes bytes (address - s.address) fits) (few reads)
+    in
+    All-set (IsWithin n) segments i (record s { bytes = put_at s.bytes (address - s.address) bytes }) kept w
 
 read-few : (n : ℕ) (segments : List Segment) (address size i : ℕ) → Within n segments → Some i ≡ holder segments 4 address size →
   length (bytes_in segments address size i) ≤ n
 read-few n segments address size i w e =
     let s = slice_index_or segments i empty_segment in
     let below : i < length segments = (position-Some (holds 4 address size) segments i empty_segment (sym e)).0 in
-    let few : length s.bytes ≤ n = All-get_or (λ t. length t.bytes ≤ n) segments i empty_segment below w in
+    let found = position-Some (holds 4 address size) segments i empty_segment (sym e) in
+    let few : length s.bytes ≤ n = All-get_or (IsWithin n) segments i empty_segment below w (holds-flag 4 address size s found.1) in
     simp (length-take, length-drop) (omega (arith, few))
 
 -- ---- instructions
@@ -155,12 +169,12 @@ behind-few n s (Ran t) e h = let none : length s.output ≡ 0 = ap length e in o
 behind-few n s (Exited code output) e h = omega arith
 behind-few n s (Trapped cause) e h = omega arith
 
--- an instruction sends at most as many bytes as the largest segment has
+-- an instruction sends at most as many bytes as the largest segment that can be read has
 pub sent-few : (n : ℕ) (machine : MachineValue) → Within n machine.segments → length (sent machine) ≤ n
 unfolding sent
 sent-few n machine w = behind-few n (state_of machine [] []) (step (state_of machine [] [])) refl (step-stays n (state_of machine [] []) w)
 
--- an instruction leaves each segment within so many bytes
+-- an instruction leaves each segment that can be read within so many bytes
 pub steps-within : (n : ℕ) (old new : MachineValue) (input rest : List ℕ) → Within n old.segments → Steps old input new rest → Within n new.segments
 steps-within n old new input rest w h =
     let stays = step-stays n (state_of old input []) w in
