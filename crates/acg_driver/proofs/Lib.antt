@@ -1,1 +1,2 @@
 pub mod PerformingLemmas
+pub mod RightRuns
