@@ -1,5 +1,5 @@
 -- Runs whose messages are printed as they are sent.
-use Rattle.std.proofs.Common.{◌≡◌, ◌⊎◌, ℕ, zero, suc, ◌+◌, ◌-◌, ◌*◌, ◌^◌, ◌<◌, ◌≤◌, min, ℤ, List, [], ◌∷◌, ◌++◌, length, take, drop, get_or, refl, sym, ap, ◌∙◌, arith, inl, inr, append_assoc}
+use Rattle.std.proofs.Common.{◌≡◌, ℕ, zero, suc, ◌+◌, ◌-◌, ◌*◌, ◌^◌, ◌<◌, ◌≤◌, min, ℤ, List, [], ◌∷◌, ◌++◌, length, take, drop, get_or, refl, sym, ap, ◌∙◌, arith, inl, inr, append_assoc}
 use Rattle.std.specs.Int.{w64, cast_signed, from_le_bytes}
 use Rattle.std.specs.Int.Signed.{mag}
 use Rattle.std.proofs.lemmas.Int.{to_z-of_z}
@@ -8,7 +8,7 @@ use mir.Val.{of_z, to_z}
 use Rattle.acg_base.specs.Outside.{Rose, GainsFrontOf}
 use Rattle.acg_base.specs.declared.status.Status.{Status}
 use Rattle.action_terms.specs.Performances.{records}
-use Rattle.rv_code.specs.Machine.{Ran, Exited, Trapped, run}
+use Rattle.rv_code.specs.Machine.{Exited, run}
 use Rattle.rv_code.specs.declared.cause.Cause.{Cause}
 use Rattle.rv_machine.specs.Machines.{MachineValue, state_of, sent, sent_in, Steps, StepExits, StepTraps, Runs}
 use Rattle.rv_machine.proofs.RunsLemmas.{sent_in-more, sent_in-exit, run-exits, run-traps}
@@ -48,11 +48,11 @@ output_lines-append xs ys whole =
 
 -- the first message of 8 bytes or more, as a program reads it
 pub records-first : (bytes : List ℕ) (m : ℤ) → 8 ≤ length bytes → mag m < 2 ^ 63 →
-  m ≡ cast_signed w64 (from_le_bytes w64 (get_or bytes 0 0 ∷ get_or bytes 1 0 ∷ get_or bytes 2 0 ∷ get_or bytes 3 0 ∷ get_or bytes 4 0 ∷ get_or bytes 5 0 ∷ get_or bytes 6 0 ∷ get_or bytes 7 0 ∷ [])) →
-  records bytes ≡ to_z w64 (of_z w64 m) ∷ records (take (length bytes - 8) (drop 8 bytes))
+    m ≡ cast_signed w64 (from_le_bytes w64 (get_or bytes 0 0 ∷ get_or bytes 1 0 ∷ get_or bytes 2 0 ∷ get_or bytes 3 0 ∷ get_or bytes 4 0 ∷ get_or bytes 5 0 ∷ get_or bytes 6 0 ∷ get_or bytes 7 0 ∷ [])) →
+    records bytes ≡ to_z w64 (of_z w64 m) ∷ records (take (length bytes - 8) (drop 8 bytes))
 records-first (b0 ∷ (b1 ∷ (b2 ∷ (b3 ∷ (b4 ∷ (b5 ∷ (b6 ∷ (b7 ∷ bytes)))))))) m h small e =
     let read : cast_signed w64 (from_le_bytes w64 (b0 ∷ b1 ∷ b2 ∷ b3 ∷ b4 ∷ b5 ∷ b6 ∷ b7 ∷ [])) ≡ to_z w64 (of_z w64 m) =
-      sym e ∙ sym (to_z-of_z w64 m (record { sfits = small }))
+    sym e ∙ sym (to_z-of_z w64 m (record { sfits = small }))
     in
     let all : ℕ = length (b0 ∷ (b1 ∷ (b2 ∷ (b3 ∷ (b4 ∷ (b5 ∷ (b6 ∷ (b7 ∷ bytes)))))))) in
     let rest : take (all - 8) bytes ≡ bytes = take_all (all - 8) bytes (omega arith) in
@@ -81,7 +81,7 @@ sent-whole n m k j sane r = let shown = sane n in rw (r []) at shown
 
 -- the lines of one more instruction stand behind the others
 pub lines-more : (n : ℕ) (m k l : MachineValue) (j q : List ℕ) → Sane m → Runs n m [] k j → Steps k j l q →
-  output_lines (sent_in (n + 1) m []) ≡ output_lines (sent_in n m []) ++ output_lines (sent k)
+    output_lines (sent_in (n + 1) m []) ≡ output_lines (sent_in n m []) ++ output_lines (sent k)
 lines-more n m k l j q sane r s =
     ap output_lines (sent_in-more n m [] k j l q r s) ∙ output_lines-append (sent_in n m []) (sent k) (sent-whole n m k j sane r)
 
@@ -96,14 +96,14 @@ exit-code n b m k j code sane r s h =
 
 -- what is printed of a run that exits
 pub exit-answer : (n b : ℕ) (m k : MachineValue) (j : List ℕ) (code : ℕ) (line : List ℕ) (status : Status) → Runs n m [] k j → StepExits k j code →
-  n < b → IsExit code line status → IsRunOf (run b (state_of m [] [])) (output_lines (sent_in n m []) ++ line) status
+    n < b → IsExit code line status → IsRunOf (run b (state_of m [] [])) (output_lines (sent_in n m []) ++ line) status
 exit-answer n b m k j code line status r s h e =
     let same = sent_in-exit n b m [] k j code r s h in
     rw (run-exits n b m [] k j code r s h []) (line, ap (λ output. output_lines output ++ line) (sym same), e)
 
 -- what is printed of a run that doesn't end
 pub running-answer : (b : ℕ) (m k : MachineValue) (j : List ℕ) (status : Status) → Runs b m [] k j → status ≡ Running →
-  IsRunOf (run b (state_of m [] [])) (output_lines (sent_in b m []) ++ running_line) status
+    IsRunOf (run b (state_of m [] [])) (output_lines (sent_in b m []) ++ running_line) status
 running-answer b m k j status r e = rw (r []) (refl, e)
 
 -- a count that doesn't fall and didn't grow
@@ -118,7 +118,7 @@ rose-positive old new (inr h) = omega (arith, h)
 
 -- what an instruction sends doesn't fill a greater room
 pub never-full : (n : ℕ) (k : MachineValue) (old new : List ℕ) → Within n k.segments → old ≡ [] → GainsFrontOf (sent k) old new →
-  length new ≡ n + 1 → ⊥
+    length new ≡ n + 1 → ⊥
 never-full n k old new within empty (count, gains) full =
     let few = sent-few n k within in
     let gained : length new ≡ length old + min count (length (sent k)) = rw (gains, length-append, length-take) refl in

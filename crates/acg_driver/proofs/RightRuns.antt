@@ -1,5 +1,5 @@
 -- Runs of a right image can be printed as they go.
-use Rattle.std.proofs.Common.{◌≡◌, ℕ, zero, suc, ◌+◌, ◌-◌, ◌*◌, ◌<◌, ◌≤◌, ℤ, List, [], ◌∷◌, ◌++◌, length, map, refl, ap, ◌∙◌, subst, sym, arith, replicate}
+use Rattle.std.proofs.Common.{◌≡◌, ℕ, zero, suc, ◌+◌, ◌-◌, ◌≤◌, ℤ, List, [], ◌∷◌, length, map, refl, ap, ◌∙◌, subst, sym, arith, replicate}
 use Rattle.std.proofs.lemmas.List.{length-append, length-replicate}
 use Rattle.action_terms.specs.Performances.{message_bytes, messages_bytes}
 use Rattle.rv_asm.specs.Conventions.{region_size}
@@ -34,7 +34,7 @@ pub right-sends : (image : Image) (nodes : ℕ) (x : Subject) → IsRight image 
 right-sends image nodes x right m = shows-messages x m (run m (started image [])) (right.shows [] (λ k d below. absurd (omega arith)) m)
 
 compiled-fits : (code : List ℕ) (stack units : ℕ) → stack ≡ default_stack → units ≡ default_units →
-  FitsOutbox (map filled (compiled_image code stack units).segments)
+    FitsOutbox (map filled (compiled_image code stack units).segments)
 compiled-fits code stack units e f zero d below reads = absurd (cc)
 compiled-fits code stack units e f (suc zero) d below reads =
     let given : ℕ = region_size stack units - 0 in
@@ -45,7 +45,7 @@ compiled-fits code stack units e f (suc (suc k)) d below reads = absurd (omega a
 
 -- a right image for the default capacity fits an outbox
 pub right-fits : (image : Image) (nodes : ℕ) (x : Subject) → IsRight image nodes x → x.stack ≡ default_stack → x.units ≡ default_units →
-  FitsOutbox (map filled image.segments)
+    FitsOutbox (map filled image.segments)
 right-fits image nodes x right e f =
     let Fits : Image → Type 0 = λ i. FitsOutbox (map filled i.segments) in
     subst Fits (sym right.loads.compiled) (compiled-fits right.loads.code x.stack x.units e f)

@@ -1,9 +1,9 @@
 -- The room of memory: an instruction sends no more bytes than a readable segment has, and no segment gains bytes.
-use Rattle.std.proofs.Common.{◌≡◌, ℕ, zero, suc, ◌+◌, ◌-◌, ◌%◌, ◌<◌, ◌≤◌, ◌&&◌, min, Bool, true, false, nat_eq, List, [], ◌∷◌, ◌++◌, length, take, drop, Option, Some, None, refl, sym, ap, ◌∙◌, arith, All, option_map, slice_index_or, if◌then◌else◌}
+use Rattle.std.proofs.Common.{◌≡◌, ℕ, ◌+◌, ◌-◌, ◌%◌, ◌<◌, ◌≤◌, ◌&&◌, min, Bool, true, false, nat_eq, List, [], ◌++◌, length, take, Option, Some, None, refl, sym, ap, arith, All, option_map, slice_index_or, if◌then◌else◌}
 use Rattle.std.proofs.lemmas.List.{length-append, length-take, length-drop}
 use Rattle.std.proofs.lemmas.List.Elements.{All-set, All-get_or}
 use Rattle.std.proofs.lemmas.List.Quantifiers.{position-Some}
-use Rattle.rv_code.specs.Machine.{State, Outcome, Segment, Ran, Exited, Trapped, has_flag, holds, holder, empty_segment, bytes_in, written_in, read_bytes, write_bytes, register, goes_on, sets, jumps, loads, stores, receives, sends, receive_call, send_call, call, execute, executes, fetches, step}
+use Rattle.rv_code.specs.Machine.{State, Outcome, Segment, Ran, Exited, Trapped, has_flag, holds, holder, empty_segment, bytes_in, written_in, read_bytes, write_bytes, register, sets, loads, stores, receives, sends, receive_call, send_call, execute, executes, fetches, step}
 use Rattle.rv_code.specs.Table.{decode}
 use Rattle.rv_code.specs.Bytes.{number_of, bytes_of, put_at}
 use Rattle.rv_code.specs.Arithmetic.{wrap, unsigned, load_size, extended, store_size, is_taken}
@@ -49,7 +49,7 @@ holds-flag : (flag address size : ℕ) (s : Segment) → holds flag address size
 holds-flag flag address size s h = first-true (has_flag s.flags flag) _ h
 
 written-within : (n : ℕ) (segments : List Segment) (address size i : ℕ) (bytes : List ℕ) → Within n segments →
-  Some i ≡ holder segments 2 address size → length bytes ≤ size → Within n (written_in segments address bytes i)
+    Some i ≡ holder segments 2 address size → length bytes ≤ size → Within n (written_in segments address bytes i)
 written-within n segments address size i bytes w e h =
     let s = slice_index_or segments i empty_segment in
     let room = holder-room segments 2 address size i empty_segment e in
@@ -57,12 +57,12 @@ written-within n segments address size i bytes w e h =
     let few : IsWithin n s = All-get_or (IsWithin n) segments i empty_segment below w in
     let fits : address - s.address + length bytes ≤ length s.bytes = omega (arith, room.low, room.high, h) in
     let kept : IsWithin n (record s { bytes = put_at s.bytes (address - s.address) bytes }) =
-      λ reads. rw (put_at-length s.bytes bytes (address - s.address) fits) (few reads)
+    λ reads. rw (put_at-length s.bytes bytes (address - s.address) fits) (few reads)
     in
     All-set (IsWithin n) segments i (record s { bytes = put_at s.bytes (address - s.address) bytes }) kept w
 
 read-few : (n : ℕ) (segments : List Segment) (address size i : ℕ) → Within n segments → Some i ≡ holder segments 4 address size →
-  length (bytes_in segments address size i) ≤ n
+    length (bytes_in segments address size i) ≤ n
 read-few n segments address size i w e =
     let s = slice_index_or segments i empty_segment in
     let below : i < length segments = (position-Some (holds 4 address size) segments i empty_segment (sym e)).0 in
@@ -73,35 +73,35 @@ read-few n segments address size i w e =
 -- ---- instructions
 
 jumps-stay : (n : ℕ) (b : Bool) (s t : State) (cause : Cause) → Within n s.segments → t.segments ≡ s.segments → t.output ≡ s.output →
-  Stays n s (if b then Ran t else Trapped cause)
+    Stays n s (if b then Ran t else Trapped cause)
 jumps-stay n true s t cause w e f = same n s t w e f
 jumps-stay n false s t cause w e f = tt
 
 branches-stay : (n : ℕ) (taken multiple : Bool) (s t u : State) (cause : Cause) → Within n s.segments →
-  t.segments ≡ s.segments → t.output ≡ s.output → u.segments ≡ s.segments → u.output ≡ s.output →
-  Stays n s (if taken then (if multiple then Ran t else Trapped cause) else Ran u)
+    t.segments ≡ s.segments → t.output ≡ s.output → u.segments ≡ s.segments → u.output ≡ s.output →
+    Stays n s (if taken then (if multiple then Ran t else Trapped cause) else Ran u)
 branches-stay n true multiple s t u cause w e f g h = jumps-stay n multiple s t cause w e f
 branches-stay n false multiple s t u cause w e f g h = same n s u w g h
 
 loads-stay : (n : ℕ) (aligned : Bool) (s : State) (rd : ℕ) (extend : ℕ → ℕ) (bytes : Option (List ℕ)) (cause : Cause) →
-  Within n s.segments → Stays n s (if aligned then loads s rd extend bytes else Trapped cause)
+    Within n s.segments → Stays n s (if aligned then loads s rd extend bytes else Trapped cause)
 loads-stay n true s rd extend None cause w = tt
 loads-stay n true s rd extend (Some bytes) cause w = same n s _ w refl refl
 loads-stay n false s rd extend bytes cause w = tt
 
 stored-stay : (n : ℕ) (s : State) (address : ℕ) (bytes : List ℕ) (place : Option ℕ) → Within n s.segments →
-  place ≡ holder s.segments 2 address (length bytes) → Stays n s (stores s (option_map (written_in s.segments address bytes) place))
+    place ≡ holder s.segments 2 address (length bytes) → Stays n s (stores s (option_map (written_in s.segments address bytes) place))
 stored-stay n s address bytes None w e = tt
 stored-stay n s address bytes (Some i) w e =
     record { within = written-within n s.segments address (length bytes) i bytes w e (omega arith); few = omega arith }
 
 stores-stay : (n : ℕ) (aligned : Bool) (s : State) (address : ℕ) (bytes : List ℕ) (cause : Cause) → Within n s.segments →
-  Stays n s (if aligned then stores s (write_bytes s.segments address bytes) else Trapped cause)
+    Stays n s (if aligned then stores s (write_bytes s.segments address bytes) else Trapped cause)
 stores-stay n true s address bytes cause w = stored-stay n s address bytes (holder s.segments 2 address (length bytes)) w refl
 stores-stay n false s address bytes cause w = tt
 
 receives-stay : (n : ℕ) (none : Bool) (s : State) (address count : ℕ) (place : Option ℕ) → Within n s.segments →
-  place ≡ holder s.segments 2 address count → Stays n s (if none then sets s 10 0 else receives s address count place)
+    place ≡ holder s.segments 2 address count → Stays n s (if none then sets s 10 0 else receives s address count place)
 receives-stay n true s address count place w e = same n s _ w refl refl
 receives-stay n false s address count None w e = tt
 receives-stay n false s address count (Some i) w e =
@@ -109,18 +109,18 @@ receives-stay n false s address count (Some i) w e =
     record { within = written-within n s.segments address count i _ w e short; few = omega arith }
 
 sent-stay : (n : ℕ) (s : State) (address count : ℕ) (place : Option ℕ) → Within n s.segments → place ≡ holder s.segments 4 address count →
-  Stays n s (sends s count (option_map (bytes_in s.segments address count) place))
+    Stays n s (sends s count (option_map (bytes_in s.segments address count) place))
 sent-stay n s address count None w e = tt
 sent-stay n s address count (Some i) w e =
     record { within = w; few = simp length-append (omega (arith, read-few n s.segments address count i w e)) }
 
 sends-stay : (n : ℕ) (none : Bool) (s : State) (address count : ℕ) → Within n s.segments →
-  Stays n s (if none then sets s 10 0 else sends s count (read_bytes s.segments 4 address count))
+    Stays n s (if none then sets s 10 0 else sends s count (read_bytes s.segments 4 address count))
 sends-stay n true s address count w = same n s _ w refl refl
 sends-stay n false s address count w = sent-stay n s address count (holder s.segments 4 address count) w refl
 
 calls-stay : (n : ℕ) (exits receives_it sends_it : Bool) (s : State) (o p q : Outcome) (cause : Cause) → Stays n s o → Stays n s p → Stays n s q →
-  Stays n s (if exits then o else (if receives_it then p else (if sends_it then q else Trapped cause)))
+    Stays n s (if exits then o else (if receives_it then p else (if sends_it then q else Trapped cause)))
 calls-stay n true r t s o p q cause f g h = f
 calls-stay n false true t s o p q cause f g h = g
 calls-stay n false false true s o p q cause f g h = h
