@@ -3,3 +3,5 @@ pub mod PrintsLemmas
 pub mod CodeBytes
 pub mod Speaking
 pub mod Replies
+pub mod PerformingLemmas
+pub mod RightRuns

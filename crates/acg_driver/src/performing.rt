@@ -5,28 +5,14 @@ ghost use Rattle.acg_base.specs.Outside.{Grew, Rose};
 ghost use Rattle.action_terms.specs.Performances.{records};
 ghost use Rattle.rv_code.specs.Machine.{run};
 ghost use Rattle.rv_machine.specs.Machines.{state_of};
-ghost use Rattle.acg_driver.specs.Lines.{message_line, output_lines};
+ghost use Rattle.acg_driver.specs.Lines.{output_lines};
 ghost use Rattle.acg_driver.specs.Answers.{IsExit, IsRunOf};
 ghost use Rattle.acg_driver.specs.Outboxes.{SendsMessages, FitsOutbox};
 
+use crate::lines::print_message;
 use crate::outbox::Outbox;
-use acg_base::{Sink, SinkError, Status, decimal_into};
+use acg_base::{Sink, SinkError, Status};
 use rv_machine::{Input, Machine, Step};
-
-// Prints a message: its decimal on a line.
-fn print_message<K: Sink>(out: &mut K, value: i64) -> Result<(), SinkError>
-    ensures printed { OnOk result (IsTrue (K.tells out.old) →
-        K.written out.new ≡ K.written out.old ++ message_line value) }
-    ensures failed { OnErr result (Rose (K.faults out.old) (K.faults out.new)) }
-    ensures grew { Grew (K.faults out.old) (K.faults out.new) → IsErrOf result SinkError.Failed }
-    ensures counts { K.faults out.old ≤ K.faults out.new }
-    ensures tells_still { K.tells out.new ≡ K.tells out.old }
-{
-    let mut digits = [0; 20];
-    let count = decimal_into(value, &mut digits);
-    out.write(&digits[..count])?;
-    out.write(b"\n")
-}
 
 // The first message of the bytes, and the bytes behind it; nothing where fewer than 8 are left.
 fn split_message(bytes: &[u8]) -> Option<(i64, &[u8])>

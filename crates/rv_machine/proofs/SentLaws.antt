@@ -1,9 +1,9 @@
--- The room of memory: an instruction sends no more bytes than a segment has, and no segment gains bytes.
-use Rattle.std.proofs.Common.{◌≡◌, ℕ, zero, suc, ◌+◌, ◌-◌, ◌%◌, ◌<◌, ◌≤◌, ◌&&◌, min, Bool, true, false, nat_eq, List, [], ◌∷◌, ◌++◌, length, take, drop, Option, Some, None, refl, sym, ap, ◌∙◌, arith, All, option_map, slice_index_or, if◌then◌else◌}
+-- The room of memory: an instruction sends no more bytes than a readable segment has, and no segment gains bytes.
+use Rattle.std.proofs.Common.{◌≡◌, ℕ, ◌+◌, ◌-◌, ◌%◌, ◌<◌, ◌≤◌, ◌&&◌, min, Bool, true, false, nat_eq, List, [], ◌++◌, length, take, Option, Some, None, refl, sym, ap, arith, All, option_map, slice_index_or, if◌then◌else◌}
 use Rattle.std.proofs.lemmas.List.{length-append, length-take, length-drop}
 use Rattle.std.proofs.lemmas.List.Elements.{All-set, All-get_or}
 use Rattle.std.proofs.lemmas.List.Quantifiers.{position-Some}
-use Rattle.rv_code.specs.Machine.{State, Outcome, Segment, Ran, Exited, Trapped, holds, holder, empty_segment, bytes_in, written_in, read_bytes, write_bytes, register, goes_on, sets, jumps, loads, stores, receives, sends, receive_call, send_call, call, execute, executes, fetches, step}
+use Rattle.rv_code.specs.Machine.{State, Outcome, Segment, Ran, Exited, Trapped, has_flag, holds, holder, empty_segment, bytes_in, written_in, read_bytes, write_bytes, register, sets, loads, stores, receives, sends, receive_call, send_call, execute, executes, fetches, step}
 use Rattle.rv_code.specs.Table.{decode}
 use Rattle.rv_code.specs.Bytes.{number_of, bytes_of, put_at}
 use Rattle.rv_code.specs.Arithmetic.{wrap, unsigned, load_size, extended, store_size, is_taken}
@@ -14,11 +14,15 @@ use Rattle.rv_code.specs.declared.instruction.Inst.TheVariants.{Op, OpImm, Shift
 use Rattle.rv_machine.specs.Machines.{MachineValue, state_of, output_behind, sent, Steps}
 use Rattle.rv_machine.proofs.MemoryLemmas.{holder-room}
 
--- each segment has at most so many bytes
-abbrev pub Within : ℕ → List Segment → Type 0
-Within n segments = All (λ s. length s.bytes ≤ n) segments
+-- a segment that can be read has at most so many bytes
+abbrev pub IsWithin : ℕ → Segment → Type 0
+IsWithin n s = has_flag s.flags 4 ≡ true → length s.bytes ≤ n
 
--- behind an instruction each segment has at most so many bytes, and at most so many bytes are sent
+-- each segment that can be read has at most so many bytes
+abbrev pub Within : ℕ → List Segment → Type 0
+Within n segments = All (IsWithin n) segments
+
+-- behind an instruction each segment that can be read has at most so many bytes, and at most so many bytes are sent
 pub record Keeps (n : ℕ) (s t : State) : Type 0 where
   pub within : Within n t.segments
   pub few : length t.output ≤ length s.output + n
@@ -34,60 +38,70 @@ same n s t w e f = record { within = rw e w; few = rw f (omega arith) }
 
 -- ---- memory
 
+first-true : (a b : Bool) → (a && b) ≡ true → a ≡ true
+first-true true b h = refl
+first-true false b h = h
+
 put_at-length : (xs bs : List ℕ) (i : ℕ) → i + length bs ≤ length xs → length (put_at xs i bs) ≡ length xs
 put_at-length xs bs i h = simp (length-append, length-take, length-drop) (omega arith)
 
+holds-flag : (flag address size : ℕ) (s : Segment) → holds flag address size s ≡ true → has_flag s.flags flag ≡ true
+holds-flag flag address size s h = first-true (has_flag s.flags flag) _ h
+
 written-within : (n : ℕ) (segments : List Segment) (address size i : ℕ) (bytes : List ℕ) → Within n segments →
-  Some i ≡ holder segments 2 address size → length bytes ≤ size → Within n (written_in segments address bytes i)
+    Some i ≡ holder segments 2 address size → length bytes ≤ size → Within n (written_in segments address bytes i)
 written-within n segments address size i bytes w e h =
     let s = slice_index_or segments i empty_segment in
     let room = holder-room segments 2 address size i empty_segment e in
     let below : i < length segments = (position-Some (holds 2 address size) segments i empty_segment (sym e)).0 in
-    let few : length s.bytes ≤ n = All-get_or (λ t. length t.bytes ≤ n) segments i empty_segment below w in
+    let few : IsWithin n s = All-get_or (IsWithin n) segments i empty_segment below w in
     let fits : address - s.address + length bytes ≤ length s.bytes = omega (arith, room.low, room.high, h) in
-    let kept : length (put_at s.bytes (address - s.address) bytes) ≤ n = rw (put_at-length s.bytes bytes (address - s.address) fits) few in
-    All-set (λ t. length t.bytes ≤ n) segments i (record s { bytes = put_at s.bytes (address - s.address) bytes }) kept w
+    let kept : IsWithin n (record s { bytes = put_at s.bytes (address - s.address) bytes }) =
+    λ reads. rw (put_at-length s.bytes bytes (address - s.address) fits) (few reads)
+    in
+    All-set (IsWithin n) segments i (record s { bytes = put_at s.bytes (address - s.address) bytes }) kept w
 
 read-few : (n : ℕ) (segments : List Segment) (address size i : ℕ) → Within n segments → Some i ≡ holder segments 4 address size →
-  length (bytes_in segments address size i) ≤ n
+    length (bytes_in segments address size i) ≤ n
 read-few n segments address size i w e =
     let s = slice_index_or segments i empty_segment in
     let below : i < length segments = (position-Some (holds 4 address size) segments i empty_segment (sym e)).0 in
-    let few : length s.bytes ≤ n = All-get_or (λ t. length t.bytes ≤ n) segments i empty_segment below w in
+    let found = position-Some (holds 4 address size) segments i empty_segment (sym e) in
+    let few : length s.bytes ≤ n = All-get_or (IsWithin n) segments i empty_segment below w (holds-flag 4 address size s found.1) in
     simp (length-take, length-drop) (omega (arith, few))
 
 -- ---- instructions
 
 jumps-stay : (n : ℕ) (b : Bool) (s t : State) (cause : Cause) → Within n s.segments → t.segments ≡ s.segments → t.output ≡ s.output →
-  Stays n s (if b then Ran t else Trapped cause)
+    Stays n s (if b then Ran t else Trapped cause)
 jumps-stay n true s t cause w e f = same n s t w e f
 jumps-stay n false s t cause w e f = tt
 
 branches-stay : (n : ℕ) (taken multiple : Bool) (s t u : State) (cause : Cause) → Within n s.segments →
-  t.segments ≡ s.segments → t.output ≡ s.output → u.segments ≡ s.segments → u.output ≡ s.output →
-  Stays n s (if taken then (if multiple then Ran t else Trapped cause) else Ran u)
+    t.segments ≡ s.segments → t.output ≡ s.output → u.segments ≡ s.segments → u.output ≡ s.output →
+    Stays n s (if taken then (if multiple then Ran t else Trapped cause) else Ran u)
 branches-stay n true multiple s t u cause w e f g h = jumps-stay n multiple s t cause w e f
 branches-stay n false multiple s t u cause w e f g h = same n s u w g h
 
 loads-stay : (n : ℕ) (aligned : Bool) (s : State) (rd : ℕ) (extend : ℕ → ℕ) (bytes : Option (List ℕ)) (cause : Cause) →
-  Within n s.segments → Stays n s (if aligned then loads s rd extend bytes else Trapped cause)
+    Within n s.segments → Stays n s (if aligned then loads s rd extend bytes else Trapped cause)
 loads-stay n true s rd extend None cause w = tt
 loads-stay n true s rd extend (Some bytes) cause w = same n s _ w refl refl
 loads-stay n false s rd extend bytes cause w = tt
 
 stored-stay : (n : ℕ) (s : State) (address : ℕ) (bytes : List ℕ) (place : Option ℕ) → Within n s.segments →
-  place ≡ holder s.segments 2 address (length bytes) → Stays n s (stores s (option_map (written_in s.segments address bytes) place))
+    place ≡ holder s.segments 2 address (length bytes) → Stays n s (stores s (option_map (written_in s.segments address bytes) place))
 stored-stay n s address bytes None w e = tt
 stored-stay n s address bytes (Some i) w e =
     record { within = written-within n s.segments address (length bytes) i bytes w e (omega arith); few = omega arith }
 
 stores-stay : (n : ℕ) (aligned : Bool) (s : State) (address : ℕ) (bytes : List ℕ) (cause : Cause) → Within n s.segments →
-  Stays n s (if aligned then stores s (write_bytes s.segments address bytes) else Trapped cause)
+    Stays n s (if aligned then stores s (write_bytes s.segments address bytes) else Trapped cause)
 stores-stay n true s address bytes cause w = stored-stay n s address bytes (holder s.segments 2 address (length bytes)) w refl
 stores-stay n false s address bytes cause w = tt
 
 receives-stay : (n : ℕ) (none : Bool) (s : State) (address count : ℕ) (place : Option ℕ) → Within n s.segments →
-  place ≡ holder s.segments 2 address count → Stays n s (if none then sets s 10 0 else receives s address count place)
+    place ≡ holder s.segments 2 address count → Stays n s (if none then sets s 10 0 else receives s address count place)
 receives-stay n true s address count place w e = same n s _ w refl refl
 receives-stay n false s address count None w e = tt
 receives-stay n false s address count (Some i) w e =
@@ -95,18 +109,18 @@ receives-stay n false s address count (Some i) w e =
     record { within = written-within n s.segments address count i _ w e short; few = omega arith }
 
 sent-stay : (n : ℕ) (s : State) (address count : ℕ) (place : Option ℕ) → Within n s.segments → place ≡ holder s.segments 4 address count →
-  Stays n s (sends s count (option_map (bytes_in s.segments address count) place))
+    Stays n s (sends s count (option_map (bytes_in s.segments address count) place))
 sent-stay n s address count None w e = tt
 sent-stay n s address count (Some i) w e =
     record { within = w; few = simp length-append (omega (arith, read-few n s.segments address count i w e)) }
 
 sends-stay : (n : ℕ) (none : Bool) (s : State) (address count : ℕ) → Within n s.segments →
-  Stays n s (if none then sets s 10 0 else sends s count (read_bytes s.segments 4 address count))
+    Stays n s (if none then sets s 10 0 else sends s count (read_bytes s.segments 4 address count))
 sends-stay n true s address count w = same n s _ w refl refl
 sends-stay n false s address count w = sent-stay n s address count (holder s.segments 4 address count) w refl
 
 calls-stay : (n : ℕ) (exits receives_it sends_it : Bool) (s : State) (o p q : Outcome) (cause : Cause) → Stays n s o → Stays n s p → Stays n s q →
-  Stays n s (if exits then o else (if receives_it then p else (if sends_it then q else Trapped cause)))
+    Stays n s (if exits then o else (if receives_it then p else (if sends_it then q else Trapped cause)))
 calls-stay n true r t s o p q cause f g h = f
 calls-stay n false true t s o p q cause f g h = g
 calls-stay n false false true s o p q cause f g h = h
@@ -155,12 +169,12 @@ behind-few n s (Ran t) e h = let none : length s.output ≡ 0 = ap length e in o
 behind-few n s (Exited code output) e h = omega arith
 behind-few n s (Trapped cause) e h = omega arith
 
--- an instruction sends at most as many bytes as the largest segment has
+-- an instruction sends at most as many bytes as the largest segment that can be read has
 pub sent-few : (n : ℕ) (machine : MachineValue) → Within n machine.segments → length (sent machine) ≤ n
 unfolding sent
 sent-few n machine w = behind-few n (state_of machine [] []) (step (state_of machine [] [])) refl (step-stays n (state_of machine [] []) w)
 
--- an instruction leaves each segment within so many bytes
+-- an instruction leaves each segment that can be read within so many bytes
 pub steps-within : (n : ℕ) (old new : MachineValue) (input rest : List ℕ) → Within n old.segments → Steps old input new rest → Within n new.segments
 steps-within n old new input rest w h =
     let stays = step-stays n (state_of old input []) w in
