@@ -2,14 +2,8 @@
 
 ghost use Rattle.std.specs.Prelude.{◌≡◌, [], IfOk};
 ghost use Rattle.action_terms.specs.Meaning.{action_of};
-ghost use Rattle.action_terms.specs.Numbering.{Listed};
-ghost use Rattle.rv_code.specs.Images.{Image as ImageValue, started};
-ghost use Rattle.rv_machine.specs.Machines.{state_of};
-ghost use Rattle.rv_codegen.specs.RightImage.{IsRight};
-ghost use Rattle.rv_codegen.specs.Measures.{subject_of, node_count, factor_of};
 ghost use Rattle.rv_codegen.specs.Works.{unbuilt};
-ghost use Rattle.acg_driver.specs.Answers.{default_stack, default_units, IsRun};
-ghost use Rattle.acg_driver.specs.Outboxes.{FitsOutbox};
+ghost use Rattle.acg_driver.specs.Answers.{IsRun};
 ghost use Rattle.acg_driver.specs.Serving.{Spoken, IsRightStart};
 
 use crate::image::{DEFAULT_STACK, DEFAULT_UNITS, compiled_image};
@@ -18,7 +12,7 @@ use crate::outbox::Outbox;
 use crate::performing::perform;
 use acg_base::{Memory, Sink, SinkError, Status};
 use action_terms::Graph;
-use rv_codegen::generate;
+use rv_codegen::{generate, instructions_per_step};
 use rv_machine::Machine;
 use std::alloc::Global;
 
@@ -44,12 +38,14 @@ pub fn load(alloc: Global, graph: &Graph<'_>) -> Result<Loaded, Memory>
     Ok(Loaded { machine, outbox })
 }
 
-/// Prints the header with the factor, and runs on no input within the default budget. Takes no memory.
-pub fn run<K: Sink>(loaded: &mut Loaded, factor: u64, out: &mut K) -> Status
-    ensures { (g : Listed) → IsRightStart g loaded.old.machine → factor ≡ factor_of (action_of g) →
-        Spoken K.written K.faults K.tells (IsRun g) out.old out.new result }
+/// Prints the header with the factor of the graph's action, and runs on no input within the default budget. Takes no
+/// memory.
+pub fn run<K: Sink>(graph: &Graph<'_>, loaded: &mut Loaded, out: &mut K) -> Status
+    requires built { unbuilt (action_of graph.now) ≡ [] }
+    requires start { IsRightStart graph.now loaded.old.machine }
+    ensures { Spoken K.written K.faults K.tells (IsRun graph.now) out.old out.new result }
 {
-    match print_header(out, DEFAULT_STACK, DEFAULT_UNITS, factor) {
+    match print_header(out, DEFAULT_STACK, DEFAULT_UNITS, instructions_per_step(graph)) {
         Ok(()) => perform(&mut loaded.machine, &mut loaded.outbox, DEFAULT_BUDGET, out),
         Err(SinkError::Failed) => Status::WriteFault,
     }

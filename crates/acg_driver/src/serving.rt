@@ -15,7 +15,7 @@ use acg_base::{Memory, Name, Sink, SinkError, Status, Store, StoreError, Words};
 use action_terms::Graph;
 use action_text::action_reader::read_action;
 use bumpalo::Bump;
-use rv_codegen::{first_unbuilt, instructions_per_step};
+use rv_codegen::first_unbuilt;
 use std::alloc::Global;
 
 // The most bytes of an action.
@@ -41,7 +41,7 @@ fn act_on_graph<K: Sink>(alloc: Global, graph: &Graph<'_>, out: &mut K) -> Statu
     }
     match load(alloc, graph) {
         Err(Memory) => refuse(out, b"memory\n", Status::Memory),
-        Ok(mut loaded) => run(&mut loaded, instructions_per_step(graph), out),
+        Ok(mut loaded) => run(graph, &mut loaded, out),
     }
 }
 
