@@ -28,3 +28,4 @@ pub mod ReadingMoves
 pub mod TreeSizes
 pub mod PreorderWalk
 pub mod TextAnswers
+pub mod CanonicalTokens
