@@ -29,3 +29,5 @@ pub mod TreeSizes
 pub mod PreorderWalk
 pub mod TextAnswers
 pub mod CanonicalTokens
+pub mod PrintedTokens
+pub mod PrintedTexts
