@@ -31,3 +31,4 @@ pub mod TextAnswers
 pub mod CanonicalTokens
 pub mod PrintedTokens
 pub mod PrintedTexts
+pub mod PrintableTexts
