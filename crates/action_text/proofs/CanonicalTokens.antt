@@ -224,7 +224,7 @@ plain_spelled l ts s x is r o =
 -- the left side of an operator
 left_spelled : (l : Label) (a : Tree) → TreeSpelled a → IsAction a → IsReadable a → HasOperator l → (same op : Bool) → same_words (operator_of (label_of a)) (operator_of l) ≡ same → is_operator (label_of a) ≡ op → is_operator l ≡ true
     → ((label_of a ≡ l) × IsChain a (if same then chain_tokens a else if op then open_paren ∷ (chain_tokens a ++ close_paren ∷ []) else plain_tokens a))
-        ⊎ IsOperand (IsPlain a) (IsChain a) (if same then chain_tokens a else if op then open_paren ∷ (chain_tokens a ++ close_paren ∷ []) else plain_tokens a)
+    ⊎ IsOperand (IsPlain a) (IsChain a) (if same then chain_tokens a else if op then open_paren ∷ (chain_tokens a ++ close_paren ∷ []) else plain_tokens a)
 left_spelled l (tree m ts) s is r h true op e f g =
     let words : operator_of m ≡ operator_of l = same_words_is (operator_of m) (operator_of l) e in
     let some : is_operator m ≡ true = ap is_some_word words ∙ g in
@@ -241,10 +241,16 @@ chain_spelled l ts s is r o = by_sides ts s (rw (operator_served l is.0 o).sides
     by_sides (more a (more b none)) s are r =
         let words = some_words (operator_of l) o in
         let left : List (List ℕ) = if same_words (operator_of (label_of a)) (operator_of l) then chain_tokens a else if is_operator (label_of a) then open_paren ∷ (chain_tokens a ++ close_paren ∷ []) else plain_tokens a in
-        let right : List (List ℕ) = if is_operator (label_of b) then open_paren ∷ (chain_tokens b ++ close_paren ∷ []) else plain_tokens b in
-        (left, words.0, words.1, right, ap (λ y. left ++ y ++ right) words.2, words.2,
-            left_spelled l a s.0 are.0 r.0 (operator_served l is.0 o) (same_words (operator_of (label_of a)) (operator_of l)) (is_operator (label_of a)) refl refl o,
-            part_spelled b s.1.0 AnAction are.1.0 r.1.0 (is_operator (label_of b)) refl)
+        let right : List (List ℕ) = if is_operator (label_of b) then open_paren ∷ (chain_tokens b ++ close_paren ∷ []) else plain_tokens b in (
+          left,
+          words.0,
+          words.1,
+          right,
+          ap (λ y. left ++ y ++ right) words.2,
+          words.2,
+          left_spelled l a s.0 are.0 r.0 (operator_served l is.0 o) (same_words (operator_of (label_of a)) (operator_of l)) (is_operator (label_of a)) refl refl o,
+          part_spelled b s.1.0 AnAction are.1.0 r.1.0 (is_operator (label_of b)) refl,
+        )
 
 mutual
   tree_spelled : (t : Tree) → TreeSpelled t

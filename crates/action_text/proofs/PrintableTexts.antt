@@ -209,9 +209,10 @@ chain_prints l (more a (more b none)) p is us (left, w, ws, right, whole, words,
 
 mutual
   tree_prints : (t : Tree) → TreePrints t
-  tree_prints (tree l ts) =
-      (λ x is us h. weave_printable (shape l) h.0 us (shape_prints x l is.0) (parts_print ts (trees_print ts) (under l) is.1 h.0 h.1) h.2,
-          λ is us h. chain_prints l ts (trees_print ts) is us h)
+  tree_prints (tree l ts) = (
+    λ x is us h. weave_printable (shape l) h.0 us (shape_prints x l is.0) (parts_print ts (trees_print ts) (under l) is.1 h.0 h.1) h.2,
+    λ is us h. chain_prints l ts (trees_print ts) is us h,
+  )
 
   trees_print : (ts : Trees) → TreesPrint ts
   trees_print none = tt
@@ -230,8 +231,8 @@ canonical_is_text t is r =
     let same : token_bytes (placed 0 (action_tokens t)) ≡ action_tokens t = placed_bytes 0 (action_tokens t) in
     let here : Spells t (token_bytes (placed 0 (action_tokens t))) = subst (λ y. Spells t y) (sym same) spells in
     record {
-        tokens = placed 0 (action_tokens t);
-        are_tokens = spaced_are_tokens (action_tokens t) printable;
-        spells = here;
-        no_other = λ u other. one_action u t (token_bytes (placed 0 (action_tokens t))) other here;
+      tokens = placed 0 (action_tokens t);
+      are_tokens = spaced_are_tokens (action_tokens t) printable;
+      spells = here;
+      no_other = λ u other. one_action u t (token_bytes (placed 0 (action_tokens t))) other here;
     }

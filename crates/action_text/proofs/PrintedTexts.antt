@@ -48,14 +48,14 @@ bounded_by : (t u rest : List ℕ) (joined : Bool) → is_joined t u ≡ joined 
 bounded_by t u rest false h = inl refl
 bounded_by t u rest true h =
     elim (or_cases (same_bytes t open_paren || same_bytes u close_paren || same_bytes u comma) (same_bytes u open_paren && list_any (same_bytes t) function_words) h) [
-        inl a ↦ elim (or_cases (same_bytes t open_paren || same_bytes u close_paren) (same_bytes u comma) a) [
-            inl b ↦ elim (or_cases (same_bytes t open_paren) (same_bytes u close_paren) b) [
-                inl o ↦ inr (ap is_mark (same_is t open_paren o))
-                | inr c ↦ inl (ap (λ y. bounds (y ++ rest)) (same_is u close_paren c))
-            ]
-            | inr m ↦ inl (ap (λ y. bounds (y ++ rest)) (same_is u comma m))
+      | inl a ↦ elim (or_cases (same_bytes t open_paren || same_bytes u close_paren) (same_bytes u comma) a) [
+        | inl b ↦ elim (or_cases (same_bytes t open_paren) (same_bytes u close_paren) b) [
+          | inl o ↦ inr (ap is_mark (same_is t open_paren o))
+          | inr c ↦ inl (ap (λ y. bounds (y ++ rest)) (same_is u close_paren c))
         ]
-        | inr f ↦ inl (ap (λ y. bounds (y ++ rest)) (same_is u open_paren (and_left (same_bytes u open_paren) (list_any (same_bytes t) function_words) f)))
+        | inr m ↦ inl (ap (λ y. bounds (y ++ rest)) (same_is u comma m))
+      ]
+      | inr f ↦ inl (ap (λ y. bounds (y ++ rest)) (same_is u open_paren (and_left (same_bytes u open_paren) (list_any (same_bytes t) function_words) f)))
     ]
 
 -- no blank, or one
@@ -80,9 +80,10 @@ token_there bytes before g t rest e gapped h b =
     let from : drop (length before) bytes ≡ g ++ (t ++ rest) = ap (drop (length before)) e ∙ drop_front before (g ++ (t ++ rest)) in
     let whole : bytes ≡ (before ++ g) ++ (t ++ rest) = e ∙ sym (append_assoc before g (t ++ rest)) in
     let place : length before + length g ≡ length (before ++ g) = sym (length-append before g) in
-    let there : drop (length before + length g) bytes ≡ t ++ rest = ap (λ n. drop n bytes) place ∙ ap (drop (length (before ++ g))) whole ∙ drop_front (before ++ g) (t ++ rest) in
-    (ap (λ y. length before + prefix_len is_blank y) from ∙ ap (λ n. length before + n) (blanks_of g t rest gapped h),
-        (refl, sym (ap (take (length t)) there ∙ take_front t rest), subst (λ y. IsLongest (kind_front t) y (length t)) (sym there) (front_longest t rest h b)))
+    let there : drop (length before + length g) bytes ≡ t ++ rest = ap (λ n. drop n bytes) place ∙ ap (drop (length (before ++ g))) whole ∙ drop_front (before ++ g) (t ++ rest) in (
+      ap (λ y. length before + prefix_len is_blank y) from ∙ ap (λ n. length before + n) (blanks_of g t rest gapped h),
+      (refl, sym (ap (take (length t)) there ∙ take_front t rest), subst (λ y. IsLongest (kind_front t) y (length t)) (sym there) (front_longest t rest h b)),
+    )
 
 regroup : (a b c d : List ℕ) → a ++ (b ++ (c ++ d)) ≡ (a ++ (b ++ c)) ++ d
 regroup a b c d = simp append_assoc
@@ -101,8 +102,8 @@ reads_spaced bytes before g t [] e gapped h =
     let whole : bytes ≡ before ++ (g ++ (t ++ [])) = e ∙ ap (λ y. before ++ (g ++ y)) (sym (append-nil t)) in
     let x = token_there bytes before g t [] whole gapped h.0 (inl refl) in
     let size : (length before + length g) + length t ≡ length bytes =
-        (let a : length (before ++ (g ++ t)) ≡ length before + (length g + length t) = length-append before (g ++ t) ∙ ap (λ n. length before + n) (length-append g t) in
-            let b : length bytes ≡ length (before ++ (g ++ t)) = ap length e in omega arith) in
+    (let a : length (before ++ (g ++ t)) ≡ length before + (length g + length t) = length-append before (g ++ t) ∙ ap (λ n. length before + n) (length-append g t) in
+    let b : length bytes ≡ length (before ++ (g ++ t)) = ap length e in omega arith) in
     subst (λ n. IsTokenAt bytes n (record { kind = kind_front t; bytes = t; offset = length before + length g }) × (n + length t ≡ length bytes)) (sym x.0) (x.1, size)
 reads_spaced bytes before g t (u ∷ ts) e gapped h =
     let rest : List ℕ = gap t u ++ spaced (u ∷ ts) in
@@ -112,9 +113,9 @@ reads_spaced bytes before g t (u ∷ ts) e gapped h =
     let whole : bytes ≡ (before ++ (g ++ t)) ++ (gap t u ++ spaced (u ∷ ts)) = e ∙ regroup before g t (gap t u ++ spaced (u ∷ ts)) in
     let more = reads_spaced bytes (before ++ (g ++ t)) (gap t u) u ts whole (gap_is t u (is_joined t u)) h.1 in
     let place : length (before ++ (g ++ t)) ≡ (length before + length g) + length t =
-        length-append before (g ++ t) ∙ ap (λ n. length before + n) (length-append g t) ∙ shift (length before) (length g) (length t) in
+    length-append before (g ++ t) ∙ ap (λ n. length before + n) (length-append g t) ∙ shift (length before) (length g) (length t) in
     let onward : Reads bytes ((length before + length g) + length t) (placed (((length before + length g) + length t) + length (gap t u)) (u ∷ ts)) (length bytes) =
-        subst (λ n. Reads bytes n (placed (n + length (gap t u)) (u ∷ ts)) (length bytes)) place more in
+    subst (λ n. Reads bytes n (placed (n + length (gap t u)) (u ∷ ts)) (length bytes)) place more in
     subst (λ n. IsTokenAt bytes n (record { kind = kind_front t; bytes = t; offset = length before + length g }) × Reads bytes (n + length t) (placed (((length before + length g) + length t) + length (gap t u)) (u ∷ ts)) (length bytes))
     (sym x.0) (x.1, onward)
 

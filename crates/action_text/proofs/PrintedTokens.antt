@@ -113,9 +113,9 @@ quoted_front t rest h =
     let n : prefix_len is_quotable (inner ++ 34 ∷ rest) ≡ length inner = prefix_stops is_quotable inner (34 ∷ rest) k.0 refl in
     let size : length (inner ++ 34 ∷ rest) ≡ length inner + suc (length rest) = length-append inner (34 ∷ rest) in
     let ended : IsEnded (inner ++ 34 ∷ rest) = record {
-        some = let s = k.1 in omega (arith, n, s);
-        within = omega (arith, n, size);
-        quote = ap (λ m. get_or (inner ++ 34 ∷ rest) m 0) n ∙ get_or_behind inner rest 34;
+      some = let s = k.1 in omega (arith, n, s);
+      within = omega (arith, n, size);
+      quote = ap (λ m. get_or (inner ++ 34 ∷ rest) m 0) n ∙ get_or_behind inner rest 34;
     } in
     let whole : t ++ rest ≡ 34 ∷ (inner ++ 34 ∷ rest) = ap (λ y. y ++ rest) q.0 ∙ ap (λ y. 34 ∷ y) (append_assoc inner (34 ∷ []) rest) in
     let wide : prefix_len is_quotable (inner ++ 34 ∷ rest) + 2 ≡ length t = ap (λ m. m + 2) n ∙ two_more inner ∙ sym (ap length q.0) in
@@ -148,14 +148,14 @@ front_longest [] rest h b = absurd (cc)
 front_longest (x ∷ xs) rest h (inr mark) = by_first Symbol (x ∷ xs) rest (omega arith) (mark_front (x ∷ xs) rest mark)
 front_longest (x ∷ xs) rest h (inl b) =
     elim (or_cases (is_word (x ∷ xs)) (is_number (x ∷ xs) || (is_quoted (x ∷ xs) || is_mark (x ∷ xs))) h) [
-        inl w ↦ by_first Word (x ∷ xs) rest (omega arith) (word_front (x ∷ xs) rest w b)
-        | inr r ↦ elim (or_cases (is_number (x ∷ xs)) (is_quoted (x ∷ xs) || is_mark (x ∷ xs)) r) [
-            inl n ↦ by_first Number (x ∷ xs) rest (omega arith) (number_front (x ∷ xs) rest n b)
-            | inr s ↦ elim (or_cases (is_quoted (x ∷ xs)) (is_mark (x ∷ xs)) s) [
-                inl q ↦ by_first Quoted (x ∷ xs) rest (omega arith) (quoted_front (x ∷ xs) rest q)
-                | inr m ↦ by_first Symbol (x ∷ xs) rest (omega arith) (mark_front (x ∷ xs) rest m)
-            ]
+      | inl w ↦ by_first Word (x ∷ xs) rest (omega arith) (word_front (x ∷ xs) rest w b)
+      | inr r ↦ elim (or_cases (is_number (x ∷ xs)) (is_quoted (x ∷ xs) || is_mark (x ∷ xs)) r) [
+        | inl n ↦ by_first Number (x ∷ xs) rest (omega arith) (number_front (x ∷ xs) rest n b)
+        | inr s ↦ elim (or_cases (is_quoted (x ∷ xs)) (is_mark (x ∷ xs)) s) [
+          | inl q ↦ by_first Quoted (x ∷ xs) rest (omega arith) (quoted_front (x ∷ xs) rest q)
+          | inr m ↦ by_first Symbol (x ∷ xs) rest (omega arith) (mark_front (x ∷ xs) rest m)
         ]
+      ]
     ]
 
 letter_no_blank : (b : ℕ) → is_letter b ≡ true → is_blank b ≡ false
@@ -188,14 +188,14 @@ mark_no_blank b (c ∷ bs) h = absurd (cc)
 printable_first : (b : ℕ) (bs : List ℕ) → is_printable (b ∷ bs) ≡ true → is_blank b ≡ false
 printable_first b bs h =
     elim (or_cases (is_word (b ∷ bs)) (is_number (b ∷ bs) || (is_quoted (b ∷ bs) || is_mark (b ∷ bs))) h) [
-        inl w ↦ letter_no_blank b (and_left (is_letter b) (list_all is_word_byte bs) w)
-        | inr r ↦ elim (or_cases (is_number (b ∷ bs)) (is_quoted (b ∷ bs) || is_mark (b ∷ bs)) r) [
-            inl n ↦ number_no_blank b bs n
-            | inr s ↦ elim (or_cases (is_quoted (b ∷ bs)) (is_mark (b ∷ bs)) s) [
-                inl q ↦ quote_no_blank b (and_left (b == 34) (is_closed bs) q)
-                | inr m ↦ mark_no_blank b bs m
-            ]
+      | inl w ↦ letter_no_blank b (and_left (is_letter b) (list_all is_word_byte bs) w)
+      | inr r ↦ elim (or_cases (is_number (b ∷ bs)) (is_quoted (b ∷ bs) || is_mark (b ∷ bs)) r) [
+        | inl n ↦ number_no_blank b bs n
+        | inr s ↦ elim (or_cases (is_quoted (b ∷ bs)) (is_mark (b ∷ bs)) s) [
+          | inl q ↦ quote_no_blank b (and_left (b == 34) (is_closed bs) q)
+          | inr m ↦ mark_no_blank b bs m
         ]
+      ]
     ]
 
 pub no_blank_front : (t rest : List ℕ) → is_printable t ≡ true → prefix_len is_blank (t ++ rest) ≡ 0

@@ -58,8 +58,8 @@ abbrev mutual
   chain_tokens (tree l (more a none)) = []
   chain_tokens (tree l (more a (more b ts))) =
       (if same_words (operator_of (label_of a)) (operator_of l) then chain_tokens a
-          else if is_operator (label_of a) then open_paren ∷ (chain_tokens a ++ close_paren ∷ [])
-          else plain_tokens a)
+      else if is_operator (label_of a) then open_paren ∷ (chain_tokens a ++ close_paren ∷ [])
+      else plain_tokens a)
       ++ operator_of l
       ++ (if is_operator (label_of b) then open_paren ∷ (chain_tokens b ++ close_paren ∷ []) else plain_tokens b)
 
