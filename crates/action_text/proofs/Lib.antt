@@ -28,3 +28,7 @@ pub mod ReadingMoves
 pub mod TreeSizes
 pub mod PreorderWalk
 pub mod TextAnswers
+pub mod CanonicalTokens
+pub mod PrintedTokens
+pub mod PrintedTexts
+pub mod PrintableTexts

@@ -11,3 +11,4 @@ pub mod Views
 pub mod Reading
 pub mod Sizes
 pub mod Answers
+pub mod Canonical

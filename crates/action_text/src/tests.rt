@@ -74,6 +74,7 @@ fn counts_the_nodes(rt: HostRuntime) -> Result<(), Fail> {
         text.extend_from_slice(b"furthermore ")?;
     }
     text.extend_from_slice(b"complete")?;
+    assert_eq!(rt; text.len(), 65535 * 12 + 8);
     let arena = Bump::new(rt.alloc());
     let graph = read_action(rt.alloc(), &arena, text.as_slice())?;
     assert_eq!(rt; graph.nodes().len(), 65536);
