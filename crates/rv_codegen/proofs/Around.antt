@@ -1,12 +1,12 @@
 -- What stands in the machine for what stands around a node, and around an end.
-use Rattle.std.proofs.Common.{◌≡◌, ◌⊎◌, ℕ, ◌+◌, ◌*◌, ◌<◌, ◌≤◌, Bool, true, false, List, [], ◌∷◌, length, refl, ap₂, arith, inl, inr}
+use Rattle.std.proofs.Common.{◌≡◌, ℕ, ◌+◌, true, List, [], ◌∷◌, refl, ap₂}
 use Rattle.rv_code.specs.declared.instruction.Inst.{Inst}
 use Rattle.rv_asm.specs.Conventions.{stack_address}
-use Rattle.action_terms.specs.Information.{Binds, NoBinds, Data}
+use Rattle.action_terms.specs.Information.{NoBinds}
 use Rattle.action_terms.specs.Actions.{And, AndThen, Both, Phases, Action, node_at}
 use Rattle.action_terms.specs.Acting.{Done, Tree, Run, Ended, Fail}
 use Rattle.action_terms.proofs.Contexts.{Frame, InCalled, InParLeft, InParRight, InFirst, InSecond, InOr, InCut, InTrap, InOver, InTail, shut_if, shut_all}
-use Rattle.action_terms.proofs.Parts.{Passes, EachPasses}
+use Rattle.action_terms.proofs.Parts.{EachPasses}
 use Rattle.rv_codegen.proofs.Pieces.{Places, InOrder}
 
 -- the instructions that leave a part which has completed without a step of the action

@@ -1,5 +1,5 @@
 -- Where nodes go on: each part of a node in the node, where no number is a part of two nodes.
-use Rattle.std.proofs.Common.{◌≡◌, ◌≢◌, ◌⊎◌, ℕ, zero, suc, ◌+◌, ◌*◌, ◌<◌, ◌≤◌, List, [], ◌∷◌, length, get_or, set, replicate, Option, None, Some, refl, sym, ap, ◌∙◌, arith, inl, inr, length-set, get_or-set_same, add-zero, add-one, drop}
+use Rattle.std.proofs.Common.{◌≡◌, ◌≢◌, ℕ, zero, suc, ◌+◌, ◌<◌, List, [], ◌∷◌, length, get_or, set, replicate, Some, refl, sym, ap, ◌∙◌, arith, inl, inr, length-set, get_or-set_same, add-zero, add-one, drop}
 use Rattle.std.proofs.lemmas.List.{get_or-set_other, get_or-replicate, length-replicate, drop_more, get_or_default}
 use Rattle.std.specs.Prelude.{slice_get}
 use Rattle.action_terms.specs.Actions.{Join, Chain, Node, Both, Phases, Action}
@@ -12,10 +12,6 @@ length-with_exits : (n : Node) (k : ℕ) (exits : List ℕ) → length (with_exi
 length-with_exits (Both j l r) k exits = length-set (set exits l (middle_of k)) r (stop_of k) ∙ length-set exits l (middle_of k)
 length-with_exits (Phases q l r) k exits = length-set (set exits l (middle_of k)) r (stop_of k) ∙ length-set exits l (middle_of k)
 length-with_exits _ k exits = refl
-
-pub length-exits_from : (k : ℕ) (a : Action) (exits : List ℕ) → length (exits_from k a exits) ≡ length exits
-length-exits_from k [] exits = refl
-length-exits_from k (n ∷ a) exits = length-exits_from (suc k) a (with_exits n k exits) ∙ length-with_exits n k exits
 
 -- a node leaves what isn't its part
 with_exits-other : (n : Node) (k c : ℕ) (exits : List ℕ) → (IsPartOf n c → ⊥) → get_or (with_exits n k exits) c 0 ≡ get_or exits c 0
