@@ -7,6 +7,8 @@ mod exits;
 mod generation;
 mod labels;
 mod node;
+#[cfg(test)]
+mod tests;
 pub mod work;
 
 pub use generation::generate;
