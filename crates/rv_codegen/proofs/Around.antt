@@ -1,12 +1,12 @@
 -- What stands in the machine for what stands around a node, and around an end.
-use Rattle.std.proofs.Common.{◌≡◌, ◌⊎◌, ℕ, ◌+◌, ◌*◌, ◌<◌, ◌≤◌, Bool, true, false, List, [], ◌∷◌, length, refl, ap₂, arith, inl, inr}
+use Rattle.std.proofs.Common.{◌≡◌, ℕ, ◌+◌, true, List, [], ◌∷◌, refl, ap₂}
 use Rattle.rv_code.specs.declared.instruction.Inst.{Inst}
 use Rattle.rv_asm.specs.Conventions.{stack_address}
-use Rattle.action_terms.specs.Information.{Binds, NoBinds, Data}
+use Rattle.action_terms.specs.Information.{NoBinds}
 use Rattle.action_terms.specs.Actions.{And, AndThen, Both, Phases, Action, node_at}
 use Rattle.action_terms.specs.Acting.{Done, Tree, Run, Ended, Fail}
-use Rattle.action_terms.proofs.Contexts.{Frame, InCalled, InParLeft, InParRight, InFirst, InSecond, InOr, InCut, InTrap, InOver, InTail, shut_if, shut_all}
-use Rattle.action_terms.proofs.Parts.{Passes, EachPasses}
+use Rattle.action_terms.proofs.Contexts.{Frame, InParLeft, InParRight, InFirst, InSecond, InOr, InTail, shut_if, shut_all}
+use Rattle.action_terms.proofs.Parts.{EachPasses}
 use Rattle.rv_codegen.proofs.Pieces.{Places, InOrder}
 
 -- the instructions that leave a part which has completed without a step of the action
@@ -43,12 +43,7 @@ module _ (a : Action) (code : List Inst) (p : Places) (base : ℕ) where
   Around (InParRight n x ∷ fs) frame k = (l : ℕ) × (node_at a n ≡ Both And l k) × IsOther n k l x × Around fs frame n
   Around (InFirst n d b ∷ fs) frame k = (r : ℕ) × (node_at a n ≡ Phases AndThen k r) × Around fs frame n
   Around (InSecond n d b ∷ fs) frame k = (l : ℕ) × (node_at a n ≡ Phases AndThen l k) × (b ≡ NoBinds) × Around fs frame n
-  Around (InCalled c ∷ fs) frame k = ⊥
-  Around (InOr k2 d b ∷ fs) frame k = ⊥
-  Around (InCut ∷ fs) frame k = ⊥
-  Around (InTrap n b ∷ fs) frame k = ⊥
-  Around (InOver b ∷ fs) frame k = ⊥
-  Around (InTail n ∷ fs) frame k = ⊥
+  Around (_ ∷ fs) frame k = ⊥
 
   -- a commitment
   pub around-shut_all : (fs : List Frame) (frame k : ℕ) → Around fs frame k → Around (shut_all true fs) frame k
@@ -57,12 +52,7 @@ module _ (a : Action) (code : List Inst) (p : Places) (base : ℕ) where
   around-shut_all (InParRight n x ∷ fs) frame k h = (h.0, h.1, h.2, around-shut_all fs frame n h.3)
   around-shut_all (InFirst n d b ∷ fs) frame k h = (h.0, h.1, around-shut_all fs frame n h.2)
   around-shut_all (InSecond n d b ∷ fs) frame k h = (h.0, h.1, h.2, around-shut_all fs frame n h.3)
-  around-shut_all (InCalled c ∷ fs) frame k h = absurd h
-  around-shut_all (InOr k2 d b ∷ fs) frame k h = absurd h
-  around-shut_all (InCut ∷ fs) frame k h = absurd h
-  around-shut_all (InTrap n b ∷ fs) frame k h = absurd h
-  around-shut_all (InOver b ∷ fs) frame k h = absurd h
-  around-shut_all (InTail n ∷ fs) frame k h = absurd h
+  around-shut_all (_ ∷ fs) frame k h = absurd h
 
   -- no alternative is open: a failure passes all frames
   pub around-passes : (fs : List Frame) (frame k : ℕ) → Around fs frame k → EachPasses Fail fs
@@ -71,24 +61,11 @@ module _ (a : Action) (code : List Inst) (p : Places) (base : ℕ) where
   around-passes (InParRight n x ∷ fs) frame k h = (tt, around-passes fs frame n h.3)
   around-passes (InFirst n d b ∷ fs) frame k h = (tt, around-passes fs frame n h.2)
   around-passes (InSecond n d b ∷ fs) frame k h = (tt, around-passes fs frame n h.3)
-  around-passes (InCalled c ∷ fs) frame k h = absurd h
-  around-passes (InOr k2 d b ∷ fs) frame k h = absurd h
-  around-passes (InCut ∷ fs) frame k h = absurd h
-  around-passes (InTrap n b ∷ fs) frame k h = absurd h
-  around-passes (InOver b ∷ fs) frame k h = absurd h
-  around-passes (InTail n ∷ fs) frame k h = absurd h
+  around-passes (_ ∷ fs) frame k h = absurd h
 
 pending_one-shut_if : (f : Frame) → pending_one (shut_if true f) ≡ pending_one f
 pending_one-shut_if (InOr k2 d b) = refl
-pending_one-shut_if (InCalled c) = refl
-pending_one-shut_if (InParLeft n y) = refl
-pending_one-shut_if (InParRight n x) = refl
-pending_one-shut_if (InFirst n d b) = refl
-pending_one-shut_if (InSecond n d b) = refl
-pending_one-shut_if InCut = refl
-pending_one-shut_if (InTrap n b) = refl
-pending_one-shut_if (InOver b) = refl
-pending_one-shut_if (InTail n) = refl
+pending_one-shut_if _ = refl
 
 pub pending-shut_all : (fs : List Frame) → pending (shut_all true fs) ≡ pending fs
 pending-shut_all [] = refl

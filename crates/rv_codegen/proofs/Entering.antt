@@ -1,6 +1,6 @@
 -- The first instructions: the registers are set, and the run arrives at the root of the action.
-use Rattle.std.proofs.Common.{◌≡◌, ℕ, zero, suc, ◌+◌, ◌-◌, ◌*◌, ◌/◌, ◌%◌, ◌^◌, ◌<◌, ◌≤◌, Bool, true, List, [], ◌∷◌, length, Some, pos, refl, sym, ap, ◌∙◌, subst, arith}
-use Rattle.rv_code.specs.Arithmetic.{wrap, unsigned}
+use Rattle.std.proofs.Common.{◌≡◌, ℕ, ◌+◌, ◌*◌, ◌/◌, ◌^◌, ◌<◌, List, [], ◌∷◌, pos, refl, arith}
+use Rattle.rv_code.specs.Arithmetic.{wrap}
 use Rattle.rv_code.specs.declared.instruction.Inst.{Inst}
 use Rattle.rv_code.specs.declared.instruction.Inst.TheVariants.{Op, OpImm, Shift, Upper}
 use Rattle.rv_code.specs.declared.instruction.OpOp.TheVariants.{Add}
@@ -9,7 +9,6 @@ use Rattle.rv_code.specs.declared.instruction.ShiftOp.TheVariants.{Slli, Srli}
 use Rattle.rv_code.specs.declared.instruction.UpperOp.TheVariants.{Lui}
 use Rattle.rv_asm.specs.Conventions.{region_address, stack_address}
 use Rattle.rv_asm.specs.WordMachine.{WordState, Goes, put, run_words, Has}
-use Rattle.rv_asm.specs.Assembly.{address_of}
 
 -- the instructions that round the end of the code up to the region's address, and find the stack
 abbrev pub round_up : List Inst

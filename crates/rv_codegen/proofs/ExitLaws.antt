@@ -1,5 +1,5 @@
 -- Where nodes go on: each part of a node in the node, where no number is a part of two nodes.
-use Rattle.std.proofs.Common.{◌≡◌, ◌≢◌, ◌⊎◌, ℕ, zero, suc, ◌+◌, ◌*◌, ◌<◌, ◌≤◌, List, [], ◌∷◌, length, get_or, set, replicate, Option, None, Some, refl, sym, ap, ◌∙◌, arith, inl, inr, length-set, get_or-set_same, add-zero, add-one, drop}
+use Rattle.std.proofs.Common.{◌≡◌, ◌≢◌, ℕ, zero, suc, ◌+◌, ◌<◌, List, [], ◌∷◌, length, get_or, set, replicate, Some, refl, sym, ap, ◌∙◌, arith, inl, inr, length-set, get_or-set_same, add-zero, add-one, drop}
 use Rattle.std.proofs.lemmas.List.{get_or-set_other, get_or-replicate, length-replicate, drop_more, get_or_default}
 use Rattle.std.specs.Prelude.{slice_get}
 use Rattle.action_terms.specs.Actions.{Join, Chain, Node, Both, Phases, Action}
@@ -12,10 +12,6 @@ length-with_exits : (n : Node) (k : ℕ) (exits : List ℕ) → length (with_exi
 length-with_exits (Both j l r) k exits = length-set (set exits l (middle_of k)) r (stop_of k) ∙ length-set exits l (middle_of k)
 length-with_exits (Phases q l r) k exits = length-set (set exits l (middle_of k)) r (stop_of k) ∙ length-set exits l (middle_of k)
 length-with_exits _ k exits = refl
-
-pub length-exits_from : (k : ℕ) (a : Action) (exits : List ℕ) → length (exits_from k a exits) ≡ length exits
-length-exits_from k [] exits = refl
-length-exits_from k (n ∷ a) exits = length-exits_from (suc k) a (with_exits n k exits) ∙ length-with_exits n k exits
 
 -- a node leaves what isn't its part
 with_exits-other : (n : Node) (k c : ℕ) (exits : List ℕ) → (IsPartOf n c → ⊥) → get_or (with_exits n k exits) c 0 ≡ get_or exits c 0
@@ -71,25 +67,31 @@ module _ (a : Action) (tree : HasTree a) where
   zero-first : (k : ℕ) → 0 + k ≡ k
   zero-first k = omega arith
 
+  -- the node has the part l go on behind its first part, and the part r behind its second
+  abbrev SetsExits : (k l r : ℕ) → Node → Type 0
+  SetsExits k l r n = (exits : List ℕ) → with_exits n (0 + k) exits ≡ set (set exits l (middle_of (0 + k))) r (stop_of (0 + k))
+
+  first_exit : (k l r : ℕ) (n : Node) → slice_get a k ≡ Some n → IsPartOf n l → SetsExits k l r n → l ≢ r → get_or (exits_of a) l 0 ≡ middle_of k
+  first_exit k l r n e part sets apart =
+      let x = reached-part k l n e part in
+      x.exit ∙ ap (λ exits. get_or exits l 0) (sets x.then) ∙ set-first x.then l r (middle_of (0 + k)) (stop_of (0 + k)) apart (omega (arith, x.size, size-exits, tree.within k l n e part)) ∙ ap middle_of (zero-first k)
+
+  second_exit : (k l r : ℕ) (n : Node) → slice_get a k ≡ Some n → IsPartOf n r → SetsExits k l r n → get_or (exits_of a) r 0 ≡ stop_of k
+  second_exit k l r n e part sets =
+      let x = reached-part k r n e part in
+      x.exit ∙ ap (λ exits. get_or exits r 0) (sets x.then) ∙ set-second x.then l r (middle_of (0 + k)) (stop_of (0 + k)) (omega (arith, x.size, size-exits, tree.within k r n e part)) ∙ ap stop_of (zero-first k)
+
   pub both-first_exit : (k l r : ℕ) (q : Join) → slice_get a k ≡ Some (Both q l r) → get_or (exits_of a) l 0 ≡ middle_of k
-  both-first_exit k l r q e =
-      let x = reached-part k l (Both q l r) e (inl refl) in
-      x.exit ∙ set-first x.then l r (middle_of (0 + k)) (stop_of (0 + k)) (tree.both_apart k l r q e) (omega (arith, x.size, size-exits, tree.within k l (Both q l r) e (inl refl))) ∙ ap middle_of (zero-first k)
+  both-first_exit k l r q e = first_exit k l r (Both q l r) e (inl refl) (λ exits. refl) (tree.both_apart k l r q e)
 
   pub both-second_exit : (k l r : ℕ) (q : Join) → slice_get a k ≡ Some (Both q l r) → get_or (exits_of a) r 0 ≡ stop_of k
-  both-second_exit k l r q e =
-      let x = reached-part k r (Both q l r) e (inr refl) in
-      x.exit ∙ set-second x.then l r (middle_of (0 + k)) (stop_of (0 + k)) (omega (arith, x.size, size-exits, tree.within k r (Both q l r) e (inr refl))) ∙ ap stop_of (zero-first k)
+  both-second_exit k l r q e = second_exit k l r (Both q l r) e (inr refl) (λ exits. refl)
 
   pub phases-first_exit : (k l r : ℕ) (q : Chain) → slice_get a k ≡ Some (Phases q l r) → get_or (exits_of a) l 0 ≡ middle_of k
-  phases-first_exit k l r q e =
-      let x = reached-part k l (Phases q l r) e (inl refl) in
-      x.exit ∙ set-first x.then l r (middle_of (0 + k)) (stop_of (0 + k)) (tree.phases_apart k l r q e) (omega (arith, x.size, size-exits, tree.within k l (Phases q l r) e (inl refl))) ∙ ap middle_of (zero-first k)
+  phases-first_exit k l r q e = first_exit k l r (Phases q l r) e (inl refl) (λ exits. refl) (tree.phases_apart k l r q e)
 
   pub phases-second_exit : (k l r : ℕ) (q : Chain) → slice_get a k ≡ Some (Phases q l r) → get_or (exits_of a) r 0 ≡ stop_of k
-  phases-second_exit k l r q e =
-      let x = reached-part k r (Phases q l r) e (inr refl) in
-      x.exit ∙ set-second x.then l r (middle_of (0 + k)) (stop_of (0 + k)) (omega (arith, x.size, size-exits, tree.within k r (Phases q l r) e (inr refl))) ∙ ap stop_of (zero-first k)
+  phases-second_exit k l r q e = second_exit k l r (Phases q l r) e (inr refl) (λ exits. refl)
 
   pub root-exit : 0 < length a → get_or (exits_of a) 0 0 ≡ completed_label
   root-exit some = exits_from-other a 0 0 (replicate (length a) completed_label) (λ j n e p. tree.root j n e p) ∙ get_or-replicate (length a) 0 completed_label 0 some

@@ -1,24 +1,22 @@
 -- The image of the code that is generated for a graph is right.
-use Rattle.std.proofs.Common.{◌≡◌, ℕ, zero, suc, ◌+◌, ◌*◌, ◌^◌, ◌<◌, ◌≤◌, Bool, true, List, [], ◌∷◌, length, map, get_or, Option, Some, None, Result, Ok, Err, IfOk, OnOk, refl, sym, ap, ◌∙◌, subst, arith}
+use Rattle.std.proofs.Common.{◌≡◌, ℕ, ◌*◌, ◌<◌, ◌≤◌, List, length, map, get_or, Option, Some, None, Result, Ok, Err, IfOk, OnOk, refl, sym, ap, ◌∙◌, subst, arith}
 use Rattle.std.specs.Prelude.{slice_get, option_map, All}
-use Rattle.std.proofs.lemmas.Option.{slice_get-map, slice_get_within, slice_get-get_or, get_or_from_slice_get}
+use Rattle.std.proofs.lemmas.Option.{slice_get-map, slice_get_within, get_or_from_slice_get}
 use Rattle.std.proofs.lemmas.List.{length-map}
 use Rattle.rv_code.specs.Encode.{encode}
-use Rattle.rv_code.specs.Machine.{run}
-use Rattle.rv_code.specs.Images.{started}
 use Rattle.rv_asm.specs.Assembly.{code_of, total}
 use Rattle.rv_asm.specs.Conventions.{instruction_bytes, code_bytes}
-use Rattle.rv_asm.proofs.Encodings.{AreEncodings, words-encoded}
+use Rattle.rv_asm.proofs.Encodings.{words-encoded}
 use Rattle.rv_asm.proofs.Labels.{length-code}
 use Rattle.rv_asm.proofs.Places.{length-code_bytes}
 use Rattle.rv_asm.specs.Assembly.{spot}
-use Rattle.action_terms.specs.Actions.{Node, Action}
+use Rattle.action_terms.specs.Actions.{Node}
 use Rattle.action_terms.specs.Numbering.{Listed, IsGraph}
 use Rattle.action_terms.specs.Meaning.{action_of}
 use Rattle.action_terms.proofs.GraphLaws.{length-nodes_some, length-nodes_few}
 use Rattle.rv_codegen.specs.Blocks.{action_items}
 use Rattle.rv_codegen.specs.Measures.{subject_of, node_count}
-use Rattle.rv_codegen.specs.RightImage.{compiled_image, IsRight, Shows}
+use Rattle.rv_codegen.specs.RightImage.{compiled_image, IsRight}
 use Rattle.rv_codegen.specs.Works.{node_of_work, action_of_works, FitsWord}
 use Rattle.rv_codegen.specs.declared.work.Work.{Work}
 use Rattle.rv_codegen.specs.declared.work.Work.TheVariants as work

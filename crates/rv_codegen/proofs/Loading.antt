@@ -1,7 +1,7 @@
 -- The image of compiled code loads.
-use Rattle.std.proofs.Common.{◌≡◌, ◌⊎◌, ℕ, zero, suc, ◌+◌, ◌*◌, ◌^◌, ◌<◌, ◌≤◌, List, [], ◌∷◌, length, refl, arith, inl, inr}
+use Rattle.std.proofs.Common.{ℕ, zero, suc, ◌+◌, ◌^◌, ◌≤◌, List, [], ◌∷◌, length, refl, arith, inl, inr}
 use Rattle.std.specs.Prelude.{All, AllPairs}
-use Rattle.rv_code.specs.Images.{Image, ImageSegment, IsImage, AreApart}
+use Rattle.rv_code.specs.Images.{ImageSegment, AreApart}
 use Rattle.rv_asm.specs.Conventions.{region_address, region_size}
 use Rattle.rv_codegen.specs.RightImage.{compiled_image, code_limit, Loads}
 

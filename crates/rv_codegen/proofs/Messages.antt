@@ -1,7 +1,7 @@
 -- The bytes of messages, as the machine writes them.
-use Rattle.std.proofs.Common.{◌≡◌, ℕ, zero, suc, ◌+◌, ◌*◌, ◌/◌, ◌%◌, ◌^◌, ℤ, List, [], ◌∷◌, ◌++◌, refl, sym, ap, ap₂, ◌∙◌, append_assoc, append-nil}
+use Rattle.std.proofs.Common.{◌≡◌, ℕ, zero, suc, ◌/◌, ◌%◌, ◌^◌, ℤ, List, [], ◌∷◌, ◌++◌, refl, sym, ap, ap₂, ◌∙◌, append_assoc, append-nil}
 use Rattle.std.proofs.Math.Nat.{div-div-eq-div-mul, div-one, pow-suc}
-use Rattle.std.specs.Int.{w64, byte_at, bytes_low_first, to_le_bytes, cast_unsigned}
+use Rattle.std.specs.Int.{byte_at, bytes_low_first}
 use Rattle.rv_code.specs.Bytes.{bytes_of}
 use Rattle.rv_asm.specs.Conventions.{integer_word}
 use Rattle.action_terms.specs.Performances.{message_bytes, messages_bytes}

@@ -1,10 +1,10 @@
 -- The code of nodes, one node after another.
-use Rattle.std.proofs.Common.{◌≡◌, ℕ, suc, ◌+◌, ◌<◌, ◌≤◌, List, ◌∷◌, ◌++◌, false, length, get_or, drop, refl, sym, ap, ◌∙◌, subst, arith, inl, inr, ⊎_elim, add-one, append_assoc}
+use Rattle.std.proofs.Common.{◌≡◌, ℕ, ◌+◌, ◌<◌, ◌≤◌, List, ◌++◌, false, length, get_or, drop, refl, ap, ◌∙◌, subst, arith, inl, inr, ⊎_elim, add-one, append_assoc}
 use Rattle.std.proofs.lemmas.Bool.{cases_lt}
 use Rattle.std.proofs.lemmas.List.{drop_more, get_or_default}
 use Rattle.rv_asm.specs.Assembly.{is_placed}
 use Rattle.rv_asm.specs.declared.item.Item.{Item}
-use Rattle.rv_codegen.specs.Blocks.{start_of, stop_of, block, blocks_from}
+use Rattle.rv_codegen.specs.Blocks.{start_of, block, blocks_from}
 use Rattle.rv_codegen.specs.Works.{node_of_work, action_of_works, FitsWord}
 use Rattle.rv_codegen.specs.declared.work.Work.{Work}
 use Rattle.rv_codegen.proofs.Fresh.{fresh-block}
@@ -32,5 +32,5 @@ pub fits-more : (works : List Work) (k : ℕ) (e : Work) → k < length works �
 fits-more works k e lt before here j d less = ⊎_elim
     (λ h. before j d h)
     (λ h. let same : k ≡ j = omega arith in
-        subst (λ i. FitsWord (get_or works i d)) same (subst FitsWord (get_or_default works k e d lt) here))
+    subst (λ i. FitsWord (get_or works i d)) same (subst FitsWord (get_or_default works k e d lt) here))
     (cases_lt j k)

@@ -1,14 +1,14 @@
 -- The image of an action's code is right for the action.
-use Rattle.std.proofs.Common.{◌≡◌, ◌≢◌, ◌⊎◌, ℕ, zero, suc, ◌+◌, ◌-◌, ◌*◌, ◌/◌, ◌%◌, ◌^◌, ◌<◌, ◌≤◌, ℤ, Bool, true, List, [], ◌∷◌, ◌++◌, length, map, get_or, Option, Some, None, refl, sym, ap, ap₂, ◌∙◌, subst, subst₂, arith, inl, inr, ⊎_elim, append-nil}
+use Rattle.std.proofs.Common.{◌≡◌, ℕ, ◌+◌, ◌-◌, ◌*◌, ◌^◌, ◌<◌, ◌≤◌, ℤ, true, List, [], ◌++◌, length, Option, Some, None, refl, sym, ap, ◌∙◌, subst, arith, inl, append-nil}
 use Rattle.std.specs.Prelude.{slice_get, replicate, All}
 use Rattle.std.proofs.lemmas.Option.{slice_get-get_or}
 use Rattle.std.proofs.lemmas.List.{length-replicate}
 use Rattle.rv_code.specs.Encode.{is_encodable}
 use Rattle.rv_code.specs.Machine.{Outcome, Ran, Exited, Trapped, run, loaded}
-use Rattle.rv_code.specs.Images.{Image, filled, started}
+use Rattle.rv_code.specs.Images.{started}
 use Rattle.rv_code.specs.declared.instruction.Inst.{Inst}
 use Rattle.rv_asm.specs.Conventions.{code_address, code_bytes, compiled_segments, region_address, region_size, region_words, stack_address}
-use Rattle.rv_asm.specs.WordMachine.{WordState, Goes, Exits, start_state, run_words, machine_state, Has}
+use Rattle.rv_asm.specs.WordMachine.{WordState, Goes, start_state, run_words}
 use Rattle.rv_asm.specs.Assembly.{address_of, total, spot, code_of}
 use Rattle.rv_asm.specs.declared.item.Item.{Item}
 use Rattle.rv_asm.specs.Meanings.{IsShown}

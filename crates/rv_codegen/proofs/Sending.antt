@@ -1,5 +1,5 @@
 -- The entry that sends, and a node's call of it.
-use Rattle.std.proofs.Common.{◌≡◌, ◌≢◌, ℕ, zero, suc, ◌+◌, ◌-◌, ◌*◌, ◌%◌, ◌^◌, ◌<◌, ◌≤◌, Bool, true, List, [], ◌∷◌, ◌++◌, length, Some, pos, refl, sym, ap, ◌∙◌, subst, arith, length-set, eqb, eq-eqb}
+use Rattle.std.proofs.Common.{◌≡◌, ◌≢◌, ℕ, ◌+◌, ◌-◌, ◌*◌, ◌%◌, ◌^◌, ◌<◌, ◌≤◌, true, List, [], ◌∷◌, ◌++◌, length, pos, refl, sym, ◌∙◌, subst, arith, length-set, eqb, eq-eqb}
 use Rattle.rv_code.specs.Arithmetic.{wrap}
 use Rattle.rv_code.specs.Bytes.{bytes_of}
 use Rattle.rv_code.specs.declared.instruction.Inst.{Inst}
@@ -8,7 +8,7 @@ use Rattle.rv_asm.specs.Pieces.{send_word, load_constant}
 use Rattle.rv_asm.specs.WordMachine.{WordState, Goes, put, run_words, Has}
 use Rattle.rv_asm.specs.Assembly.{address_of}
 use Rattle.rv_asm.proofs.Constants.{load_constant-runs, length-load_constant}
-use Rattle.rv_asm.proofs.Places.{Has-front, Has-back}
+use Rattle.rv_asm.proofs.Places.{Has-front}
 use Rattle.rv_asm.proofs.Stretches.{then-runs, Between, between-then-quiet, quiet-then-between}
 use Rattle.rv_asm.proofs.Calls.{CanSend, after_send, after_send-others, send_word-runs, send_word-between}
 use Rattle.rv_codegen.specs.Blocks.{send_entry}

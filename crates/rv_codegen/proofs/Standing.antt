@@ -1,18 +1,18 @@
 -- What stands in the code that an action's items are assembled to.
-use Rattle.std.proofs.Common.{◌≡◌, ◌≢◌, ◌⊎◌, ℕ, zero, suc, ◌+◌, ◌-◌, ◌*◌, ◌^◌, ◌<◌, ◌≤◌, List, [], ◌∷◌, ◌++◌, length, map, get_or, Option, Some, None, refl, sym, ap, ◌∙◌, subst, subst₂, arith, inl, inr, ⊎_elim, append_assoc, add-zero}
+use Rattle.std.proofs.Common.{◌≡◌, ◌≢◌, ℕ, zero, suc, ◌+◌, ◌^◌, ◌<◌, ◌≤◌, List, [], ◌∷◌, ◌++◌, length, map, get_or, Some, refl, sym, ap, ◌∙◌, subst, subst₂, arith, append_assoc, add-zero}
 use Rattle.std.specs.Prelude.{slice_get}
 use Rattle.rv_code.specs.declared.instruction.Inst.{Inst}
 use Rattle.rv_asm.specs.Conventions.{integer_word}
 use Rattle.rv_asm.specs.Pieces.{exit_with, load_constant}
 use Rattle.rv_asm.specs.WordMachine.{Has}
-use Rattle.rv_asm.specs.Assembly.{address_of, total, spot, far_jump, far_address, code_of}
+use Rattle.rv_asm.specs.Assembly.{address_of, total, spot, far_address, code_of}
 use Rattle.rv_asm.specs.declared.item.Item.{Item}
 use Rattle.rv_asm.specs.declared.item.Item.TheVariants.{Plain, Mark, Jump, Address}
 use Rattle.rv_asm.proofs.Labels.{spot_le-total}
 use Rattle.action_terms.specs.Actions.{NumberLiteral, And, AndThen, Complete, Failing, Send, Node, Simple, Both, Phases, Action}
-use Rattle.rv_codegen.specs.Blocks.{completed_label, failed_label, fail_label, send_label, start_label, end_label, start_of, middle_of, stop_of, set_registers, send_entry, prelude, exits_of, two_parts, one_jump, one_send, block, blocks_from, action_items}
+use Rattle.rv_codegen.specs.Blocks.{completed_label, failed_label, fail_label, send_label, start_label, end_label, start_of, middle_of, stop_of, send_entry, prelude, exits_of, two_parts, one_jump, one_send, block, blocks_from, action_items}
 use Rattle.rv_codegen.proofs.Pieces.{Places, AreNear, Jumps, Sends}
-use Rattle.rv_codegen.proofs.Walk.{Cursor, cursor-start, cursor-within, later, step-over, mark-at, over-mark, jump-stands, over-jump, address-stands, over-address, plain-stands, over-plain, last-at}
+use Rattle.rv_codegen.proofs.Walk.{Cursor, cursor-start, cursor-within, later, mark-at, over-mark, jump-stands, over-jump, address-stands, over-address, plain-stands, over-plain, last-at}
 use Rattle.rv_codegen.proofs.Entering.{round_up}
 
 -- the kinds that have code
@@ -102,12 +102,14 @@ module _ (items : List Item) (exits : List ℕ) (small : total items < 2 ^ 28) w
       let c5 = over-mark items end_label (n + 2 + 2) (stop_of k) _ (other (stop_of k) (omega arith)) c4 in
       let here = mark-at items end_label n (start_of k) _ c in
       let there = mark-at items end_label (n + 2) (middle_of k) _ c2 in
-      let last = mark-at items end_label (n + 2 + 2) (stop_of k) _ c4 in
-      (record {
-        enter = subst (λ m. JumpsTo m (spot items (start_of f))) (sym here) (jump-stands items end_label n (start_of k + 1) (start_of f) _ c1);
-        turn = subst (λ m. JumpsTo m (spot items (start_of s))) (sym there) (jump-stands items end_label (n + 2) (middle_of k + 1) (start_of s) _ c3);
-        leave = subst (λ m. JumpsTo m (spot items exit)) (sym last) (jump-stands items end_label (n + 2 + 2) (stop_of k + 1) exit rest c5);
-      }, record { n = n + 2 + 2 + 2; cursor = later items end_label (omega arith) (over-jump items end_label (n + 2 + 2) (stop_of k + 1) exit rest c5) })
+      let last = mark-at items end_label (n + 2 + 2) (stop_of k) _ c4 in (
+        record {
+          enter = subst (λ m. JumpsTo m (spot items (start_of f))) (sym here) (jump-stands items end_label n (start_of k + 1) (start_of f) _ c1);
+          turn = subst (λ m. JumpsTo m (spot items (start_of s))) (sym there) (jump-stands items end_label (n + 2) (middle_of k + 1) (start_of s) _ c3);
+          leave = subst (λ m. JumpsTo m (spot items exit)) (sym last) (jump-stands items end_label (n + 2 + 2) (stop_of k + 1) exit rest c5);
+        },
+        record { n = n + 2 + 2 + 2; cursor = later items end_label (omega arith) (over-jump items end_label (n + 2 + 2) (stop_of k + 1) exit rest c5) },
+      )
 
   send-block : (k w n : ℕ) (rest : List Item) → w < 2 ^ 64 → At n (start_of k) (one_send k (get_or exits k 0) w ++ rest) → Sends (code_of items) places k w × Behind (start_of (suc k)) rest
   send-block k w n rest fits c =
@@ -125,17 +127,19 @@ module _ (items : List Item) (exits : List ℕ) (small : total items < 2 ^ 28) w
       let c6 = later items end_label {from' = stop_of k} (omega arith) (over-mark items end_label (m + 2 + 2) (middle_of k) _ (other (middle_of k) (omega arith)) c5) in
       let c7 = over-mark items end_label (m + 2 + 2) (stop_of k) _ (other (stop_of k) (omega arith)) c6 in
       let here = mark-at items end_label n (start_of k) _ c in
-      let there = mark-at items end_label (m + 2 + 2) (middle_of k) _ c5 in
-      (record {
-        call = m;
-        near_call = omega (arith, cursor-within items end_label (m + 2 + 2) (middle_of k) _ c5);
-        fits = fits;
-        load = subst (λ x. Has (code_of items) (address_of x) load) (sym here) (plain-stands items end_label n (start_of k + 1) load behind c2);
-        behind_load = ap (λ x. x + length load) (sym here);
-        back = address-stands items end_label m (start_of k + 1) 1 (middle_of k) _ c3;
-        enter = jump-stands items end_label (m + 2) (start_of k + 1) send_label _ c4;
-        leave = subst (λ x. JumpsTo x (spot items exit)) (sym there) (jump-stands items end_label (m + 2 + 2) (stop_of k + 1) exit rest c7);
-      }, record { n = m + 2 + 2 + 2; cursor = later items end_label (omega arith) (over-jump items end_label (m + 2 + 2) (stop_of k + 1) exit rest c7) })
+      let there = mark-at items end_label (m + 2 + 2) (middle_of k) _ c5 in (
+        record {
+          call = m;
+          near_call = omega (arith, cursor-within items end_label (m + 2 + 2) (middle_of k) _ c5);
+          fits = fits;
+          load = subst (λ x. Has (code_of items) (address_of x) load) (sym here) (plain-stands items end_label n (start_of k + 1) load behind c2);
+          behind_load = ap (λ x. x + length load) (sym here);
+          back = address-stands items end_label m (start_of k + 1) 1 (middle_of k) _ c3;
+          enter = jump-stands items end_label (m + 2) (start_of k + 1) send_label _ c4;
+          leave = subst (λ x. JumpsTo x (spot items exit)) (sym there) (jump-stands items end_label (m + 2 + 2) (stop_of k + 1) exit rest c7);
+        },
+        record { n = m + 2 + 2 + 2; cursor = later items end_label (omega arith) (over-jump items end_label (m + 2 + 2) (stop_of k + 1) exit rest c7) },
+      )
 
   one-block : (x : Node) (k n : ℕ) (rest : List Item) → IsBuilt x → At n (start_of k) (block k (get_or exits k 0) x ++ rest) → Block x k × Behind (start_of (suc k)) rest
   one-block (Simple Complete) k n rest built c = jump-block k (get_or exits k 0) n rest c

@@ -1,9 +1,9 @@
 -- The machine performs the action: from each rest point one stretch of code leads to the next, or to the exit.
-use Rattle.std.proofs.Common.{◌≡◌, ◌≢◌, ◌⊎◌, ℕ, zero, suc, ◌+◌, ◌-◌, ◌*◌, ◌%◌, ◌^◌, ◌<◌, ◌≤◌, ℤ, Bool, true, false, List, [], ◌∷◌, ◌++◌, length, map, refl, sym, ap, ap₂, ◌∙◌, subst, subst₂, arith, inl, inr, ⊎_elim, le_refl, le_trans, append-nil}
+use Rattle.std.proofs.Common.{◌≡◌, ◌⊎◌, ℕ, ◌+◌, ◌%◌, ◌^◌, ◌<◌, ◌≤◌, ℤ, true, List, [], ◌∷◌, ◌++◌, length, map, refl, sym, ap, ap₂, ◌∙◌, subst, subst₂, arith, inl, inr, ⊎_elim, append-nil}
 use Rattle.rv_code.specs.declared.instruction.Inst.{Inst}
-use Rattle.rv_asm.specs.Conventions.{stack_address, region_register, frame_register, integer_word}
-use Rattle.rv_asm.specs.WordMachine.{WordState, Goes, Exits, run_words, Has}
-use Rattle.rv_asm.specs.Assembly.{address_of, far_jump}
+use Rattle.rv_asm.specs.Conventions.{region_register, frame_register, integer_word}
+use Rattle.rv_asm.specs.WordMachine.{WordState, Has}
+use Rattle.rv_asm.specs.Assembly.{address_of}
 use Rattle.rv_asm.specs.Pieces.{exit_with}
 use Rattle.rv_asm.proofs.Calls.{before_exit, before_exit-runs, exit-stops}
 use Rattle.rv_asm.proofs.Stretches.{then-runs}
@@ -11,9 +11,9 @@ use Rattle.rv_asm.specs.Meanings.{Meaning}
 use Rattle.rv_asm.proofs.Moments.{Advances, Stops, quiet-advance, sending-advance, quiet-stop}
 use Rattle.action_terms.specs.Information.{Binds, NoBinds, Data, World}
 use Rattle.action_terms.specs.Actions.{NumberLiteral, And, AndThen, Complete, Failing, Send, Node, Simple, Both, Phases, Action, node_at}
-use Rattle.action_terms.specs.Acting.{End, Done, Esc, Fail, Tree, Run, Ended, Par, First, Second}
-use Rattle.action_terms.specs.Steps.{Letter, Joins, Sends as SendsEffect, Step, silent, with_effect, world_after, done, failed, run_steps, second_part, chained_parts, joined_parts, open_steps}
-use Rattle.action_terms.specs.Performances.{OneOf, Here, Later, messages_bytes}
+use Rattle.action_terms.specs.Acting.{Done, Esc, Fail, Tree, Run, Ended, Par, First, Second}
+use Rattle.action_terms.specs.Steps.{Letter, Joins, Sends as SendsEffect, Step, silent, with_effect, world_after, done, failed, run_steps, second_part, chained_parts, open_steps}
+use Rattle.action_terms.specs.Performances.{OneOf, Here, messages_bytes}
 use Rattle.action_terms.proofs.Contexts.{Frame, InParLeft, InParRight, InFirst, InSecond, wrap, plug, plugged, shut_all}
 use Rattle.action_terms.proofs.Parts.{Reaches, quiet, reaches-quiet, reaches-within, reaches-rise}
 use Rattle.rv_codegen.specs.Blocks.{send_entry}
@@ -21,8 +21,8 @@ use Rattle.rv_codegen.proofs.Messages.{bytes_of-message, messages_bytes-append}
 use Rattle.rv_codegen.proofs.Sending.{sends-runs}
 use Rattle.rv_codegen.proofs.Jumps.{jumped, jump-runs}
 use Rattle.rv_codegen.proofs.Pace.{stop-paid, factor-ample}
-use Rattle.rv_codegen.proofs.Pieces.{Places, AreNear, Jumps, InOrder, Sends, Piece, IsNode, IsPartOf}
-use Rattle.rv_codegen.proofs.Around.{Around, IsOther, around-shut_all, around-passes, pending, pending-shut_all, leaving}
+use Rattle.rv_codegen.proofs.Pieces.{Places, AreNear, Jumps, InOrder, Piece, IsNode, IsPartOf}
+use Rattle.rv_codegen.proofs.Around.{Around, around-shut_all, around-passes, pending, pending-shut_all, leaving}
 
 -- a point of a performance: the steps so far, and what is performed next, within frames
 pub record Configuration : Type 0 where

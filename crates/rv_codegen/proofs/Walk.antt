@@ -1,9 +1,8 @@
 -- A walk over items: where labels stand, and which instructions stand in the code.
-use Rattle.std.proofs.Common.{◌≡◌, ◌≢◌, ◌⊎◌, ℕ, zero, suc, ◌+◌, ◌-◌, ◌*◌, ◌/◌, ◌%◌, ◌^◌, ◌<◌, ◌≤◌, Bool, true, false, ◌||◌, ◌&&◌, List, [], ◌∷◌, ◌++◌, length, map, Option, Some, None, refl, sym, ap, ap₂, ◌∙◌, subst, arith, inl, inr, ⊎_elim, append_assoc, append-nil, length-append, eqb, leb, eq-eqb, ne_eqb, le-leb}
-use Rattle.std.specs.Prelude.{slice_get}
+use Rattle.std.proofs.Common.{◌≡◌, ◌≢◌, ◌⊎◌, ℕ, ◌+◌, ◌≤◌, Bool, true, false, ◌||◌, List, [], ◌∷◌, ◌++◌, length, map, refl, sym, ap, ◌∙◌, subst, arith, inl, inr, ⊎_elim, append_assoc, eqb, ne_eqb}
 use Rattle.rv_code.specs.declared.instruction.Inst.{Inst}
-use Rattle.rv_asm.specs.WordMachine.{instruction_at, Has}
-use Rattle.rv_asm.specs.Assembly.{address_of, size, total, spot, is_placed, far_jump, far_address, instructions, code_from, code_of}
+use Rattle.rv_asm.specs.WordMachine.{Has}
+use Rattle.rv_asm.specs.Assembly.{address_of, total, spot, is_placed, far_jump, far_address, code_from, code_of}
 use Rattle.rv_asm.specs.declared.item.Item.{Item}
 use Rattle.rv_asm.specs.declared.item.Item.TheVariants.{Plain, Mark, Jump, BranchTo, Address}
 use Rattle.rv_asm.proofs.Labels.{total-append, spot-placed}
@@ -79,9 +78,9 @@ module _ (items : List Item) (last : ℕ) where
     split = c.split ∙ sym (append_assoc c.before (Mark l ∷ []) rest);
     count = total-append c.before (Mark l ∷ []) ∙ omega (arith, c.count);
     fresh = λ m h.
-    let ne : l ≢ m = ⊎_elim (λ g e. omega arith) (λ q e. other (e ∙ q)) h in
-    let f : eqb l m || false ≡ false = let e : eqb l m ≡ false = ne_eqb _ _ ne in rw e refl in
-    is_placed-append c.before (Mark l ∷ []) m (c.fresh m (⊎_elim (λ g. inl (omega arith)) (λ q. inr q) h)) f;
+        let ne : l ≢ m = ⊎_elim (λ g e. omega arith) (λ q e. other (e ∙ q)) h in
+        let f : eqb l m || false ≡ false = let e : eqb l m ≡ false = ne_eqb _ _ ne in rw e refl in
+        is_placed-append c.before (Mark l ∷ []) m (c.fresh m (⊎_elim (λ g. inl (omega arith)) (λ q. inr q) h)) f;
   }
 
   -- over a jump

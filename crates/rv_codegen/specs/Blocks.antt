@@ -1,5 +1,5 @@
 -- The items that the code of an action is assembled from.
-use Rattle.std.specs.Prelude.{ℕ, zero, suc, ◌+◌, ◌*◌, List, [], ◌∷◌, ◌++◌, map, pos, slice_index, slice_set, replicate, length}
+use Rattle.std.specs.Prelude.{ℕ, suc, ◌+◌, ◌*◌, List, [], ◌∷◌, ◌++◌, map, pos, slice_index, slice_set, replicate, length}
 use Rattle.rv_code.specs.declared.instruction.Inst.{Inst}
 use Rattle.rv_code.specs.declared.instruction.Inst.TheVariants.{Op, OpImm, Shift, Upper, Jalr}
 use Rattle.rv_code.specs.declared.instruction.OpOp.TheVariants.{Add}
@@ -17,22 +17,29 @@ use Rattle.action_terms.specs.Actions.{NumberLiteral, And, AndThen, Complete, Fa
 -- the labels of the entries, in the order in which they are placed; the end of the code is placed last
 abbrev pub completed_label : ℕ
 completed_label = 0
+
 abbrev pub failed_label : ℕ
 failed_label = 1
+
 abbrev pub fail_label : ℕ
 fail_label = 2
+
 abbrev pub send_label : ℕ
 send_label = 3
+
 abbrev pub start_label : ℕ
 start_label = 4
+
 abbrev pub end_label : ℕ
 end_label = 5
 
 -- the labels of node k: its start, the place behind its first part, and the place behind its second
 abbrev pub start_of : ℕ → ℕ
 start_of k = 6 + 3 * k
+
 abbrev pub middle_of : ℕ → ℕ
 middle_of k = 7 + 3 * k
+
 abbrev pub stop_of : ℕ → ℕ
 stop_of k = 8 + 3 * k
 

@@ -17,9 +17,9 @@ abbrev pub compiled_image : (code : List ℕ) → (stack units : ℕ) → Image
 compiled_image code stack units = record {
   entry = code_address;
   segments =
-  record { address = code_address; flags = 1; bytes = code; size = length code }
-  ∷ record { address = region_address (length code); flags = 6; bytes = []; size = region_size stack units }
-  ∷ [];
+      record { address = code_address; flags = 1; bytes = code; size = length code }
+      ∷ record { address = region_address (length code); flags = 6; bytes = []; size = region_size stack units }
+      ∷ [];
 }
 
 -- the most bytes of code for so many action nodes and yielders

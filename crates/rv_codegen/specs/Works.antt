@@ -1,5 +1,5 @@
 -- What the code of a node has to do, and the node that does so.
-use Rattle.std.specs.Prelude.{◌≡◌, ℕ, suc, ◌<◌, ◌^◌, Bool, true, false, if◌then◌else◌, List, [], ◌∷◌, map}
+use Rattle.std.specs.Prelude.{ℕ, suc, ◌<◌, ◌^◌, Bool, true, false, if◌then◌else◌, List, [], ◌∷◌, map}
 use Rattle.rv_asm.specs.Conventions.{integer_word}
 use Rattle.action_terms.specs.Actions.{NumberLiteral, And, AndThen, Complete, Failing, Send, Node, Simple, Both, Phases, Action}
 use Rattle.rv_codegen.specs.declared.work.Work.{Work}

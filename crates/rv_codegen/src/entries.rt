@@ -1,10 +1,9 @@
 //! The prelude: the first instructions, and the entries that the code of every action calls.
 
-ghost use Rattle.std.specs.Prelude.{◌≡◌, ℕ, ◌+◌, ◌<◌, ◌≤◌, [], ◌∷◌, ◌++◌, IfOk, OnOk, map, false};
-ghost use Rattle.rv_asm.specs.Assembly.{is_placed};
+ghost use Rattle.std.specs.Prelude.{◌≡◌, ◌<◌, ◌≤◌, [], ◌++◌, IfOk, OnOk, map};
 ghost use Rattle.rv_code.specs.declared.instruction.Inst.TheVariants.{OpImm};
 ghost use Rattle.rv_code.specs.declared.instruction.OpImmOp.TheVariants.{Addi};
-ghost use Rattle.rv_asm.specs.declared.item.Item.TheVariants.{Plain, Mark, Jump};
+ghost use Rattle.rv_asm.specs.declared.item.Item.TheVariants.{Plain};
 ghost use Rattle.rv_codegen.specs.Blocks.{completed_label, failed_label, fail_label, send_label, start_label, end_label, set_registers, send_entry, prelude};
 
 use acg_base::Memory;

@@ -1,9 +1,9 @@
 //! The code of an action, for any action whose nodes are built.
 
-ghost use Rattle.std.specs.Prelude.{◌≡◌, ℕ, ◌+◌, ◌*◌, ◌<◌, ◌≤◌, [], ◌∷◌, ◌++◌, OnOk, IfOk, false, length, slice_index, All, Some, map, vec_len};
+ghost use Rattle.std.specs.Prelude.{◌≡◌, ℕ, ◌+◌, ◌*◌, ◌<◌, ◌≤◌, [], ◌++◌, OnOk, IfOk, false, length, slice_index, All, Some, map};
 ghost use Rattle.rv_code.specs.Encode.{encode};
-ghost use Rattle.rv_asm.specs.Assembly.{is_placed, code_of, total};
-ghost use Rattle.rv_codegen.specs.Blocks.{start_of, completed_label, start_label, end_label, fail_label, send_label, prelude, blocks_from, exits_of, action_items};
+ghost use Rattle.rv_asm.specs.Assembly.{is_placed, code_of};
+ghost use Rattle.rv_codegen.specs.Blocks.{start_label, end_label, fail_label, send_label, prelude, blocks_from, exits_of, action_items};
 ghost use Rattle.rv_asm.specs.Conventions.{instruction_bytes};
 ghost use Rattle.action_terms.specs.Meaning.{action_of};
 ghost use Rattle.rv_codegen.specs.Works.{action_of_works, HasPartsBelow, FitsWord, unbuilt};
@@ -16,7 +16,7 @@ use crate::labels::make_labels;
 use crate::node::append_node;
 use crate::work::{Work, works_of};
 use acg_base::Memory;
-use action_terms::graph::Graph;
+use action_terms::Graph;
 use rv_asm::{Asm, Code, Label};
 use std::alloc::Global;
 

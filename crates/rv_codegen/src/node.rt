@@ -1,6 +1,6 @@
 //! The code of one node.
 
-ghost use Rattle.std.specs.Prelude.{◌≡◌, ℕ, ◌+◌, ◌*◌, ◌/◌, ◌<◌, ◌≤◌, [], ◌∷◌, ◌++◌, OnOk, false, length, slice_index};
+ghost use Rattle.std.specs.Prelude.{◌≡◌, ℕ, ◌+◌, ◌*◌, ◌/◌, ◌<◌, ◌≤◌, ◌++◌, OnOk, false, length, slice_index};
 ghost use Rattle.rv_asm.specs.Assembly.{is_placed};
 ghost use Rattle.rv_codegen.specs.Blocks.{start_of, middle_of, stop_of, fail_label, send_label, one_jump, one_send, two_parts, block};
 ghost use Rattle.rv_codegen.specs.Works.{node_of_work, HasPartsBelow, FitsWord};

@@ -12,9 +12,9 @@ loop-k-preserved c =
     let labels = c.args.labels.now in
     let turn = c.loop-k-test.true in
     let middle : c.index-labels-k.result ≡ middle_of k =
-        label-at labels (3 * k + 1) _ _ (omega (arith, c.requires.labels)) c.index-labels-k.is (c.requires.numbers (3 * k + 1) (omega (arith, c.requires.labels)) ∙ omega arith) in
+    label-at labels (3 * k + 1) _ _ (omega (arith, c.requires.labels)) c.index-labels-k.is (c.requires.numbers (3 * k + 1) (omega (arith, c.requires.labels)) ∙ omega arith) in
     let stop : c.index-labels-k-in-loop-k.result ≡ stop_of k =
-        label-at labels (3 * k + 2) _ _ (omega (arith, c.requires.labels)) c.index-labels-k-in-loop-k.is (c.requires.numbers (3 * k + 2) (omega (arith, c.requires.labels)) ∙ omega arith) in
+    label-at labels (3 * k + 2) _ _ (omega (arith, c.requires.labels)) c.index-labels-k-in-loop-k.is (c.requires.numbers (3 * k + 2) (omega (arith, c.requires.labels)) ∙ omega arith) in
     record {
       len = c.set_exits.ensures.len ∙ c.loop-k.invariant.len;
       rest =

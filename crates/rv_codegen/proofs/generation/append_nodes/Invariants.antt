@@ -1,4 +1,4 @@
-use Rattle.std.proofs.Common.{◌≡◌, ℕ, ◌+◌, ◌<◌, ◌≤◌, ◌++◌, false, drop, slice_index_or}
+use Rattle.std.proofs.Common.{◌≡◌, ℕ, ◌<◌, ◌≤◌, ◌++◌, false, drop, slice_index_or}
 use Rattle.rv_asm.specs.Assembly.{is_placed}
 use Rattle.rv_codegen.specs.Blocks.{start_of, end_label, blocks_from}
 use Rattle.rv_codegen.specs.Works.{action_of_works, FitsWord}

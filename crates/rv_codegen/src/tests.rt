@@ -1,0 +1,90 @@
+//! The code of an action with a node of each built kind, and the first node of another.
+
+use crate::{first_unbuilt, generate};
+use action_terms::pushed::Pushed;
+use action_terms::{Graph, GraphBuilder, Kind, NewAction, NewYielder, YKind};
+use bumpalo::Bump;
+use std::alloc::Global;
+use std::process::Abort;
+use std::test::Fail;
+
+fn action(kind: Kind) -> Pushed<'static> {
+    Pushed::Action(NewAction {
+        kind,
+        items: 0,
+        token: b"",
+    })
+}
+
+fn yielder(kind: YKind) -> Pushed<'static> {
+    Pushed::Yielder(NewYielder { kind, token: b"" })
+}
+
+// The graph of the action whose nodes these are, in preorder.
+fn graph_of<'a>(
+    rt: &impl Abort,
+    alloc: Global,
+    arena: &'a Bump,
+    nodes: &[Pushed<'_>],
+) -> Result<Graph<'a>, Fail> {
+    let mut builder = GraphBuilder::new(alloc, arena)?;
+    for node in nodes {
+        let _number = match *node {
+            Pushed::Action(new) => builder.push_action(new)?,
+            Pushed::Yielder(new) => builder.push_yielder(new)?,
+        };
+    }
+    assert!(rt; builder.is_whole());
+    Ok(builder.seal()?)
+}
+
+// The words of (send 7 and send -1) and then (complete and fail). They are those that llvm-mc gives
+// for the prelude and the blocks written in its notation.
+const WORDS: [u32; 64] = [
+    0x00000197, 0x10018193, 0x7ff18193, 0x7ff18193, 0x00118193, 0x00c1d193, 0x00c19193, 0x00001137,
+    0x00310133, 0x00000f97, 0x044f8067, 0x00000513, 0x05d00893, 0x00000073, 0x00100513, 0x05d00893,
+    0x00000073, 0x00000f97, 0xff4f8067, 0x00a1b023, 0x00018593, 0x00800613, 0x04000893, 0x00100513,
+    0x00000073, 0x00008067, 0x00000f97, 0x008f8067, 0x00000f97, 0x018f8067, 0x00000f97, 0x060f8067,
+    0x00000f97, 0xfacf8067, 0x00000f97, 0x018f8067, 0x00000f97, 0x02cf8067, 0x00000f97, 0xfe0f8067,
+    0x00700513, 0x00000097, 0x01008093, 0x00000f97, 0xfa0f8067, 0x00000f97, 0xfdcf8067, 0xfff00513,
+    0x00000097, 0x01008093, 0x00000f97, 0xf84f8067, 0x00000f97, 0xfc8f8067, 0x00000f97, 0x018f8067,
+    0x00000f97, 0x018f8067, 0x00000f97, 0xf98f8067, 0x00000f97, 0xff0f8067, 0x00000f97, 0xf4cf8067,
+];
+
+#[test]
+fn words_of_another_assembler(rt: HostRuntime) -> Result<(), Fail> {
+    let arena = Bump::new(rt.alloc());
+    let nodes = [
+        action(Kind::AndThen),
+        action(Kind::And),
+        action(Kind::Send),
+        yielder(YKind::Number(7)),
+        action(Kind::Send),
+        yielder(YKind::Number(-1)),
+        action(Kind::And),
+        action(Kind::Complete),
+        action(Kind::Fail),
+    ];
+    let graph = graph_of(&rt, rt.alloc(), &arena, &nodes)?;
+    assert!(rt; first_unbuilt(&graph).is_none());
+    let code = generate(rt.alloc(), &graph)?;
+    assert_eq!(rt; code.words.as_slice(), WORDS.as_slice());
+    Ok(())
+}
+
+// complete and then (send true and escape)
+#[test]
+fn first_of_two_unbuilt_nodes(rt: HostRuntime) -> Result<(), Fail> {
+    let arena = Bump::new(rt.alloc());
+    let nodes = [
+        action(Kind::AndThen),
+        action(Kind::Complete),
+        action(Kind::And),
+        action(Kind::Send),
+        yielder(YKind::Truth(true)),
+        action(Kind::Escape),
+    ];
+    let graph = graph_of(&rt, rt.alloc(), &arena, &nodes)?;
+    assert_eq!(rt; first_unbuilt(&graph), Some(3));
+    Ok(())
+}
