@@ -1,4 +1,5 @@
-//! Short pieces of code that generated code is made of: constants, copies of words, messages and exits.
+//! Short pieces of code that generated code is made of: constants, copies of words, messages and exits. An `Err` comes
+//! for want of memory alone, and some of the instructions of the piece may then stand in the assembler.
 
 ghost use Rattle.std.specs.Prelude.{◌≡◌, ℕ, ◌+◌, ◌-◌, ◌*◌, ◌^◌, ◌<◌, ◌≤◌, ◌++◌, ◌∷◌, [], List, OnOk, pos};
 ghost use Rattle.rv_code.specs.declared.instruction.Inst.TheVariants.{OpImm, Upper, Shift, Load, Store, Ecall};
