@@ -14,3 +14,7 @@ pub mod Fresh
 pub mod NodesLaws
 pub mod Totals
 pub mod Loading
+pub mod BuiltKinds
+pub mod WorkNodes
+pub mod WorkLaws
+pub mod WorkTurns
