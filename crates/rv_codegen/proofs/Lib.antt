@@ -18,3 +18,4 @@ pub mod BuiltKinds
 pub mod WorkNodes
 pub mod WorkLaws
 pub mod WorkTurns
+pub mod Generated

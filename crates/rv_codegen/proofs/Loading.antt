@@ -13,12 +13,12 @@ All-two P x y p q (suc (suc i)) d lt = absurd (omega arith)
 
 -- a fact of two in their order
 AllPairs-two : {X : Type 0} (R : X → X → Type 0) (x y : X) → R x y → AllPairs R (x ∷ y ∷ [])
-AllPairs-two R x y r zero zero d lt in = absurd (omega arith)
-AllPairs-two R x y r zero (suc zero) d lt in = r
-AllPairs-two R x y r zero (suc (suc j)) d lt in = absurd (omega arith)
-AllPairs-two R x y r (suc i) zero d lt in = absurd (omega arith)
-AllPairs-two R x y r (suc i) (suc zero) d lt in = absurd (omega arith)
-AllPairs-two R x y r (suc i) (suc (suc j)) d lt in = absurd (omega arith)
+AllPairs-two R x y r zero zero d lt before = absurd (omega arith)
+AllPairs-two R x y r zero (suc zero) d lt before = r
+AllPairs-two R x y r zero (suc (suc j)) d lt before = absurd (omega arith)
+AllPairs-two R x y r (suc i) zero d lt before = absurd (omega arith)
+AllPairs-two R x y r (suc i) (suc zero) d lt before = absurd (omega arith)
+AllPairs-two R x y r (suc i) (suc (suc j)) d lt before = absurd (omega arith)
 
 pub compiled-loads : (code : List ℕ) (stack units nodes : ℕ) → nodes ≤ 65536 → stack ≤ 16777216 → units ≤ 4194304 → length code ≤ code_limit nodes → Loads (compiled_image code stack units) stack units nodes
 compiled-loads code stack units nodes few s u short =

@@ -4,7 +4,10 @@
 
 mod entries;
 mod exits;
-mod generate;
+mod generation;
 mod labels;
 mod node;
 pub mod work;
+
+pub use generation::generate;
+pub use work::first_unbuilt;

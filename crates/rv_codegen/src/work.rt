@@ -1,7 +1,8 @@
 //! What the code of a node has to do.
 
-ghost use Rattle.std.specs.Prelude.{◌≡◌, ℤ, ◌<◌, [], false, length, slice_get, IfSome, IfNone, IfOk, All};
+ghost use Rattle.std.specs.Prelude.{◌≡◌, ℤ, ◌<◌, [], false, length, slice_get, IfSome, IfNone, IfOk, OnOk, All};
 ghost use Rattle.action_terms.specs.Actions.{NumberLiteral, Single, node_at};
+ghost use Rattle.action_terms.specs.Numbering.{IsGraph};
 ghost use Rattle.action_terms.specs.Meaning.{item_or_them, items_from, action_of};
 ghost use Rattle.rv_codegen.specs.Works.{node_of_work, action_of_works, HasPartsBelow, is_built_node, unbuilt};
 
@@ -72,6 +73,7 @@ pub(crate) fn works_of(alloc: Global, graph: &Graph<'_>) -> Result<Vec<Work>, Me
     ensures works { IfOk result (λ works. action_of_works works.items ≡ action_of graph.now) }
     ensures parts { IfOk result (λ works. All (HasPartsBelow (length works.items)) works.items) }
     ensures some { IfOk result (λ works. 0 < length works.items) }
+    ensures graph { OnOk result (IsGraph graph.now) }
 {
     let count = graph.nodes().len();
     let mut works = Vec::with_capacity(alloc, count)?;

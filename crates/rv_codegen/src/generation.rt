@@ -4,14 +4,19 @@ ghost use Rattle.std.specs.Prelude.{◌≡◌, ℕ, ◌+◌, ◌*◌, ◌<◌, �
 ghost use Rattle.rv_code.specs.Encode.{encode};
 ghost use Rattle.rv_asm.specs.Assembly.{is_placed, code_of, total};
 ghost use Rattle.rv_codegen.specs.Blocks.{start_of, completed_label, start_label, end_label, fail_label, send_label, prelude, blocks_from, exits_of, action_items};
-ghost use Rattle.rv_codegen.specs.Works.{action_of_works, HasPartsBelow, FitsWord};
+ghost use Rattle.rv_asm.specs.Conventions.{instruction_bytes};
+ghost use Rattle.action_terms.specs.Meaning.{action_of};
+ghost use Rattle.rv_codegen.specs.Works.{action_of_works, HasPartsBelow, FitsWord, unbuilt};
+ghost use Rattle.rv_codegen.specs.Measures.{subject_of, node_count};
+ghost use Rattle.rv_codegen.specs.RightImage.{compiled_image, IsRight};
 
 use crate::entries::{Entries, append_prelude, make_entries};
 use crate::exits::make_exits;
 use crate::labels::make_labels;
 use crate::node::append_node;
-use crate::work::Work;
+use crate::work::{Work, works_of};
 use acg_base::Memory;
+use action_terms::graph::Graph;
 use rv_asm::{Asm, Code, Label};
 use std::alloc::Global;
 
@@ -90,4 +95,15 @@ fn assemble(alloc: Global, works: &[Work]) -> Result<Code, Memory>
     append_prelude(&mut asm, &entries)?;
     append_action(&mut asm, works, &labels, &exits, &entries)?;
     asm.finish()
+}
+
+/// The code of an action whose nodes are built: words of 32 bits, for the image of which it is proved
+/// that it is right for the action, whatever capacity in its ranges is written into it. An `Err` comes
+/// for want of memory alone.
+pub fn generate(alloc: Global, graph: &Graph<'_>) -> Result<Code, Memory>
+    requires built { unbuilt (action_of graph.now) ≡ [] }
+    ensures right { IfOk result (λ code. (stack units : ℕ) → 1 ≤ stack → stack ≤ 16777216 → 1 ≤ units → units ≤ 4194304 → IsRight (compiled_image (instruction_bytes code.words.items) stack units) (node_count graph.now) (subject_of graph.now stack units)) }
+{
+    let works = works_of(alloc, graph)?;
+    assemble(alloc, &works)
 }

@@ -1,7 +1,7 @@
 use Rattle.std.proofs.Common.{◌≡◌, IfOk, Some, map, subst}
 use Rattle.rv_code.specs.Encode.{encode}
 use Rattle.rv_asm.specs.Assembly.{code_of}
-use Rattle.rv_codegen.proofs.generate.assemble.Goals as goal
+use Rattle.rv_codegen.proofs.generation.assemble.Goals as goal
 
 pub returns-clause-words : goal.returns-clause-words
 returns-clause-words c =

@@ -3,7 +3,7 @@ use Rattle.rv_asm.specs.Assembly.{is_placed}
 use Rattle.rv_codegen.specs.Blocks.{start_of, end_label, blocks_from}
 use Rattle.rv_codegen.specs.Works.{action_of_works, FitsWord}
 use Rattle.rv_codegen.specs.declared.work.Work.{Work}
-use Rattle.rv_codegen.proofs.generate.append_nodes.Given as goal
+use Rattle.rv_codegen.proofs.generation.append_nodes.Given as goal
 
 -- with what is left to do the items are those of the whole, and no label from that of the next node on is placed
 abbrev pub invariant-loop-k : goal.invariant-loop-k

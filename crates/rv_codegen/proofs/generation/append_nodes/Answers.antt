@@ -4,7 +4,7 @@ use Rattle.rv_asm.specs.Assembly.{is_placed}
 use Rattle.rv_codegen.specs.Blocks.{end_label, blocks_from}
 use Rattle.rv_codegen.specs.Works.{action_of_works}
 use Rattle.rv_codegen.proofs.NodesLaws.{blocks_from-next, fresh-behind, fresh-before, fits-more}
-use Rattle.rv_codegen.proofs.generate.append_nodes.Goals as goal
+use Rattle.rv_codegen.proofs.generation.append_nodes.Goals as goal
 
 pub loop-k-preserved : goal.loop-k-preserved
 loop-k-preserved c =
