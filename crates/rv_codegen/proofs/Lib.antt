@@ -19,3 +19,4 @@ pub mod WorkNodes
 pub mod WorkLaws
 pub mod WorkTurns
 pub mod Generated
+pub mod Yielders

@@ -4,10 +4,12 @@
 
 mod entries;
 mod exits;
+mod factor;
 mod generation;
 mod labels;
 mod node;
 pub mod work;
 
+pub use factor::instructions_per_step;
 pub use generation::generate;
 pub use work::first_unbuilt;

@@ -1,0 +1,309 @@
+-- The action nodes that are spelled by their own tokens are read.
+use Rattle.std.proofs.Common.{◌≡◌, ◌⊎◌, inl, inr, ℕ, zero, suc, ◌+◌, true, List, [], ◌∷◌, ◌++◌, refl, sym, ap, subst, ◌∙◌, append_assoc, append-nil, codes, nat_eq, eqb-true, arith}
+use Rattle.action_terms.specs.Labels.{Label, ActionNode, YielderNode, AnAction, AYielder, AnItem, AClosure, copies, serves, has_no_token, is_token}
+use Rattle.action_terms.specs.Trees.{Tree, tree, Trees, none, more, Is, Are}
+use Rattle.action_terms.specs.declared.kinds.Kind.{Kind}
+use Rattle.action_terms.specs.declared.kinds.Kind.TheVariants as kind
+use Rattle.action_terms.specs.declared.kinds.YKind.TheVariants as ykind
+use Rattle.action_text.specs.declared.table.Symbol.TheVariants.{Read, Keep, Emit, Name}
+use Rattle.action_text.specs.declared.table.Mark.TheVariants as mark
+use Rattle.action_text.specs.declared.classes.TheConstants as class
+use Rattle.action_text.specs.declared.names.TheConstants as name
+use Rattle.action_text.specs.Tables.{line_of, other_of, Token}
+use Rattle.action_text.specs.Shapes.{Fixed, Part, items, more_items, open_paren, close_paren, comma}
+use Rattle.action_text.specs.ActionText.{IsPlain, ArePartsOf, Weaves}
+use Rattle.action_text.specs.Posts.{postorder, postorders}
+use Rattle.action_text.specs.Notes.{Noting, Note, Count, marked, note}
+use Rattle.action_text.specs.ActionTable.{action_table, action_lines, action_others}
+use Rattle.action_text.proofs.Meanings.{does_nothing, does_keep, does_emit, does_other}
+use Rattle.action_text.proofs.Means.{wrote}
+use Rattle.action_text.proofs.Nodes.{and_left, and_right}
+use Rattle.action_text.proofs.QuotedTokens.{unquoted_back}
+use Rattle.action_text.proofs.Spelling.{Goes, AllGo, PlainGoes, word_line, word_read, name_then, end_at, on_tokens, part_goes, pieces_go}
+use Rattle.action_text.proofs.SpeltNodes.{NodeGoes, node_goes, begun_other_goes, shapeless, bare, no_token, quoted_class}
+
+-- the state behind data: the number of items is noted, and their labels are written
+abbrev pub behind_items : ℕ → Trees → Noting → Noting
+behind_items n kids st = record { notes = Count n ∷ st.notes; labels = st.labels ++ postorders kids }
+
+-- one mark, and then nothing
+pub emits : (m : Rattle.action_text.specs.declared.table.Mark.Mark) (st end : Noting) → marked m st ≡ end → Goes (Emit m ∷ []) st [] end
+emits m st end e = does_emit action_table m [] st end [] (end_at [] (marked m st) (marked m st) end [] e (does_nothing action_table (marked m st)))
+
+-- an item is `them` or a yielder
+pub item_cases : (t : Tree) → Is AnItem t → ((kids : Trees) × (t ≡ tree (YielderNode ykind.Them []) kids) × Are [] kids) ⊎ Is AYielder t
+item_cases (tree (ActionNode k n q) kids) h = absurd (cc)
+item_cases (tree (YielderNode ykind.Them q) kids) h = inl (kids, ap (λ r. tree (YielderNode ykind.Them r) kids) (no_token q h.0), h.1)
+item_cases (tree (YielderNode (ykind.Number z) q) kids) h = inr h
+item_cases (tree (YielderNode (ykind.Truth b) q) kids) h = inr h
+item_cases (tree (YielderNode (ykind.Given s p) q) kids) h = inr h
+item_cases (tree (YielderNode (ykind.Bound s) q) kids) h = inr h
+item_cases (tree (YielderNode (ykind.Stored s) q) kids) h = inr h
+item_cases (tree (YielderNode ykind.Sum q) kids) h = inr h
+item_cases (tree (YielderNode ykind.Difference q) kids) h = inr h
+item_cases (tree (YielderNode ykind.Product q) kids) h = inr h
+item_cases (tree (YielderNode ykind.Quotient q) kids) h = inr h
+item_cases (tree (YielderNode ykind.Remainder q) kids) h = inr h
+item_cases (tree (YielderNode ykind.Negation q) kids) h = inr h
+item_cases (tree (YielderNode ykind.Is q) kids) h = inr h
+item_cases (tree (YielderNode ykind.Less q) kids) h = inr h
+item_cases (tree (YielderNode ykind.Not q) kids) h = inr h
+item_cases (tree (YielderNode ykind.Both q) kids) h = inr h
+item_cases (tree (YielderNode ykind.Either q) kids) h = inr h
+item_cases (tree (YielderNode ykind.Closure q) kids) h = inr h
+
+-- the spelling of `them`
+pub them_alone : (kids : Trees) (ts : List (List ℕ)) → Are [] kids → IsPlain (tree (YielderNode ykind.Them []) kids) ts → (kids ≡ none) × (ts ≡ codes "them" ∷ [])
+them_alone none [] are (parts, spelled, woven) = absurd woven
+them_alone none (t ∷ ts) are (parts, spelled, woven) =
+    let rest : ts ≡ [] = subst (λ (p : List (List (List ℕ))). Weaves [] p ts) spelled woven.1 in
+    (refl, ap (λ v. v ∷ ts) woven.0 ∙ ap (λ y. codes "them" ∷ y) rest)
+them_alone (more k kids) ts are p = absurd are
+
+-- data of one item that stands alone
+one_item_goes : (t : Tree) → PlainGoes t → Is AnItem t → (ts : List (List ℕ)) → IsPlain t ts → (st : Noting) → Goes (Name name.DATA ∷ []) st ts (behind_items 1 (more t none) st)
+unfolding line_of action_lines other_of action_others
+one_item_goes t p is ts plain st = go (item_cases t is)
+  where
+    end_is : (t : Tree) (st : Noting) → marked mark.FirstItem (wrote (postorder t) st) ≡ behind_items 1 (more t none) st
+    end_is t st = ap (λ ls. let r : Noting = record { notes = Count 1 ∷ st.notes; labels = st.labels ++ ls } in r) (sym (append-nil (postorder t)))
+
+    them_goes : (kids : Trees) → t ≡ tree (YielderNode ykind.Them []) kids → Are [] kids → Goes (Name name.DATA ∷ []) st ts (behind_items 1 (more t none) st)
+    them_goes kids e are =
+        let alone = them_alone kids ts are (subst (λ u. IsPlain u ts) e plain) in
+        let whole : t ≡ tree (YielderNode ykind.Them []) none = e ∙ ap (λ k. tree (YielderNode ykind.Them []) k) alone.0 in
+        on_tokens (Name name.DATA ∷ []) st (behind_items 1 (more t none) st) (codes "them" ∷ []) ts (sym alone.1)
+        (word_line name.DATA (codes "them") (codes "them") (Emit (mark.Yielder ykind.Them) ∷ Emit mark.FirstItem ∷ []) st (behind_items 1 (more t none) st) [] refl refl
+        (does_emit action_table (mark.Yielder ykind.Them) (Emit mark.FirstItem ∷ []) st (behind_items 1 (more t none) st) []
+        (emits mark.FirstItem (marked (mark.Yielder ykind.Them) st) (behind_items 1 (more t none) st) (ap (λ u. behind_items 1 (more u none) st) (sym whole)))))
+
+    go : ((kids : Trees) × (t ≡ tree (YielderNode ykind.Them []) kids) × Are [] kids) ⊎ Is AYielder t → Goes (Name name.DATA ∷ []) st ts (behind_items 1 (more t none) st)
+    go (inl h) = them_goes h.0 h.1 h.2
+    go (inr h) =
+        does_other action_table name.DATA (Name name.YIELDER ∷ Emit mark.FirstItem ∷ []) st (behind_items 1 (more t none) st) ts refl
+        (on_tokens (Name name.YIELDER ∷ Emit mark.FirstItem ∷ []) st (behind_items 1 (more t none) st) (ts ++ []) ts (append-nil ts)
+        (name_then name.YIELDER (Emit mark.FirstItem ∷ []) st (wrote (postorder t) st) (behind_items 1 (more t none) st) ts [] (p AYielder h ts plain st)
+        (emits mark.FirstItem (wrote (postorder t) st) (behind_items 1 (more t none) st) (end_is t st))))
+
+regroup : (a b c d : List Label) → ((a ++ b) ++ c) ++ d ≡ a ++ (b ++ (c ++ d))
+regroup a b c d = simp append_assoc
+
+-- one more item than were counted, in another order of counting
+count_on : (n m : ℕ) (ns : List Note) (ls : List Label) → (let r : Noting = record { notes = Count ((n + 1) + m) ∷ ns; labels = ls } in r) ≡ (let r : Noting = record { notes = Count (n + suc m) ∷ ns; labels = ls } in r)
+count_on n m ns ls = let e : (n + 1) + m ≡ n + suc m = omega arith in ap (λ k. let r : Noting = record { notes = Count k ∷ ns; labels = ls } in r) e
+
+-- items behind n others, up to the closing parenthesis
+more_items_go : (m : ℕ) (kids : Trees) (parts : List (List (List ℕ))) (ts : List (List ℕ)) (n : ℕ) (ns : List Note) (ls : List Label) → AllGo kids → Are (copies m AnItem) kids → ArePartsOf kids (copies m AnItem) parts
+    → Weaves (more_items m) parts ts
+    → Goes (Name name.MORE_ITEMS ∷ []) (record { notes = Count n ∷ ns; labels = ls }) ts (record { notes = Count (n + m) ∷ ns; labels = ls ++ postorders kids })
+unfolding line_of action_lines other_of action_others
+more_items_go zero none parts [] n ns ls all are spelled woven = absurd woven
+more_items_go zero none parts (t ∷ ts) n ns ls all are spelled woven =
+    let st : Noting = record { notes = Count n ∷ ns; labels = ls } in
+    let same : n ≡ n + 0 = omega arith in
+    let end_is : st ≡ record { notes = Count (n + 0) ∷ ns; labels = ls ++ [] } =
+    ap (λ k. let r : Noting = record { notes = Count k ∷ ns; labels = ls } in r) same ∙ ap (λ y. let r : Noting = record { notes = Count (n + 0) ∷ ns; labels = y } in r) (sym (append-nil ls)) in
+    let rest : ts ≡ [] = subst (λ (p : List (List (List ℕ))). Weaves [] p ts) spelled woven.1 in
+    on_tokens (Name name.MORE_ITEMS ∷ []) st (record { notes = Count (n + 0) ∷ ns; labels = ls ++ [] }) (t ∷ []) (t ∷ ts) (ap (λ y. t ∷ y) (sym rest))
+    (word_line name.MORE_ITEMS close_paren t [] st (record { notes = Count (n + 0) ∷ ns; labels = ls ++ [] }) [] refl woven.0 (end_at [] st st (record { notes = Count (n + 0) ∷ ns; labels = ls ++ [] }) [] end_is (does_nothing action_table st)))
+more_items_go zero (more k kids) parts ts n ns ls all are spelled woven = absurd are
+more_items_go (suc m) none parts ts n ns ls all are spelled woven = absurd are
+more_items_go (suc m) (more k kids) [] ts n ns ls all are spelled woven = absurd spelled
+more_items_go (suc m) (more k kids) (part ∷ parts) [] n ns ls all are spelled woven = absurd woven
+more_items_go (suc m) (more k kids) (part ∷ parts) (t ∷ ts) n ns ls all are spelled woven =
+    let st : Noting = record { notes = Count n ∷ ns; labels = ls } in
+    let end : Noting = record { notes = Count (n + suc m) ∷ ns; labels = ls ++ postorders (more k kids) } in
+    let item = part_goes k all.0 all.1 AnItem are.0 part spelled.0 st in
+    let rest = more_items_go m kids parts woven.1.0 (n + 1) ns (ls ++ postorder k) all.2 are.1 spelled.1 woven.1.2 in
+    let end_is : record { notes = Count ((n + 1) + m) ∷ ns; labels = (ls ++ postorder k) ++ postorders kids } ≡ end =
+    count_on n m ns ((ls ++ postorder k) ++ postorders kids) ∙ ap (λ y. let r : Noting = record { notes = Count (n + suc m) ∷ ns; labels = y } in r) (append_assoc ls (postorder k) (postorders kids)) in
+    let behind : Goes (Emit mark.NextItem ∷ Name name.MORE_ITEMS ∷ []) (wrote (postorder k) st) woven.1.0 end =
+    does_emit action_table mark.NextItem (Name name.MORE_ITEMS ∷ []) (wrote (postorder k) st) end woven.1.0 (end_at (Name name.MORE_ITEMS ∷ []) (marked mark.NextItem (wrote (postorder k) st)) (record { notes = Count ((n + 1) + m) ∷ ns; labels = (ls ++ postorder k) ++ postorders kids }) end woven.1.0 end_is rest) in
+    word_line name.MORE_ITEMS comma t (Name name.ITEM ∷ Emit mark.NextItem ∷ Name name.MORE_ITEMS ∷ []) st end ts refl woven.0
+    (on_tokens (Name name.ITEM ∷ Emit mark.NextItem ∷ Name name.MORE_ITEMS ∷ []) st end (part ++ woven.1.0) ts (sym woven.1.1)
+    (name_then name.ITEM (Emit mark.NextItem ∷ Name name.MORE_ITEMS ∷ []) st (wrote (postorder k) st) end part woven.1.0 item behind))
+
+-- data is read, and the number of its items noted
+items_go : (n : ℕ) (kids : Trees) (parts : List (List (List ℕ))) (ts : List (List ℕ)) (st : Noting) → AllGo kids → Are (copies n AnItem) kids → ArePartsOf kids (copies n AnItem) parts → Weaves (items n) parts ts
+    → Goes (Name name.DATA ∷ []) st ts (behind_items n kids st)
+unfolding line_of action_lines other_of action_others
+items_go zero none parts [] st all are spelled woven = absurd woven
+items_go zero none parts (t ∷ []) st all are spelled woven = absurd woven.1
+items_go zero none parts (t ∷ u ∷ ts) st all are spelled woven =
+    let rest : ts ≡ [] = subst (λ (p : List (List (List ℕ))). Weaves [] p ts) spelled woven.1.1 in
+    let end_is : marked mark.NoItems st ≡ behind_items 0 none st = ap (λ y. let r : Noting = record { notes = Count 0 ∷ st.notes; labels = y } in r) (sym (append-nil st.labels)) in
+    on_tokens (Name name.DATA ∷ []) st (behind_items 0 none st) (t ∷ u ∷ []) (t ∷ u ∷ ts) (ap (λ y. t ∷ u ∷ y) (sym rest))
+    (word_line name.DATA open_paren t (Name name.ITEMS ∷ []) st (behind_items 0 none st) (u ∷ []) refl woven.0
+    (word_line name.ITEMS close_paren u (Emit mark.NoItems ∷ []) st (behind_items 0 none st) [] refl woven.1.0 (emits mark.NoItems st (behind_items 0 none st) end_is)))
+items_go zero (more k kids) parts ts st all are spelled woven = absurd are
+items_go (suc zero) none parts ts st all are spelled woven = absurd are
+items_go (suc zero) (more k none) [] ts st all are spelled woven = absurd spelled
+items_go (suc zero) (more k none) (part ∷ parts) ts st all are spelled woven =
+    let rest : woven.0 ≡ [] = subst (λ (p : List (List (List ℕ))). Weaves [] p woven.0) spelled.1 woven.2 in
+    on_tokens (Name name.DATA ∷ []) st (behind_items 1 (more k none) st) part ts (sym (woven.1 ∙ ap (λ y. part ++ y) rest ∙ append-nil part)) (one_item_goes k all.0 are.0 part spelled.0 st)
+items_go (suc zero) (more k (more j kids)) parts ts st all are spelled woven = absurd are.1
+items_go (suc (suc n)) none parts ts st all are spelled woven = absurd are
+items_go (suc (suc n)) (more a none) parts ts st all are spelled woven = absurd are.1
+items_go (suc (suc n)) (more a (more b kids)) [] ts st all are spelled woven = absurd spelled
+items_go (suc (suc n)) (more a (more b kids)) (p ∷ []) ts st all are spelled woven = absurd spelled.1
+items_go (suc (suc n)) (more a (more b kids)) (p ∷ q ∷ parts) [] st all are spelled woven = absurd woven
+items_go (suc (suc n)) (more a (more b kids)) (p ∷ q ∷ parts) (t ∷ ts) st all are spelled woven = behind_first woven.1.0 woven.1.1 woven.1.2
+  where
+    one_more : (n : ℕ) → 1 + suc n ≡ suc (suc n)
+    one_more n = omega arith
+
+    behind_first : (back : List (List ℕ)) → ts ≡ p ++ back → Weaves (more_items (suc n)) (q ∷ parts) back → Goes (Name name.DATA ∷ []) st (t ∷ ts) (behind_items (suc (suc n)) (more a (more b kids)) st)
+    behind_first [] cut w = absurd w
+    behind_first (u ∷ back) cut w =
+        let end : Noting = behind_items (suc (suc n)) (more a (more b kids)) st in
+        let after_a : Noting = wrote (postorder a) st in
+        let one : Noting = marked mark.FirstItem after_a in
+        let after_b : Noting = wrote (postorder b) one in
+        let first = part_goes a all.0 all.1 AnItem are.0 p spelled.0 st in
+        let second = part_goes b all.2.0 all.2.1 AnItem are.1.0 q spelled.1.0 one in
+        let rest = more_items_go n kids parts w.1.0 (1 + 1) st.notes ((st.labels ++ postorder a) ++ postorder b) all.2.2 are.1.1 spelled.1.1 w.1.2 in
+        let end_is : record { notes = Count ((1 + 1) + n) ∷ st.notes; labels = ((st.labels ++ postorder a) ++ postorder b) ++ postorders kids } ≡ end =
+        count_on 1 n st.notes (((st.labels ++ postorder a) ++ postorder b) ++ postorders kids)
+        ∙ ap (λ k. let r : Noting = record { notes = Count k ∷ st.notes; labels = ((st.labels ++ postorder a) ++ postorder b) ++ postorders kids } in r) (one_more n)
+        ∙ ap (λ y. let r : Noting = record { notes = Count (suc (suc n)) ∷ st.notes; labels = y } in r) (regroup st.labels (postorder a) (postorder b) (postorders kids)) in
+        let tail : Goes (Emit mark.NextItem ∷ Name name.MORE_ITEMS ∷ []) after_b w.1.0 end =
+        does_emit action_table mark.NextItem (Name name.MORE_ITEMS ∷ []) after_b end w.1.0 (end_at (Name name.MORE_ITEMS ∷ []) (marked mark.NextItem after_b) (record { notes = Count ((1 + 1) + n) ∷ st.notes; labels = ((st.labels ++ postorder a) ++ postorder b) ++ postorders kids }) end w.1.0 end_is rest) in
+        let from_b : Goes (Name name.ITEM ∷ Emit mark.NextItem ∷ Name name.MORE_ITEMS ∷ []) one back end =
+        on_tokens (Name name.ITEM ∷ Emit mark.NextItem ∷ Name name.MORE_ITEMS ∷ []) one end (q ++ w.1.0) back (sym w.1.1) (name_then name.ITEM (Emit mark.NextItem ∷ Name name.MORE_ITEMS ∷ []) one after_b end q w.1.0 second tail) in
+        let from_comma : Goes (Emit mark.FirstItem ∷ Read class.COMMA ∷ Name name.ITEM ∷ Emit mark.NextItem ∷ Name name.MORE_ITEMS ∷ []) after_a (u ∷ back) end =
+        does_emit action_table mark.FirstItem (Read class.COMMA ∷ Name name.ITEM ∷ Emit mark.NextItem ∷ Name name.MORE_ITEMS ∷ []) after_a end (u ∷ back)
+        (word_read comma u (Name name.ITEM ∷ Emit mark.NextItem ∷ Name name.MORE_ITEMS ∷ []) one end back w.0 from_b) in
+        word_line name.DATA open_paren t (Name name.ITEMS ∷ []) st end ts refl woven.0
+        (does_other action_table name.ITEMS (Name name.ITEM ∷ Emit mark.FirstItem ∷ Read class.COMMA ∷ Name name.ITEM ∷ Emit mark.NextItem ∷ Name name.MORE_ITEMS ∷ []) st end ts refl
+        (on_tokens (Name name.ITEM ∷ Emit mark.FirstItem ∷ Read class.COMMA ∷ Name name.ITEM ∷ Emit mark.NextItem ∷ Name name.MORE_ITEMS ∷ []) st end (p ++ (u ∷ back)) ts (sym cut)
+        (name_then name.ITEM (Emit mark.FirstItem ∷ Read class.COMMA ∷ Name name.ITEM ∷ Emit mark.NextItem ∷ Name name.MORE_ITEMS ∷ []) st after_a end p (u ∷ back) first from_comma)))
+
+regroup_label : (a b c : List Label) (l : Label) → (a ++ b) ++ (c ++ l ∷ []) ≡ a ++ ((b ++ c) ++ l ∷ [])
+regroup_label a b c l = simp append_assoc
+
+-- the state in which a node with data is written
+data_written : (k : Kind) (n : ℕ) (kids : Trees) (st : Noting) → marked (mark.ActionWithItems k) (behind_items n kids st) ≡ wrote (postorders kids ++ ActionNode k n [] ∷ []) st
+data_written k n kids st = ap (λ ls. let r : Noting = record { notes = st.notes; labels = ls } in r) (append_assoc st.labels (postorders kids) (ActionNode k n [] ∷ []))
+
+data_goes : (k : Kind) (n : ℕ) (kids : Trees) (parts : List (List (List ℕ))) (ts : List (List ℕ)) (st : Noting) → AllGo kids → Are (copies n AnItem) kids → ArePartsOf kids (copies n AnItem) parts → Weaves (items n) parts ts
+    → Goes (Name name.DATA ∷ Emit (mark.ActionWithItems k) ∷ []) st ts (wrote (postorders kids ++ ActionNode k n [] ∷ []) st)
+data_goes k n kids parts ts st all are spelled woven =
+    on_tokens (Name name.DATA ∷ Emit (mark.ActionWithItems k) ∷ []) st (wrote (postorders kids ++ ActionNode k n [] ∷ []) st) (ts ++ []) ts (append-nil ts)
+    (name_then name.DATA (Emit (mark.ActionWithItems k) ∷ []) st (behind_items n kids st) (wrote (postorders kids ++ ActionNode k n [] ∷ []) st) ts [] (items_go n kids parts ts st all are spelled woven)
+    (emits (mark.ActionWithItems k) (behind_items n kids st) (wrote (postorders kids ++ ActionNode k n [] ∷ []) st) (data_written k n kids st)))
+
+give_goes : (n : ℕ) → NodeGoes name.OPERAND (ActionNode kind.Give n [])
+unfolding line_of action_lines other_of action_others
+give_goes n kids all are [] (parts, spelled, woven) st = absurd woven
+give_goes n kids all are (t ∷ ts) (parts, spelled, woven) st =
+    word_line name.OPERAND (codes "give") t (Name name.DATA ∷ Emit (mark.ActionWithItems kind.Give) ∷ []) st (wrote (postorder (tree (ActionNode kind.Give n []) kids)) st) ts refl woven.0
+    (data_goes kind.Give n kids parts ts st all are spelled woven.1)
+
+escape_with_goes : (n : ℕ) → NodeGoes name.OPERAND (ActionNode kind.EscapeWith n [])
+unfolding line_of action_lines other_of action_others
+escape_with_goes n kids all are [] (parts, spelled, woven) st = absurd woven
+escape_with_goes n kids all are (t ∷ []) (parts, spelled, woven) st = absurd woven.1
+escape_with_goes n kids all are (t ∷ u ∷ ts) (parts, spelled, woven) st =
+    word_line name.OPERAND (codes "escape") t (Name name.ESCAPED ∷ []) st (wrote (postorder (tree (ActionNode kind.EscapeWith n []) kids)) st) (u ∷ ts) refl woven.0
+    (word_line name.ESCAPED (codes "with") u (Name name.DATA ∷ Emit (mark.ActionWithItems kind.EscapeWith) ∷ []) st (wrote (postorder (tree (ActionNode kind.EscapeWith n []) kids)) st) ts refl woven.1.0
+    (data_goes kind.EscapeWith n kids parts ts st all are spelled woven.1.1))
+
+apply_goes : (n : ℕ) → NodeGoes name.OPERAND (ActionNode kind.Apply n [])
+unfolding line_of action_lines other_of action_others
+apply_goes n kids all are [] (parts, spelled, woven) st = absurd woven
+apply_goes n kids all are (t ∷ []) (parts, spelled, woven) st = absurd woven.1
+apply_goes n kids all are (t ∷ u ∷ []) (parts, spelled, woven) st = absurd woven.1.1
+apply_goes n none all are (t ∷ u ∷ v ∷ ts) (parts, spelled, woven) st = absurd are
+apply_goes n (more k kids) all are (t ∷ u ∷ v ∷ ts) ([], spelled, woven) st = absurd spelled
+apply_goes n (more k kids) all are (t ∷ u ∷ v ∷ ts) (part ∷ parts, spelled, woven) st = behind_part woven.1.1.1.0 woven.1.1.1.1 woven.1.1.1.2
+  where
+    behind_part : (back : List (List ℕ)) → ts ≡ part ++ back → Weaves (Fixed (codes "to") ∷ items n) parts back
+        → Goes (Name name.OPERAND ∷ []) st (t ∷ u ∷ v ∷ ts) (wrote (postorder (tree (ActionNode kind.Apply n []) (more k kids))) st)
+    behind_part [] cut w = absurd w
+    behind_part (x ∷ back) cut w =
+        let end : Noting = wrote (postorder (tree (ActionNode kind.Apply n []) (more k kids))) st in
+        let first = part_goes k all.0 all.1 AYielder are.0 part spelled.0 st in
+        let last = data_goes kind.Apply n kids parts back (wrote (postorder k) st) all.2 are.1 spelled.1 w.1 in
+        let end_is : wrote (postorders kids ++ ActionNode kind.Apply n [] ∷ []) (wrote (postorder k) st) ≡ end =
+        ap (λ y. let r : Noting = record { notes = st.notes; labels = y } in r) (regroup_label st.labels (postorder k) (postorders kids) (ActionNode kind.Apply n [])) in
+        word_line name.OPERAND (codes "enact") t (Name name.ENACTED ∷ []) st end (u ∷ v ∷ ts) refl woven.0
+        (word_line name.ENACTED (codes "application") u (Read class.OF ∷ Name name.YIELDER ∷ Read class.TO ∷ Name name.DATA ∷ Emit (mark.ActionWithItems kind.Apply) ∷ []) st end (v ∷ ts) refl woven.1.0
+        (word_read (codes "of") v (Name name.YIELDER ∷ Read class.TO ∷ Name name.DATA ∷ Emit (mark.ActionWithItems kind.Apply) ∷ []) st end ts woven.1.1.0
+        (on_tokens (Name name.YIELDER ∷ Read class.TO ∷ Name name.DATA ∷ Emit (mark.ActionWithItems kind.Apply) ∷ []) st end (part ++ (x ∷ back)) ts (sym cut)
+        (name_then name.YIELDER (Read class.TO ∷ Name name.DATA ∷ Emit (mark.ActionWithItems kind.Apply) ∷ []) st (wrote (postorder k) st) end part (x ∷ back) first
+        (word_read (codes "to") x (Name name.DATA ∷ Emit (mark.ActionWithItems kind.Apply) ∷ []) (wrote (postorder k) st) end back w.0
+        (end_at (Name name.DATA ∷ Emit (mark.ActionWithItems kind.Apply) ∷ []) (wrote (postorder k) st) (wrote (postorders kids ++ ActionNode kind.Apply n [] ∷ []) (wrote (postorder k) st)) end back end_is last))))))
+
+-- the mark of a node that takes the token that was kept last
+token_written : (k : Kind) (q t : List ℕ) (kids : Trees) (st : Noting) → t ≡ 34 ∷ (q ++ 34 ∷ [])
+    → marked (mark.ActionWithToken k) (wrote (postorders kids) (note (Token t) st)) ≡ wrote (postorders kids ++ ActionNode k 0 q ∷ []) st
+token_written k q t kids st e =
+    ap (λ r. let x : Noting = record { notes = st.notes; labels = (st.labels ++ postorders kids) ++ ActionNode k 0 r ∷ [] } in x) (unquoted_back q t e)
+    ∙ ap (λ y. let x : Noting = record { notes = st.notes; labels = y } in x) (append_assoc st.labels (postorders kids) (ActionNode k 0 q ∷ []))
+
+bind_goes : (q : List ℕ) → is_token q ≡ true → NodeGoes name.OPERAND (ActionNode kind.Bind 0 q)
+unfolding line_of action_lines other_of action_others
+bind_goes q token kids all are [] (parts, spelled, woven) st = absurd woven
+bind_goes q token kids all are (t ∷ []) (parts, spelled, woven) st = absurd woven.1
+bind_goes q token kids all are (t ∷ u ∷ []) (parts, spelled, woven) st = absurd woven.1.1
+bind_goes q token kids all are (t ∷ u ∷ v ∷ ts) (parts, spelled, woven) st =
+    let end : Noting = wrote (postorder (tree (ActionNode kind.Bind 0 q) kids)) st in
+    let kept : Noting = note (Token u) st in
+    let last : Goes (Emit (mark.ActionWithToken kind.Bind) ∷ []) (wrote (postorders kids) kept) [] end =
+    emits (mark.ActionWithToken kind.Bind) (wrote (postorders kids) kept) end (token_written kind.Bind q u kids st woven.1.0) in
+    word_line name.OPERAND (codes "bind") t (Keep class.QUOTED ∷ Read class.TO ∷ Name name.YIELDER ∷ Emit (mark.ActionWithToken kind.Bind) ∷ []) st end (u ∷ v ∷ ts) refl woven.0
+    (does_keep action_table class.QUOTED (Read class.TO ∷ Name name.YIELDER ∷ Emit (mark.ActionWithToken kind.Bind) ∷ []) st end u (v ∷ ts) (quoted_class q u token woven.1.0)
+    (word_read (codes "to") v (Name name.YIELDER ∷ Emit (mark.ActionWithToken kind.Bind) ∷ []) kept end ts woven.1.1.0
+    (on_tokens (Name name.YIELDER ∷ Emit (mark.ActionWithToken kind.Bind) ∷ []) kept end (ts ++ []) ts (append-nil ts)
+    (pieces_go (Part ∷ []) (AYielder ∷ []) (Emit (mark.ActionWithToken kind.Bind) ∷ []) kept end kids parts ts [] refl all are spelled woven.1.1.1 last))))
+
+bind_rec_goes : (q : List ℕ) → is_token q ≡ true → NodeGoes name.OPERAND (ActionNode kind.BindRec 0 q)
+unfolding line_of action_lines other_of action_others
+bind_rec_goes q token kids all are [] (parts, spelled, woven) st = absurd woven
+bind_rec_goes q token kids all are (t ∷ []) (parts, spelled, woven) st = absurd woven.1
+bind_rec_goes q token kids all are (t ∷ b ∷ []) (parts, spelled, woven) st = absurd woven.1.1
+bind_rec_goes q token kids all are (t ∷ b ∷ u ∷ []) (parts, spelled, woven) st = absurd woven.1.1.1
+bind_rec_goes q token kids all are (t ∷ b ∷ u ∷ v ∷ ts) (parts, spelled, woven) st =
+    let end : Noting = wrote (postorder (tree (ActionNode kind.BindRec 0 q) kids)) st in
+    let kept : Noting = note (Token u) st in
+    let last : Goes (Emit (mark.ActionWithToken kind.BindRec) ∷ []) (wrote (postorders kids) kept) [] end =
+    emits (mark.ActionWithToken kind.BindRec) (wrote (postorders kids) kept) end (token_written kind.BindRec q u kids st woven.1.1.0) in
+    word_line name.OPERAND (codes "recursively") t (Read class.BIND ∷ Keep class.QUOTED ∷ Read class.TO ∷ Name name.CLOSURE ∷ Emit (mark.ActionWithToken kind.BindRec) ∷ []) st end (b ∷ u ∷ v ∷ ts) refl woven.0
+    (word_read (codes "bind") b (Keep class.QUOTED ∷ Read class.TO ∷ Name name.CLOSURE ∷ Emit (mark.ActionWithToken kind.BindRec) ∷ []) st end (u ∷ v ∷ ts) woven.1.0
+    (does_keep action_table class.QUOTED (Read class.TO ∷ Name name.CLOSURE ∷ Emit (mark.ActionWithToken kind.BindRec) ∷ []) st end u (v ∷ ts) (quoted_class q u token woven.1.1.0)
+    (word_read (codes "to") v (Name name.CLOSURE ∷ Emit (mark.ActionWithToken kind.BindRec) ∷ []) kept end ts woven.1.1.1.0
+    (on_tokens (Name name.CLOSURE ∷ Emit (mark.ActionWithToken kind.BindRec) ∷ []) kept end (ts ++ []) ts (append-nil ts)
+    (pieces_go (Part ∷ []) (AClosure ∷ []) (Emit (mark.ActionWithToken kind.BindRec) ∷ []) kept end kids parts ts [] refl all are spelled woven.1.1.1.1 last)))))
+
+-- each action node with a spelling of its own is read as an operand
+pub action_goes : (k : Kind) (n : ℕ) (q : List ℕ) → serves AnAction (ActionNode k n q) ≡ true → NodeGoes name.OPERAND (ActionNode k n q)
+unfolding line_of action_lines other_of action_others
+action_goes kind.Complete n q s = bare name.OPERAND kind.Complete n q (and_left (nat_eq n 0) (has_no_token q) s) (and_right (nat_eq n 0) (has_no_token q) s) (node_goes name.OPERAND (ActionNode kind.Complete 0 []) (codes "complete") [] (mark.Action kind.Complete) refl refl (λ z. refl) refl)
+action_goes kind.Fail n q s = bare name.OPERAND kind.Fail n q (and_left (nat_eq n 0) (has_no_token q) s) (and_right (nat_eq n 0) (has_no_token q) s) (node_goes name.OPERAND (ActionNode kind.Fail 0 []) (codes "fail") [] (mark.Action kind.Fail) refl refl (λ z. refl) refl)
+action_goes kind.Commit n q s = bare name.OPERAND kind.Commit n q (and_left (nat_eq n 0) (has_no_token q) s) (and_right (nat_eq n 0) (has_no_token q) s) (node_goes name.OPERAND (ActionNode kind.Commit 0 []) (codes "commit") [] (mark.Action kind.Commit) refl refl (λ z. refl) refl)
+action_goes kind.Regive n q s = bare name.OPERAND kind.Regive n q (and_left (nat_eq n 0) (has_no_token q) s) (and_right (nat_eq n 0) (has_no_token q) s) (node_goes name.OPERAND (ActionNode kind.Regive 0 []) (codes "regive") [] (mark.Action kind.Regive) refl refl (λ z. refl) refl)
+action_goes kind.Rebind n q s = bare name.OPERAND kind.Rebind n q (and_left (nat_eq n 0) (has_no_token q) s) (and_right (nat_eq n 0) (has_no_token q) s) (node_goes name.OPERAND (ActionNode kind.Rebind 0 []) (codes "rebind") [] (mark.Action kind.Rebind) refl refl (λ z. refl) refl)
+action_goes kind.Unfold n q s = bare name.OPERAND kind.Unfold n q (and_left (nat_eq n 0) (has_no_token q) s) (and_right (nat_eq n 0) (has_no_token q) s) (node_goes name.OPERAND (ActionNode kind.Unfold 0 []) (codes "unfold") [] (mark.Action kind.Unfold) refl refl (λ z. refl) refl)
+action_goes kind.Check n q s = bare name.OPERAND kind.Check n q (and_left (nat_eq n 0) (has_no_token q) s) (and_right (nat_eq n 0) (has_no_token q) s) (node_goes name.OPERAND (ActionNode kind.Check 0 []) (codes "check") (Part ∷ []) (mark.Action kind.Check) refl refl (λ z. refl) refl)
+action_goes kind.Store n q s = bare name.OPERAND kind.Store n q (and_left (nat_eq n 0) (has_no_token q) s) (and_right (nat_eq n 0) (has_no_token q) s) (node_goes name.OPERAND (ActionNode kind.Store 0 []) (codes "store") (Part ∷ Fixed (codes "in") ∷ Part ∷ []) (mark.Action kind.Store) refl refl (λ z. refl) refl)
+action_goes kind.Allocate n q s = bare name.OPERAND kind.Allocate n q (and_left (nat_eq n 0) (has_no_token q) s) (and_right (nat_eq n 0) (has_no_token q) s) (node_goes name.OPERAND (ActionNode kind.Allocate 0 []) (codes "allocate") (Fixed (codes "a") ∷ Fixed (codes "cell") ∷ []) (mark.Action kind.Allocate) refl refl (λ z. refl) refl)
+action_goes kind.Send n q s = bare name.OPERAND kind.Send n q (and_left (nat_eq n 0) (has_no_token q) s) (and_right (nat_eq n 0) (has_no_token q) s) (node_goes name.OPERAND (ActionNode kind.Send 0 []) (codes "send") (Part ∷ []) (mark.Action kind.Send) refl refl (λ z. refl) refl)
+action_goes kind.Receive n q s = bare name.OPERAND kind.Receive n q (and_left (nat_eq n 0) (has_no_token q) s) (and_right (nat_eq n 0) (has_no_token q) s) (node_goes name.OPERAND (ActionNode kind.Receive 0 []) (codes "receive") (Fixed (codes "an") ∷ Fixed (codes "integer") ∷ []) (mark.Action kind.Receive) refl refl (λ z. refl) refl)
+action_goes kind.Unfolding n q s = bare name.OPERAND kind.Unfolding n q (and_left (nat_eq n 0) (has_no_token q) s) (and_right (nat_eq n 0) (has_no_token q) s) (node_goes name.OPERAND (ActionNode kind.Unfolding 0 []) (codes "unfolding") (Part ∷ []) (mark.Action kind.Unfolding) refl refl (λ z. refl) refl)
+action_goes kind.Furthermore n q s = bare name.OPERAND kind.Furthermore n q (and_left (nat_eq n 0) (has_no_token q) s) (and_right (nat_eq n 0) (has_no_token q) s) (node_goes name.OPERAND (ActionNode kind.Furthermore 0 []) (codes "furthermore") (Part ∷ []) (mark.Action kind.Furthermore) refl refl (λ z. refl) refl)
+action_goes kind.Escape n q s = bare name.OPERAND kind.Escape n q (and_left (nat_eq n 0) (has_no_token q) s) (and_right (nat_eq n 0) (has_no_token q) s) (begun_other_goes name.OPERAND name.ESCAPED (ActionNode kind.Escape 0 []) (codes "escape") [] (mark.Action kind.Escape) refl refl (λ z. refl) refl refl)
+action_goes kind.Enact n q s = bare name.OPERAND kind.Enact n q (and_left (nat_eq n 0) (has_no_token q) s) (and_right (nat_eq n 0) (has_no_token q) s) (begun_other_goes name.OPERAND name.ENACTED (ActionNode kind.Enact 0 []) (codes "enact") (Part ∷ []) (mark.Action kind.Enact) refl refl (λ z. refl) refl refl)
+action_goes kind.Give n q s = subst (λ r. NodeGoes name.OPERAND (ActionNode kind.Give n r)) (sym (no_token q s)) (give_goes n)
+action_goes kind.EscapeWith n q s = subst (λ r. NodeGoes name.OPERAND (ActionNode kind.EscapeWith n r)) (sym (no_token q s)) (escape_with_goes n)
+action_goes kind.Apply n q s = subst (λ r. NodeGoes name.OPERAND (ActionNode kind.Apply n r)) (sym (no_token q s)) (apply_goes n)
+action_goes kind.Bind n q s = subst (λ m. NodeGoes name.OPERAND (ActionNode kind.Bind m q)) (sym (eqb-true n 0 (and_left (nat_eq n 0) (is_token q) s))) (bind_goes q (and_right (nat_eq n 0) (is_token q) s))
+action_goes kind.BindRec n q s = subst (λ m. NodeGoes name.OPERAND (ActionNode kind.BindRec m q)) (sym (eqb-true n 0 (and_left (nat_eq n 0) (is_token q) s))) (bind_rec_goes q (and_right (nat_eq n 0) (is_token q) s))
+action_goes kind.Or n q s = shapeless name.OPERAND (ActionNode kind.Or n q) AnAction (AnAction ∷ []) refl refl
+action_goes kind.And n q s = shapeless name.OPERAND (ActionNode kind.And n q) AnAction (AnAction ∷ []) refl refl
+action_goes kind.AndThen n q s = shapeless name.OPERAND (ActionNode kind.AndThen n q) AnAction (AnAction ∷ []) refl refl
+action_goes kind.Then n q s = shapeless name.OPERAND (ActionNode kind.Then n q) AnAction (AnAction ∷ []) refl refl
+action_goes kind.Trap n q s = shapeless name.OPERAND (ActionNode kind.Trap n q) AnAction (AnAction ∷ []) refl refl
+action_goes kind.Hence n q s = shapeless name.OPERAND (ActionNode kind.Hence n q) AnAction (AnAction ∷ []) refl refl
+action_goes kind.Moreover n q s = shapeless name.OPERAND (ActionNode kind.Moreover n q) AnAction (AnAction ∷ []) refl refl
+action_goes kind.Before n q s = shapeless name.OPERAND (ActionNode kind.Before n q) AnAction (AnAction ∷ []) refl refl
+action_goes kind.Branch n q s = shapeless name.OPERAND (ActionNode kind.Branch n q) AYielder (AnAction ∷ AnAction ∷ []) refl refl

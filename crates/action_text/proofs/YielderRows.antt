@@ -1,0 +1,112 @@
+-- The rows of yielders do what their names mean.
+use Rattle.std.proofs.Common.{◌≡◌, ℕ, zero, suc, Bool, true, false, ◌&&◌, List, [], ◌∷◌, ◌++◌, Some, refl, sym, ap, subst, ◌∙◌, codes, nat_lt, if◌then◌else◌}
+use Rattle.std.specs.Prelude.{ℤ, pos, negsuc, nat_le, unwrap_or}
+use Rattle.acg_base.specs.Decimals.{spelled_i64}
+use Rattle.action_terms.specs.Labels.{Label, YielderNode, AYielder}
+use Rattle.action_terms.specs.Trees.{Tree, tree, none, Is}
+use Rattle.action_terms.specs.declared.kinds.YKind.TheVariants as ykind
+use Rattle.action_terms.specs.declared.kinds.Sort.{Sort}
+use Rattle.action_text.specs.declared.table.Symbol.TheVariants.{Read, Keep, Emit, Name}
+use Rattle.action_text.specs.declared.table.Mark.TheVariants as mark
+use Rattle.action_text.specs.declared.classes.TheConstants as class
+use Rattle.action_text.specs.declared.names.TheConstants as name
+use Rattle.action_text.specs.Shapes.{Part, sort_word}
+use Rattle.action_text.specs.ActionText.{IsPlain}
+use Rattle.action_text.specs.Posts.{postorder}
+use Rattle.action_text.specs.Notes.{Noting, KeptToken, marked, note, unquoted, value_of, place_of}
+use Rattle.action_text.specs.Classes.{class_of, is_place}
+use Rattle.action_text.specs.ActionTable.{action_table, line, other}
+use Rattle.action_text.proofs.Meanings.{Meaning, LineMeans, OtherMeans}
+use Rattle.action_text.proofs.Means.{means, wrote, MeansPart, MeansSorted, MeansSort}
+use Rattle.action_text.proofs.Words.{word_count, is_word_of, quoted_of_class, number_of_class}
+use Rattle.action_text.proofs.QuotedTokens.{quoted_is}
+use Rattle.action_text.proofs.Nodes.{node_row, rest_row, rest_other, under_means, noted_node, plain_part}
+use Rattle.action_text.proofs.Chains.{last_name}
+
+pub yielder_number : (place : Bool) (t : List ℕ) (st end : Noting) (ts : List (List ℕ)) → class_of t ≡ (if place then class.PLACE else class.NUMBER)
+    → Meaning action_table means (Emit mark.Number ∷ []) (note (Rattle.action_text.specs.Tables.Token t) st) ts end → MeansPart AYielder st (t ∷ ts) end
+yielder_number place t st end ts e h =
+    let n = number_of_class t place e in
+    let value : value_of t ≡ n.0 = ap (λ o. unwrap_or o (pos 0)) n.1 in
+    let same : spelled_i64 t ≡ Some (value_of t) = n.1 ∙ ap (λ z. Some z) (sym value) in
+    (tree (YielderNode (ykind.Number (value_of t)) []) none, (refl, tt), ([], refl, (same, h.0)), h.1)
+
+pub yielder_the : LineMeans action_table means (line name.YIELDER class.THE false (Name name.THE ∷ []))
+yielder_the t st end ts e h =
+    let m = last_name means name.THE st end ts h in
+    (m.0, m.1, subst (λ v. IsPlain m.0 (v ∷ ts)) (sym (is_word_of t (codes "the") e refl)) m.2, m.3)
+
+pub yielder_is : LineMeans action_table means (line name.YIELDER class.IS false (Name name.IS_REST ∷ []))
+yielder_is t st end ts e h =
+    let m = last_name means name.IS_REST st end ts h in
+    (m.0, m.1, subst (λ v. IsPlain m.0 (v ∷ ts)) (sym (is_word_of t (codes "is") e refl)) m.2, m.3)
+
+-- a sort, and what stands behind it
+pub sorted : (before : List (List ℕ)) (st mid end : Noting) (ts front back : List (List ℕ)) → ts ≡ front ++ back → MeansSort st front mid → MeansSorted before mid back end
+    → (t : Tree) × Is AYielder t × IsPlain t (before ++ ts) × (end ≡ wrote (postorder t) st)
+sorted before st mid end ts front back cut s rest =
+    let r = rest s.0 st.notes (ap (λ (z : Noting). z.notes) s.2) in
+    let tokens : sort_word s.0 ∷ back ≡ ts = ap (λ y. y ++ back) (sym s.1) ∙ sym cut in
+    (r.0, r.1, subst (λ y. IsPlain r.0 (before ++ y)) tokens r.2, r.3 ∙ ap (λ (z : Noting). let q : Noting = record { notes = st.notes; labels = z.labels ++ postorder r.0 } in q) s.2)
+
+pub the_given : LineMeans action_table means (line name.THE class.GIVEN false (Name name.SORT ∷ Name name.AT_PLACE ∷ []))
+the_given t st end ts e h =
+    let r = sorted (codes "the" ∷ codes "given" ∷ []) st h.2 end ts h.0 h.1 h.3 h.4 (last_name means name.AT_PLACE h.2 end h.1 h.5) in
+    (r.0, r.1, subst (λ v. IsPlain r.0 (codes "the" ∷ v ∷ ts)) (sym (is_word_of t (codes "given") e refl)) r.2, r.3)
+
+pub the_other : OtherMeans action_table means (other name.THE (Name name.SORT ∷ Name name.THE_REST ∷ []))
+the_other st end ts h = sorted (codes "the" ∷ []) st h.2 end ts h.0 h.1 h.3 h.4 (last_name means name.THE_REST h.2 end h.1 h.5)
+
+pub the_bound : LineMeans action_table means (line name.THE_REST class.BOUND false (Read class.TO ∷ Keep class.QUOTED ∷ Emit mark.Bound ∷ []))
+the_bound t st end [] e h s ns notes = absurd h
+the_bound t st end (u ∷ []) e h s ns notes = absurd h.1
+the_bound t st end (u ∷ v ∷ ts) e h s ns notes =
+    let q = quoted_is v (quoted_of_class v h.1.0) in (
+      tree (YielderNode (ykind.Bound s) (unquoted v)) none,
+      (q.1, tt),
+      ([], refl, (refl, (refl, (is_word_of t (codes "bound") e refl, (is_word_of u (codes "to") h.0 refl, (q.0, h.1.1.0)))))),
+      h.1.1.1 ∙ ap (λ x. marked mark.Bound (let r : Noting = record { notes = KeptToken v ∷ x; labels = st.labels } in r)) notes,
+    )
+
+pub the_stored : LineMeans action_table means (line name.THE_REST class.STORED false (Read class.IN ∷ Name name.YIELDER ∷ Emit mark.Stored ∷ []))
+the_stored t st end [] e h s ns notes = absurd h
+the_stored t st end (u ∷ ts) e h s ns notes =
+    let l : Label = YielderNode (ykind.Stored s) [] in
+    let n = noted_node l (Part ∷ []) mark.Stored st end ns ts refl (λ ls. ap (λ x. marked mark.Stored (let r : Noting = record { notes = x; labels = ls } in r)) notes) h.1 in
+    (tree l n.kids, (refl, n.sorts), (n.parts, n.spelled, (refl, (refl, (is_word_of t (codes "stored") e refl, (is_word_of u (codes "in") h.0 refl, n.woven))))), n.written)
+
+-- a number from 1 to 64
+pub place_is : (z : ℤ) → is_place z ≡ true → (n : ℕ) × (z ≡ pos (suc n)) × (nat_le (suc n) 64 ≡ true)
+place_is (pos zero) h = absurd (cc)
+place_is (pos (suc n)) h = (n, refl, Rattle.action_text.proofs.Nodes.and_right (nat_le 1 (suc n)) (nat_le (suc n) 64) h)
+place_is (negsuc n) h = absurd (cc)
+
+pub at_place : LineMeans action_table means (line name.AT_PLACE class.HASH false (Keep class.PLACE ∷ Emit mark.GivenAt ∷ []))
+at_place t st end [] e h s ns notes = absurd h
+at_place t st end (u ∷ ts) e h s ns notes =
+    let n = number_of_class u true h.0 in
+    let p = place_is n.0 n.2 in
+    let spelled : spelled_i64 u ≡ Some (pos (suc p.0)) = n.1 ∙ ap (λ z. Some z) p.1 in
+    let place : place_of (value_of u) ≡ suc p.0 = ap (λ o. place_of (unwrap_or o (pos 0))) spelled ∙ ap (λ b. if b then suc p.0 else 0) p.2 in (
+      tree (YielderNode (ykind.Given s (suc p.0)) []) none,
+      (both (nat_le (suc p.0) 64) p.2, tt),
+      ([], refl, (refl, (refl, (refl, (is_word_of t (35 ∷ []) e refl, (spelled, h.1.0)))))),
+      h.1.1 ∙ ap (λ x. marked mark.GivenAt (let r : Noting = record { notes = KeptToken u ∷ x; labels = st.labels } in r)) notes
+          ∙ ap (λ k. let r : Noting = record { notes = ns; labels = st.labels ++ YielderNode (ykind.Given s k) [] ∷ [] } in r) place,
+    )
+  where
+    both : (a : Bool) → a ≡ true → (true && (a && true)) ≡ true
+    both true h = refl
+    both false h = absurd (cc)
+
+pub at_no_place : OtherMeans action_table means (other name.AT_PLACE (Emit mark.Given ∷ []))
+at_no_place st end ts h s ns notes = (
+  tree (YielderNode (ykind.Given s 0) []) none,
+  (refl, tt),
+  ([], refl, (refl, (refl, (refl, h.0)))),
+  h.1 ∙ ap (λ x. marked mark.Given (let r : Noting = record { notes = x; labels = st.labels } in r)) notes,
+)
+
+pub sort_row : (s : Sort) → nat_lt (class_of (sort_word s)) word_count ≡ true → (t : List ℕ) (st end : Noting) (ts : List (List ℕ)) → class_of t ≡ class_of (sort_word s)
+    → Meaning action_table means (Emit (mark.Sort s) ∷ []) st ts end → MeansSort st (t ∷ ts) end
+sort_row s word t st end ts e h = (s, ap (λ y. t ∷ y) h.0 ∙ ap (λ v. v ∷ []) (is_word_of t (sort_word s) e word), h.1)

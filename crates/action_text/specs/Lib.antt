@@ -1,0 +1,13 @@
+pub mod Shapes
+pub mod ActionText
+pub mod Tables
+pub mod Classes
+pub mod ActionTable
+pub mod Notes
+pub mod Posts
+pub mod Rows
+pub mod Texts
+pub mod Views
+pub mod Reading
+pub mod Sizes
+pub mod Answers

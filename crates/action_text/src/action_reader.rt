@@ -1,0 +1,104 @@
+//! Reading a text as the graph of an action.
+ghost use Rattle.std.specs.Prelude.{◌≡◌, ℕ, ◌<◌, ◌≤◌, ◌∷◌, [], ◌++◌, length, map, IfOk, IfErr, OnOk, IsErrOf, Some, slice_get};
+ghost use Rattle.meta_lex.specs.Tokens.{AreTokens, plain_token};
+ghost use Rattle.action_terms.specs.Pushed.{label_of};
+ghost use Rattle.action_terms.specs.Trees.{Tree, IsAction, IsWhole, preorder};
+ghost use Rattle.action_terms.specs.Numbering.{IsGraphOf, strays, node_limit};
+ghost use Rattle.action_text.specs.Answers.{IsTextOf, IsReadAs, IsTextError, offset_of};
+
+use crate::errors::TextError;
+use crate::preorder::preorder_of;
+use crate::reading::{PlaceError, read_labels};
+use action_terms::pushed::Pushed;
+use action_terms::{Graph, GraphBuilder, GraphError};
+use bumpalo::Bump;
+use meta_lex::lex::{LexError, tokens};
+use meta_lex::token::Token;
+use std::alloc::Global;
+
+// Where the token at the place begins, or the size of the text where there is none.
+fn offset_at(list: &[Token<'_>], place: usize, size: u32) -> u32
+    ensures { result ≡ offset_of (map plain_token list.now) place size }
+{
+    if place < list.len() {
+        list[place].offset
+    } else {
+        size
+    }
+}
+
+// The labels, in preorder, of the action of a text.
+fn read_preorder<'s>(
+    alloc: Global,
+    scratch: &'s Bump,
+    bytes: &[u8],
+) -> Result<Vec<Pushed<'s>>, TextError>
+    requires { length bytes.now < 4294967295 }
+    ensures labels { IfOk result (λ v. (t : Tree) × IsTextOf bytes.now t × (map label_of v.items ≡ preorder t)) }
+    ensures error { IfErr result (λ e. IsTextError bytes.now e) }
+{
+    let read = match tokens(alloc, scratch, bytes) {
+        Ok(read) => read,
+        Err(LexError::Memory) => return Err(TextError::Memory),
+        Err(LexError::BadByte { offset }) => return Err(TextError::BadByte { offset }),
+    };
+    let labels = match read_labels(alloc, read.list) {
+        Ok(labels) => labels,
+        Err(PlaceError::Memory) => return Err(TextError::Memory),
+        Err(PlaceError::At(place)) => {
+            let offset = offset_at(read.list, place, bytes.len() as u32);
+            return Err(TextError::NotAction { offset });
+        }
+    };
+    Ok(preorder_of(alloc, labels.as_slice())?)
+}
+
+// Pushes one node.
+fn push(builder: &mut GraphBuilder<'_>, label: Pushed<'_>) -> Result<(), GraphError>
+    ensures pushed { OnOk result (builder.new ≡ builder.old ++ label_of label.entry ∷ []) }
+    ensures room { OnOk result (length builder.old < node_limit) }
+    ensures nodes { IsErrOf result GraphError.Nodes → node_limit ≤ length builder.old }
+    ensures never_stray { (node : ℕ) → IsErrOf result (GraphError.StrayUnfold node) → ⊥ }
+{
+    match label {
+        Pushed::Action(new) => builder.push_action(new)?,
+        Pushed::Yielder(new) => builder.push_yielder(new)?,
+    };
+    Ok(())
+}
+
+// The graph of an action, of its labels in preorder.
+fn build<'a>(alloc: Global, arena: &'a Bump, labels: &[Pushed<'_>]) -> Result<Graph<'a>, GraphError>
+    requires { IsWhole (map label_of labels.now) }
+    ensures graph { IfOk result (λ g. (t : Tree) → IsAction t → preorder t ≡ map label_of labels.now → IsGraphOf g t) }
+    ensures nodes { IsErrOf result GraphError.Nodes → node_limit < length labels.now }
+    ensures stray { (node : ℕ) → IsErrOf result (GraphError.StrayUnfold node) → (length labels.now ≤ node_limit) × ((t : Tree) → IsAction t → preorder t ≡ map label_of labels.now → slice_get (strays t) 0 ≡ Some node) }
+{
+    let mut builder = match GraphBuilder::new(alloc, arena) {
+        Ok(builder) => builder,
+        Err(_) => return Err(GraphError::Memory),
+    };
+    for label in labels {
+        push(&mut builder, *label)?;
+    }
+    builder.seal()
+}
+
+/// Reads a text as an action, and answers its graph, which lies in the arena.
+///
+/// The errors come in the order of `TextError`: a bad byte before a text that is no action text,
+/// that before too many nodes, and those before a stray `unfold`. Want of memory may come at any time.
+pub fn read_action<'a>(alloc: Global, arena: &'a Bump, bytes: &[u8]) -> Result<Graph<'a>, TextError>
+    requires { length bytes.now < 4294967295 }
+    ensures graph { IfOk result (λ g. IsReadAs bytes.now g) }
+    ensures error { IfErr result (λ e. IsTextError bytes.now e) }
+{
+    let scratch = Bump::new(alloc);
+    let labels = read_preorder(alloc, &scratch, bytes)?;
+    match build(alloc, arena, labels.as_slice()) {
+        Ok(graph) => Ok(graph),
+        Err(GraphError::Memory) => Err(TextError::Memory),
+        Err(GraphError::Nodes) => Err(TextError::Nodes),
+        Err(GraphError::StrayUnfold { node }) => Err(TextError::StrayUnfold { node }),
+    }
+}

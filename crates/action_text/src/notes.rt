@@ -1,0 +1,192 @@
+//! What is noted and written while a text is read.
+ghost use Rattle.std.specs.Prelude.{◌≡◌, ◌+◌, [], ◌∷◌, ◌++◌, OnOk, drop, map, reverse, if◌then◌else◌};
+ghost use Rattle.action_terms.specs.Labels.{ActionNode, YielderNode};
+ghost use Rattle.action_terms.specs.Pushed.{label_of};
+ghost use Rattle.action_text.specs.Notes.{KeptToken, Count, kept, counted, noted_sort, unquoted, value_of, place_of, marked};
+ghost use Rattle.action_text.specs.Views.{plain_note, noting_of};
+
+use crate::table::Mark;
+use acg_base::read_decimal;
+use action_terms::kinds::{Kind, Sort, YKind};
+use action_terms::pushed::{NewAction, NewYielder, Pushed};
+use std::alloc::AllocError;
+
+/// What is remembered until its node is written.
+#[derive(Clone, Copy)]
+pub enum Note<'t> {
+    /// A token.
+    Kept(&'t [u8]),
+    /// How many items data has so far.
+    Items(u32),
+    /// A sort.
+    Noted(Sort),
+}
+
+// Takes the last note, and answers the token that it is.
+fn take_token<'t>(notes: &mut Vec<Note<'t>>) -> &'t [u8]
+    ensures token { result.now ≡ kept (reverse (map plain_note notes.old.items)) }
+    ensures rest { reverse (map plain_note notes.new.items) ≡ drop 1 (reverse (map plain_note notes.old.items)) }
+{
+    match notes.pop() {
+        Some(Note::Kept(token)) => token,
+        _ => &[],
+    }
+}
+
+// Takes the last note, and answers the number of items that it is.
+fn take_items(notes: &mut Vec<Note<'_>>) -> u32
+    ensures items { result ≡ counted (reverse (map plain_note notes.old.items)) }
+    ensures rest { reverse (map plain_note notes.new.items) ≡ drop 1 (reverse (map plain_note notes.old.items)) }
+{
+    match notes.pop() {
+        Some(Note::Items(items)) => items,
+        _ => 0,
+    }
+}
+
+// Takes the last note, and answers the sort that it is.
+fn take_sort(notes: &mut Vec<Note<'_>>) -> Sort
+    ensures sort { result ≡ noted_sort (reverse (map plain_note notes.old.items)) }
+    ensures rest { reverse (map plain_note notes.new.items) ≡ drop 1 (reverse (map plain_note notes.old.items)) }
+{
+    match notes.pop() {
+        Some(Note::Noted(sort)) => sort,
+        _ => Sort::Integer,
+    }
+}
+
+// The bytes between the quotes.
+fn unquoted(token: &[u8]) -> &[u8]
+    ensures { result.now ≡ unquoted token.now }
+{
+    if token.len() < 2 {
+        &[]
+    } else {
+        &token[1..token.len() - 1]
+    }
+}
+
+// The value of a number of 64 signed bits.
+fn value_of(token: &[u8]) -> i64
+    ensures { result ≡ value_of token.now }
+{
+    read_decimal(token).unwrap_or(0)
+}
+
+// The place among the transients that a number names, or 0.
+fn place_of(value: i64) -> u32
+    ensures { result ≡ place_of value }
+{
+    if 0 <= value && value <= 64 {
+        value as u32
+    } else {
+        0
+    }
+}
+
+// Writes the label of an action node.
+fn write_action<'t>(
+    labels: &mut Vec<Pushed<'t>>,
+    kind: Kind,
+    items: u32,
+    token: &'t [u8],
+) -> Result<(), AllocError>
+    ensures { OnOk result (map label_of labels.new.items ≡ map label_of labels.old.items ++ ActionNode kind items token.now ∷ []) }
+{
+    labels.push(Pushed::Action(NewAction { kind, items, token }))?;
+    Ok(())
+}
+
+// Writes the label of a yielder.
+fn write_yielder<'t>(
+    labels: &mut Vec<Pushed<'t>>,
+    kind: YKind,
+    token: &'t [u8],
+) -> Result<(), AllocError>
+    ensures { OnOk result (map label_of labels.new.items ≡ map label_of labels.old.items ++ YielderNode kind token.now ∷ []) }
+{
+    labels.push(Pushed::Yielder(NewYielder { kind, token }))?;
+    Ok(())
+}
+
+// Notes one thing more.
+fn remember<'t>(notes: &mut Vec<Note<'t>>, note: Note<'t>) -> Result<(), AllocError>
+    ensures { OnOk result (reverse (map plain_note notes.new.items) ≡ plain_note note.entry ∷ reverse (map plain_note notes.old.items)) }
+{
+    notes.push(note)?;
+    Ok(())
+}
+
+// Counts one item more. There is no memory for more than 4294967295 items.
+fn count_item(notes: &mut Vec<Note<'_>>) -> Result<(), AllocError>
+    ensures { OnOk result (reverse (map plain_note notes.new.items) ≡ Count (counted (reverse (map plain_note notes.old.items)) + 1) ∷ drop 1 (reverse (map plain_note notes.old.items))) }
+{
+    let items = take_items(notes);
+    match items.checked_add(1) {
+        Some(more) => remember(notes, Note::Items(more)),
+        None => Err(AllocError),
+    }
+}
+
+/// Notes the token, where it is kept.
+pub fn keep_if<'t>(
+    notes: &mut Vec<Note<'t>>,
+    keeps: bool,
+    token: &'t [u8],
+) -> Result<(), AllocError>
+    ensures { OnOk result (reverse (map plain_note notes.new.items) ≡ (if keeps then KeptToken token.now ∷ reverse (map plain_note notes.old.items) else reverse (map plain_note notes.old.items))) }
+{
+    if keeps {
+        remember(notes, Note::Kept(token))
+    } else {
+        Ok(())
+    }
+}
+
+/// Does what the mark says: notes something, or takes notes and writes the label of a node.
+pub fn follow<'t>(
+    mark: Mark,
+    notes: &mut Vec<Note<'t>>,
+    labels: &mut Vec<Pushed<'t>>,
+) -> Result<(), AllocError>
+    ensures { OnOk result (noting_of notes.new.items labels.new.items ≡ marked mark (noting_of notes.old.items labels.old.items)) }
+{
+    match mark {
+        Mark::Action(kind) => write_action(labels, kind, 0, &[]),
+        Mark::ActionWithItems(kind) => {
+            let items = take_items(notes);
+            write_action(labels, kind, items, &[])
+        }
+        Mark::ActionWithToken(kind) => {
+            let token = unquoted(take_token(notes));
+            write_action(labels, kind, 0, token)
+        }
+        Mark::Yielder(kind) => write_yielder(labels, kind, &[]),
+        Mark::Number => {
+            let value = value_of(take_token(notes));
+            write_yielder(labels, YKind::Number(value), &[])
+        }
+        Mark::Given => {
+            let sort = take_sort(notes);
+            write_yielder(labels, YKind::Given { sort, place: 0 }, &[])
+        }
+        Mark::GivenAt => {
+            let place = place_of(value_of(take_token(notes)));
+            let sort = take_sort(notes);
+            write_yielder(labels, YKind::Given { sort, place }, &[])
+        }
+        Mark::Bound => {
+            let token = unquoted(take_token(notes));
+            let sort = take_sort(notes);
+            write_yielder(labels, YKind::Bound { sort }, token)
+        }
+        Mark::Stored => {
+            let sort = take_sort(notes);
+            write_yielder(labels, YKind::Stored { sort }, &[])
+        }
+        Mark::NoItems => remember(notes, Note::Items(0)),
+        Mark::FirstItem => remember(notes, Note::Items(1)),
+        Mark::NextItem => count_item(notes),
+        Mark::Sort(sort) => remember(notes, Note::Noted(sort)),
+    }
+}

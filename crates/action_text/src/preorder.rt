@@ -1,0 +1,140 @@
+//! From labels in postorder to labels in preorder, in linear time and without recursion.
+ghost use Rattle.std.specs.Prelude.{◌≡◌, ◌≤◌, ◌++◌, length, map, IfOk, OnOk};
+ghost use Rattle.action_terms.specs.Labels.{under, under_action, under_yielder};
+ghost use Rattle.action_terms.specs.Pushed.{label_of};
+ghost use Rattle.action_text.specs.Sizes.{step_back, start_back, tree_ends, AreSizes, IsPostorder, IsReordered};
+
+use action_terms::kinds::{Kind, YKind};
+use action_terms::pushed::Pushed;
+use std::alloc::{AllocError, Global};
+
+// How many trees stand under an action node.
+fn action_parts(kind: Kind, items: u32) -> usize
+    ensures { result ≡ length (under_action kind items) }
+{
+    match kind {
+        Kind::Give | Kind::EscapeWith => items as usize,
+        Kind::Apply => items as usize + 1,
+        Kind::Check
+        | Kind::Bind
+        | Kind::BindRec
+        | Kind::Send
+        | Kind::Enact
+        | Kind::Unfolding
+        | Kind::Furthermore => 1,
+        Kind::Store
+        | Kind::Or
+        | Kind::And
+        | Kind::AndThen
+        | Kind::Then
+        | Kind::Trap
+        | Kind::Hence
+        | Kind::Moreover
+        | Kind::Before => 2,
+        Kind::Branch => 3,
+        _ => 0,
+    }
+}
+
+// How many trees stand under a yielder.
+fn yielder_parts(kind: YKind) -> usize
+    ensures { result ≡ length (under_yielder kind) }
+{
+    match kind {
+        YKind::Stored { .. } | YKind::Negation | YKind::Not | YKind::Closure => 1,
+        YKind::Sum
+        | YKind::Difference
+        | YKind::Product
+        | YKind::Quotient
+        | YKind::Remainder
+        | YKind::Is
+        | YKind::Less
+        | YKind::Both
+        | YKind::Either => 2,
+        _ => 0,
+    }
+}
+
+// How many trees stand under a node.
+fn part_count(label: Pushed<'_>) -> usize
+    ensures { result ≡ length (under (label_of label.entry)) }
+{
+    match label {
+        Pushed::Action(node) => action_parts(node.kind, node.items),
+        Pushed::Yielder(node) => yielder_parts(node.kind),
+    }
+}
+
+// Where the tree begins that ends before the place.
+fn step_back(sizes: &[usize], end: usize) -> usize
+    requires { end ≤ length sizes.now }
+    ensures value { result ≡ step_back sizes.now end }
+    ensures before { result ≤ end }
+{
+    if end == 0 {
+        0
+    } else {
+        end.saturating_sub(sizes[end - 1])
+    }
+}
+
+// Where the first of so many trees begins, of which the last ends before the place.
+fn start_back(sizes: &[usize], count: usize, end: usize) -> usize
+    requires { end ≤ length sizes.now }
+    ensures value { result ≡ start_back sizes.now count end }
+    ensures before { result ≤ end }
+{
+    let mut start = end;
+    for _ in 0..count {
+        start = step_back(sizes, start);
+    }
+    start
+}
+
+// The size of the tree that ends with each label.
+fn sizes_of(alloc: Global, labels: &[Pushed<'_>]) -> Result<Vec<usize>, AllocError>
+    ensures { IfOk result (λ v. AreSizes (map label_of labels.now) v.items) }
+{
+    let mut sizes = Vec::new(alloc);
+    for (place, label) in labels.iter().enumerate() {
+        let start = start_back(sizes.as_slice(), part_count(*label), place);
+        sizes.push(place + 1 - start)?;
+    }
+    Ok(sizes)
+}
+
+// Puts the ends of so many trees on the stack, that of the first one on top.
+fn push_ends(
+    stack: &mut Vec<usize>,
+    sizes: &[usize],
+    count: usize,
+    end: usize,
+) -> Result<(), AllocError>
+    requires { end ≤ length sizes.now }
+    ensures { OnOk result (stack.new.items ≡ stack.old.items ++ tree_ends sizes.now count end) }
+{
+    let mut last = end;
+    for _ in 0..count {
+        stack.push(last)?;
+        last = step_back(sizes, last);
+    }
+    Ok(())
+}
+
+/// The labels of an action in preorder, of the same action's labels in postorder.
+pub fn preorder_of<'t>(alloc: Global, labels: &[Pushed<'t>]) -> Result<Vec<Pushed<'t>>, AllocError>
+    requires { IsPostorder (map label_of labels.now) }
+    ensures { IfOk result (λ v. IsReordered (map label_of labels.now) (map label_of v.items)) }
+{
+    let list = sizes_of(alloc, labels)?;
+    let sizes = list.as_slice();
+    let mut stack = Vec::new(alloc);
+    stack.push(labels.len())?;
+    let mut ordered = Vec::new(alloc);
+    while let Some(end) = stack.pop() {
+        let label = labels[end - 1];
+        ordered.push(label)?;
+        push_ends(&mut stack, sizes, part_count(label), end - 1)?;
+    }
+    Ok(ordered)
+}

@@ -1,0 +1,95 @@
+//! Reading tokens as an action text: one loop over a stack of what is still expected.
+ghost use Rattle.std.specs.Prelude.{◌≡◌, ◌<◌, ◌↔◌, length, slice_index, map, IsTrue, MatchResult};
+ghost use Rattle.action_terms.specs.Pushed.{label_of};
+ghost use Rattle.action_text.specs.Reading.{AreLabelsOf, FailsAt};
+ghost use Rattle.action_text.specs.Texts.{texts};
+ghost use Rattle.action_text.specs.declared.reading.PlaceError.TheVariants.{Memory};
+
+use crate::lookup::{find_other, push_reversed, row_at};
+use crate::names;
+use crate::notes::{Note, follow, keep_if};
+use crate::table::{SYMBOLS, Symbol};
+use crate::token_class::classes_of;
+use action_terms::pushed::Pushed;
+use meta_lex::token::Token;
+use std::alloc::{AllocError, AllocFailed, Global};
+
+/// Why tokens are no action text.
+#[derive(Clone, Copy, Debug, PartialEq, Eq, Drop)]
+pub enum PlaceError {
+    /// No memory was left.
+    Memory,
+    /// The place of the first token with which the tokens so far begin no action text, or the
+    /// number of tokens where they end too early.
+    At(usize),
+}
+
+impl From<AllocError> for PlaceError {
+    ghost from_gives = { λ _ e. e ≡ Memory };
+
+    fn from(_error: AllocError) -> PlaceError {
+        PlaceError::Memory
+    }
+}
+
+impl<T: Drop> From<AllocFailed<T>> for PlaceError {
+    ghost from_gives = { λ _ e. e ≡ Memory };
+
+    fn from(_error: AllocFailed<T>) -> PlaceError {
+        PlaceError::Memory
+    }
+}
+
+// Tells whether a token of the class stands at the place.
+fn is_at(classes: &[u32], at: usize, class: u32) -> bool
+    ensures { IsTrue result ↔ ((at < length classes.now) × (slice_index classes.now at ≡ class)) }
+{
+    at < classes.len() && classes[at] == class
+}
+
+/// The labels, in postorder, of the action that the tokens spell.
+pub fn read_labels<'t>(alloc: Global, tokens: &[Token<'t>]) -> Result<Vec<Pushed<'t>>, PlaceError>
+    ensures { MatchResult result (λ labels. AreLabelsOf (texts tokens.now) (map label_of labels.items)) (λ e. FailsAt (texts tokens.now) e) }
+{
+    let list = classes_of(alloc, tokens)?;
+    let classes = list.as_slice();
+    let mut stack = Vec::new(alloc);
+    stack.push(Symbol::Name(names::ACTION))?;
+    let mut notes: Vec<Note<'t>> = Vec::new(alloc);
+    let mut labels: Vec<Pushed<'t>> = Vec::new(alloc);
+    let mut at = 0;
+    while let Some(top) = stack.pop() {
+        match top {
+            Symbol::Emit(mark) => follow(mark, &mut notes, &mut labels)?,
+            Symbol::Read(class) => {
+                if !is_at(classes, at, class) {
+                    return Err(PlaceError::At(at));
+                }
+                at += 1;
+            }
+            Symbol::Keep(class) => {
+                if !is_at(classes, at, class) {
+                    return Err(PlaceError::At(at));
+                }
+                keep_if(&mut notes, true, tokens[at].bytes)?;
+                at += 1;
+            }
+            Symbol::Name(name) => {
+                if let Some(row) = row_at(classes, at, name) {
+                    keep_if(&mut notes, row.keeps, tokens[at].bytes)?;
+                    at += 1;
+                    push_reversed(&mut stack, &SYMBOLS[row.from..row.to])?;
+                } else if let Some(other) = find_other(name) {
+                    push_reversed(&mut stack, &SYMBOLS[other.from..other.to])?;
+                } else {
+                    return Err(PlaceError::At(at));
+                }
+            }
+        }
+    }
+    if at == tokens.len() {
+        Ok(labels)
+    } else {
+        Err(PlaceError::At(at))
+    }
+}

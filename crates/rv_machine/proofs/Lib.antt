@@ -1,0 +1,6 @@
+pub mod GrowsLemmas
+pub mod IntegersLemmas
+pub mod MemoryLemmas
+pub mod NumbersLemmas
+pub mod RunsLemmas
+pub mod StepsLemmas

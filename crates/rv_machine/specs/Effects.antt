@@ -1,0 +1,35 @@
+-- What the parts of a step say of one another.
+use Rattle.std.specs.Prelude.{◌≡◌, ℕ, ◌<◌, List, Result, Ok, Err, ⊤}
+use Rattle.rv_code.specs.Machine.{State, Outcome, Ran, Trapped, receive_call, send_call, execute, step}
+use Rattle.rv_code.specs.declared.cause.Cause.{Cause}
+use Rattle.rv_code.specs.declared.instruction.Inst.{Inst}
+use Rattle.rv_code.specs.declared.instruction.Inst.TheVariants.{Shift, Ecall}
+use Rattle.rv_machine.specs.Machines.{MachineValue, state_of}
+
+-- an effect on states that only the machine takes part in: it runs and leaves the new machine, or traps and leaves the old one
+abbrev pub Does : Result (Unit {0}) Cause → (old new : MachineValue) → (effect : State → Outcome) → Type 0
+Does (Ok done) old new effect =
+    ((input output : List ℕ) → effect (state_of old input output) ≡ Ran (state_of new input output)) × (new.taken ≡ old.taken)
+Does (Err cause) old new effect = ((input output : List ℕ) → effect (state_of old input output) ≡ Trapped cause) × (new ≡ old)
+
+-- the next instruction, or the trap where there is none
+abbrev pub Fetches : Result Inst Cause → MachineValue → Type 0
+Fetches (Ok inst) machine = (input output : List ℕ) → step (state_of machine input output) ≡ execute inst (state_of machine input output)
+Fetches (Err cause) machine = (input output : List ℕ) → step (state_of machine input output) ≡ Trapped cause
+
+-- the next instruction is a call
+pub record AtCall (machine : MachineValue) : Type 0 where
+  pub next : (input output : List ℕ) → step (state_of machine input output) ≡ execute Ecall (state_of machine input output)
+
+-- the next instruction is call 63
+pub record AtReceive (machine : MachineValue) (address size : ℕ) : Type 0 where
+  pub next : (input output : List ℕ) → step (state_of machine input output) ≡ receive_call (state_of machine input output) address size
+
+-- the next instruction is call 64
+pub record AtSend (machine : MachineValue) (address size : ℕ) : Type 0 where
+  pub next : (input output : List ℕ) → step (state_of machine input output) ≡ send_call (state_of machine input output) address size
+
+-- the amount of a shift is below 64
+abbrev pub AmountFits : Inst → Type 0
+AmountFits (Shift op rd rs1 amount) = amount < 64
+AmountFits _ = ⊤

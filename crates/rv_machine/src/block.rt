@@ -1,0 +1,227 @@
+//! The memory of a machine.
+
+ghost use Rattle.std.specs.Prelude.{◌≡◌, ◌+◌, ◌-◌, ◌*◌, ◌^◌, ◌<◌, ◌≤◌, Some, None, IfSome, IfNone, IfOk, min, All, length, map, take, drop, option_map};
+ghost use Rattle.rv_code.specs.Bytes.{number_of, bytes_of, put_at};
+ghost use Rattle.rv_code.specs.Machine.{holds, holder, read_bytes, written_in, write_bytes};
+ghost use Rattle.std.specs.Bool.{OnTrue, OnFalse};
+ghost use Rattle.rv_code.specs.Machine.{Segment as SegmentValue};
+ghost use Rattle.rv_code.specs.Images.{filled};
+ghost use Rattle.rv_machine.specs.Machines.{left};
+
+use crate::image::Segment;
+use crate::input::Input;
+use acg_base::Memory;
+use std::alloc::Global;
+use std::marker::Model;
+
+/// A segment of memory in a machine.
+#[derive(Debug, Drop)]
+pub(crate) struct Block {
+    address: u64,
+    flags: u32,
+    bytes: Vec<u8>,
+}
+
+impl Model for Block {
+    ghost use Rattle.rv_code.specs.Machine.{Segment as SegmentValue};
+
+    ghost Value = { SegmentValue };
+
+    ghost view = { λ block. record { address = block.address; flags = block.flags; bytes = block.bytes.items } };
+}
+
+impl Block {
+    // Whether the block has the flag, and the bytes from an address on.
+    fn holds(&self, flag: u32, address: u64, size: u64) -> bool
+        requires { 0 < flag }
+        ensures { result ≡ holds flag address size self.now }
+    {
+        let length = self.bytes.len() as u64;
+        self.flags / flag % 2 == 1
+            && self.address <= address
+            && size <= length
+            && address - self.address <= length - size
+    }
+
+    // Lends the bytes from an address on.
+    fn bytes_at(&self, address: u64, size: u64) -> &[u8]
+        requires low { self.now.address ≤ address }
+        requires high { address + size ≤ self.now.address + length self.now.bytes }
+        ensures bytes { result.now ≡ take size (drop (address - self.now.address) self.now.bytes) }
+        ensures length { length result.now ≡ size }
+    {
+        let from = (address - self.address) as usize;
+        let to = from + size as usize;
+        &self.bytes[from..to]
+    }
+
+    // Writes the bytes that spell a number from an address on.
+    fn write_number(&mut self, address: u64, size: u64, number: u64)
+        requires low { self.old.address ≤ address }
+        requires high { address + size ≤ self.old.address + length self.old.bytes }
+        ensures { self.new ≡ record self.old { bytes = put_at self.old.bytes (address - self.old.address) (bytes_of size number) } }
+    {
+        let from = (address - self.address) as usize;
+        let to = from + size as usize;
+        spell(&mut self.bytes[from..to], number);
+    }
+
+    // Takes so many bytes of an input to an address.
+    fn receive(&mut self, address: u64, count: u64, input: &mut Input<'_>)
+        requires low { self.old.address ≤ address }
+        requires high { address + count ≤ self.old.address + length self.old.bytes }
+        requires left { count ≤ length (left input.old) }
+        ensures bytes { self.new ≡ record self.old { bytes = put_at self.old.bytes (address - self.old.address) (take count (left input.old)) } }
+        ensures input { input.new ≡ record input.old { at = input.old.at + count } }
+    {
+        let from = (address - self.address) as usize;
+        let to = from + count as usize;
+        input.take_into(&mut self.bytes[from..to]);
+    }
+}
+
+// The memory of a segment of an image.
+fn filled(segment: Segment) -> Result<Block, Memory>
+    requires { length segment.bytes ≤ segment.size }
+    ensures { IfOk result (λ block. block ≡ filled segment) }
+{
+    let mut bytes = segment.bytes;
+    bytes.resize(segment.size as usize, 0)?;
+    Ok(Block {
+        address: segment.address,
+        flags: segment.flags,
+        bytes,
+    })
+}
+
+/// The memory of the segments of an image.
+pub(crate) fn filled_all(alloc: Global, segments: Vec<Segment>) -> Result<Vec<Block>, Memory>
+    requires { All (λ segment. length segment.bytes ≤ segment.size) segments.items }
+    ensures { IfOk result (λ blocks. blocks.items ≡ map filled segments.items) }
+{
+    let mut blocks = Vec::with_capacity(alloc, segments.len())?;
+    for segment in segments {
+        if blocks.push(filled(segment)?).is_err() {
+            return Err(Memory);
+        }
+    }
+    Ok(blocks)
+}
+
+// The number that at most eight bytes spell, the lowest first.
+#[tactic(auto, unfolding(rv_code::specs::Bytes::number_of))]
+fn number(bytes: &[u8]) -> u64
+    requires { length bytes.now ≤ 8 }
+    ensures is { result ≡ number_of bytes.now }
+    ensures small { result < 2 ^ (8 * length bytes.now) }
+{
+    match bytes.split_first() {
+        None => 0,
+        Some((first, rest)) => u64::from(*first) + 256 * number(rest),
+    }
+}
+
+// The number that four bytes spell, the lowest first.
+#[tactic(auto, using(crate::proofs::NumbersLemmas::words))]
+fn word(bytes: &[u8]) -> u32
+    requires { length bytes.now ≡ 4 }
+    ensures { result ≡ number_of bytes.now }
+{
+    u32::from(bytes[0])
+        + 0x100 * u32::from(bytes[1])
+        + 0x1_0000 * u32::from(bytes[2])
+        + 0x100_0000 * u32::from(bytes[3])
+}
+
+// Writes the bytes of a number, the lowest first.
+fn spell(out: &mut [u8], mut number: u64)
+    ensures { out.new ≡ bytes_of (length out.old) number }
+{
+    for byte in out.iter_mut() {
+        *byte = (number % 256) as u8;
+        number /= 256;
+    }
+}
+
+/// The number of the first block that has the flag, and the bytes from an address on.
+pub(crate) fn find(blocks: &[Block], flag: u32, address: u64, size: u64) -> Option<usize>
+    requires { 0 < flag }
+    ensures is { result ≡ holder blocks.now flag address size }
+    ensures below { IfSome result (λ i. i < length blocks.now) }
+{
+    blocks
+        .iter()
+        .position(|block| block.holds(flag, address, size))
+}
+
+/// Lends the bytes from an address on, where they lie in one block with the flag.
+pub(crate) fn bytes_at(blocks: &[Block], flag: u32, address: u64, size: u64) -> Option<&[u8]>
+    requires { 0 < flag }
+    ensures bytes { option_map (λ bytes. bytes.now) result ≡ read_bytes blocks.now flag address size }
+    ensures length { IfSome result (λ bytes. length bytes.now ≡ size) }
+{
+    let index = find(blocks, flag, address, size)?;
+    Some(blocks[index].bytes_at(address, size))
+}
+
+/// The number that the bytes from an address on spell, where they lie in one block with the flag R.
+pub(crate) fn read_number(blocks: &[Block], address: u64, size: u64) -> Option<u64>
+    requires { size ≤ 8 }
+    ensures number { result ≡ option_map number_of (read_bytes blocks.now 4 address size) }
+    ensures small { IfSome result (λ number. number < 2 ^ (8 * size)) }
+{
+    match bytes_at(blocks, 4, address, size) {
+        None => None,
+        Some(bytes) => Some(number(bytes)),
+    }
+}
+
+/// The word at an address, where its 4 bytes lie in one block with the flag X.
+pub(crate) fn read_word(blocks: &[Block], address: u64) -> Option<u32>
+    ensures { result ≡ option_map number_of (read_bytes blocks.now 1 address 4) }
+{
+    match bytes_at(blocks, 1, address, 4) {
+        None => None,
+        Some(bytes) => Some(word(bytes)),
+    }
+}
+
+/// Writes the bytes that spell a number from an address on. False where they don't lie in one block with the flag W.
+pub(crate) fn write_number(blocks: &mut [Block], address: u64, size: u64, number: u64) -> bool
+    ensures written { OnTrue result (write_bytes blocks.old address (bytes_of size number) ≡ Some blocks.new) }
+    ensures missing { OnFalse result (write_bytes blocks.old address (bytes_of size number) ≡ None) }
+    ensures stays { OnFalse result (blocks.new ≡ blocks.old) }
+{
+    match find(blocks, 2, address, size) {
+        None => false,
+        Some(index) => {
+            blocks[index].write_number(address, size, number);
+            true
+        }
+    }
+}
+
+/// Takes the next `size` bytes of an input, or as many as are left, to an address, and answers how many. `None` where
+/// the `size` bytes from the address on don't lie in one block with the flag W.
+pub(crate) fn receive(
+    blocks: &mut [Block],
+    address: u64,
+    size: u64,
+    input: &mut Input<'_>,
+) -> Option<u64>
+    ensures count { IfSome result (λ count. count ≡ min size (length (left input.old))) }
+    ensures written { IfSome result (λ count. option_map (written_in blocks.old address (take count (left input.old)))
+        (holder blocks.old 2 address size) ≡ Some blocks.new) }
+    ensures input { IfSome result (λ count. input.new ≡ record input.old { at = input.old.at + count }) }
+    ensures missing { IfNone result (holder blocks.old 2 address size ≡ None) }
+    ensures stays { IfNone result ((blocks.new ≡ blocks.old) × (input.new ≡ input.old)) }
+{
+    match find(blocks, 2, address, size) {
+        None => None,
+        Some(index) => {
+            let count = size.min(input.count() as u64);
+            blocks[index].receive(address, count, input);
+            Some(count)
+        }
+    }
+}

@@ -1,0 +1,19 @@
+//! The machine that runs images: RV64IM over segments of memory, with an input and a sink.
+#![tactic(auto)]
+
+mod answers;
+mod arithmetic;
+mod block;
+mod image;
+mod input;
+mod machine;
+mod registers;
+
+pub use answers::{Run, Step};
+pub use image::{Image, Segment};
+pub use input::Input;
+pub use machine::Machine;
+pub use rv_code::Cause;
+
+#[cfg(test)]
+mod tests;
