@@ -1,5 +1,5 @@
 -- The reply to a command line, from the answer for what was read.
-use Rattle.std.proofs.Common.{◌≡◌, ◌≢◌, ◌⊎◌, ℕ, ◌+◌, ◌<◌, ◌≤◌, Bool, true, false, List, [], ◌∷◌, ◌++◌, length, take, Option, Some, None, Result, Ok, IsErrOf, IfSome, IsNone, slice_get, refl, sym, ap, ◌∙◌, subst, arith, inl, inr, IsTrue}
+use Rattle.std.proofs.Common.{◌≡◌, ℕ, ◌+◌, ◌<◌, ◌≤◌, Bool, true, false, List, [], ◌∷◌, ◌++◌, length, Option, Some, None, Ok, IsErrOf, IfSome, IsNone, slice_get, refl, ap, ◌∙◌, subst, arith, inl, inr, IsTrue}
 use Rattle.std.proofs.lemmas.List.{take_all, length-take}
 use Rattle.acg_base.specs.Outside.{Contents, front}
 use Rattle.acg_base.specs.declared.store.StoreError.TheVariants as store_error

@@ -1,5 +1,5 @@
 -- What is said to a sink: a refusal, a reply from an answer, and more that is said behind a line.
-use Rattle.std.proofs.Common.{◌≡◌, ◌≢◌, ◌⊎◌, ℕ, zero, suc, ◌+◌, ◌<◌, ◌≤◌, Bool, List, [], ◌∷◌, ◌++◌, Result, Ok, IsErrOf, refl, sym, ap, ◌∙◌, subst, arith, inl, inr, IsTrue}
+use Rattle.std.proofs.Common.{◌≡◌, ◌≢◌, ◌⊎◌, ℕ, zero, suc, ◌≤◌, Bool, List, [], ◌++◌, Ok, IsErrOf, refl, sym, ap, ◌∙◌, subst, arith, inl, inr, IsTrue}
 use Rattle.std.proofs.lemmas.List.{append_assoc}
 use Rattle.acg_base.specs.Outside.{Grew, Rose}
 use Rattle.acg_base.specs.declared.sink.SinkError.TheVariants as sink_error
@@ -86,11 +86,15 @@ run-status (Trapped cause) printed s runs = absurd runs
 -- a run of a graph's action answers a content that is the text of the graph
 pub run-answers : (content : List ℕ) (g : Listed) (printed : List ℕ) (s : Status) → IsBuiltGraph content g → IsRun g printed s → IsAnswer content printed s
 run-answers content g printed s built runs = elim (run-status (run default_budget (started runs.0 [])) runs.2.0 s runs.2.2) [
-    inl e ↦ subst (λ t. IsAnswer content printed t) (sym e) (g, built, subst (λ t. IsRun g printed t) e runs)
+  | inl e ↦ subst (λ t. IsAnswer content printed t) (sym e) (g, built, subst (λ t. IsRun g printed t) e runs)
   | inr others ↦ elim others [
-      inl e ↦ subst (λ t. IsAnswer content printed t) (sym e) (g, built, subst (λ t. IsRun g printed t) e runs)
+    | inl e ↦ subst (λ t. IsAnswer content printed t) (sym e) (g, built, subst (λ t. IsRun g printed t) e runs)
     | inr others ↦ elim others [
-        inl e ↦ subst (λ t. IsAnswer content printed t) (sym e) (g, built, subst (λ t. IsRun g printed t) e runs)
+      | inl e ↦ subst (λ t. IsAnswer content printed t) (sym e) (g, built, subst (λ t. IsRun g printed t) e runs)
       | inr others ↦ elim others [
-          inl e ↦ subst (λ t. IsAnswer content printed t) (sym e) (g, built, subst (λ t. IsRun g printed t) e runs)
-        | inr e ↦ subst (λ t. IsAnswer content printed t) (sym e) (g, built, subst (λ t. IsRun g printed t) e runs) ] ] ] ]
+        | inl e ↦ subst (λ t. IsAnswer content printed t) (sym e) (g, built, subst (λ t. IsRun g printed t) e runs)
+        | inr e ↦ subst (λ t. IsAnswer content printed t) (sym e) (g, built, subst (λ t. IsRun g printed t) e runs)
+      ]
+    ]
+  ]
+]

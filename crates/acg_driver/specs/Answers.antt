@@ -1,5 +1,5 @@
 -- What `act` answers to the content of a file.
-use Rattle.std.specs.Prelude.{◌≡◌, ◌⊎◌, ℕ, zero, suc, ◌<◌, ◌≤◌, List, [], ◌∷◌, ◌++◌, length, Some, slice_get}
+use Rattle.std.specs.Prelude.{◌≡◌, ◌⊎◌, ℕ, zero, suc, ◌<◌, ◌≤◌, List, [], ◌++◌, length, Some, slice_get}
 use Rattle.acg_base.specs.declared.status.Status.{Status}
 use Rattle.acg_base.specs.declared.status.Status.TheVariants as status
 use Rattle.action_terms.specs.Numbering.{Listed}
@@ -16,10 +16,13 @@ use Rattle.acg_driver.specs.Lines.{memory_line, limit_action_line, limit_nodes_l
 -- the most bytes of an action, the words of the stack and the units, and the instructions of a run
 abbrev pub action_limit : ℕ
 action_limit = 1048576
+
 abbrev pub default_stack : ℕ
 default_stack = 1048576
+
 abbrev pub default_units : ℕ
 default_units = 262144
+
 abbrev pub default_budget : ℕ
 default_budget = 10000000
 

@@ -22,16 +22,20 @@ numbered_line text n = text ++ (unsigned_decimal_of n ++ codes "\n")
 -- a limit is passed
 abbrev pub limit_action_line : List ℕ
 limit_action_line = codes "limit action 1048576\n"
+
 abbrev pub limit_nodes_line : List ℕ
 limit_nodes_line = codes "limit nodes 65536\n"
 
 -- the file is no action, or an action that can't be compiled
 abbrev pub action_byte_line : ℕ → List ℕ
 action_byte_line offset = numbered_line (codes "action byte ") offset
+
 abbrev pub action_text_line : ℕ → List ℕ
 action_text_line offset = numbered_line (codes "action text ") offset
+
 abbrev pub stray_unfold_line : ℕ → List ℕ
 stray_unfold_line node = numbered_line (codes "stray unfold ") node
+
 abbrev pub unbuilt_line : ℕ → List ℕ
 unbuilt_line node = numbered_line (codes "unbuilt ") node
 
@@ -55,11 +59,15 @@ output_lines output = message_lines (records output)
 -- how a run ended, or that it didn't within the budget
 abbrev pub completed_line : List ℕ
 completed_line = codes "completed\n"
+
 abbrev pub failed_line : List ℕ
 failed_line = codes "failed\n"
+
 abbrev pub escaped_line : List ℕ
 escaped_line = codes "escaped\n"
+
 abbrev pub full_line : List ℕ
 full_line = codes "full\n"
+
 abbrev pub running_line : List ℕ
 running_line = codes "running\n"

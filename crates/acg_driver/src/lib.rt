@@ -11,3 +11,6 @@ mod text;
 mod words;
 
 pub use serving::serve;
+
+#[cfg(test)]
+mod tests;

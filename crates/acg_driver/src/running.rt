@@ -45,7 +45,12 @@ pub fn run<K: Sink>(graph: &Graph<'_>, loaded: &mut Loaded, out: &mut K) -> Stat
     requires start { IsRightStart graph.now loaded.old.machine }
     ensures { Spoken K.written K.faults K.tells (IsRun graph.now) out.old out.new result }
 {
-    match print_header(out, DEFAULT_STACK, DEFAULT_UNITS, instructions_per_step(graph)) {
+    match print_header(
+        out,
+        DEFAULT_STACK,
+        DEFAULT_UNITS,
+        instructions_per_step(graph),
+    ) {
         Ok(()) => perform(&mut loaded.machine, &mut loaded.outbox, DEFAULT_BUDGET, out),
         Err(SinkError::Failed) => Status::WriteFault,
     }

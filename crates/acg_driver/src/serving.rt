@@ -80,12 +80,7 @@ fn act<S: Store, K: Sink>(alloc: Global, name: &Name, store: &mut S, out: &mut K
 ///
 /// The sink gets the lines that are printed: for a run a header with the words of the stack, the units and the factor,
 /// each message as it is sent, and the outcome; else the one line of a refusal. The status tells the same as the lines.
-pub fn serve<S: Store, K: Sink>(
-    alloc: Global,
-    words: &Words,
-    store: &mut S,
-    out: &mut K,
-) -> Status
+pub fn serve<S: Store, K: Sink>(alloc: Global, words: &Words, store: &mut S, out: &mut K) -> Status
     ensures spoken { Spoken K.written K.faults K.tells (IsReply words.now (S.tells store.old) (S.contents store.old)) out.old out.new result }
     ensures looked { Looked S.contents S.failed_reads S.failed_writes S.tells store.old store.new result }
     ensures surely { IsTrue (S.sure store.old) → (name : List ℕ) → command_of words.now ≡ Some name → FaultsSurely (S.contents store.old) name result }

@@ -1,6 +1,6 @@
 -- The canonical tokens of an action spell it.
-use Rattle.std.proofs.Common.{◌≡◌, ◌⊎◌, inl, inr, ℕ, zero, suc, ◌+◌, ◌≤◌, Bool, true, false, ◌&&◌, List, [], ◌∷◌, ◌++◌, length, Some, refl, sym, ap, subst, ◌∙◌, arith, nat_eq, if◌then◌else◌, eqb-true}
-use Rattle.std.specs.Prelude.{ℤ, pos, nat_le, FitsSigned}
+use Rattle.std.proofs.Common.{◌≡◌, ◌⊎◌, inl, inr, ℕ, zero, suc, Bool, true, false, List, [], ◌∷◌, ◌++◌, length, Some, refl, sym, ap, subst, ◌∙◌, arith, nat_eq, if◌then◌else◌, eqb-true}
+use Rattle.std.specs.Prelude.{pos, nat_le, FitsSigned}
 use Rattle.std.specs.Int.{w64}
 use Rattle.std.proofs.lemmas.Bool.Decides.{nat_tests}
 use Rattle.acg_base.specs.Decimals.{spelled_i64, decimal_of}

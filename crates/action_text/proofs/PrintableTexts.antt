@@ -1,5 +1,5 @@
 -- The tokens of action texts can be printed; so the canonical text of an action is read as that action.
-use Rattle.std.proofs.Common.{◌≡◌, ◌⊎◌, inl, inr, ℕ, zero, suc, ◌<◌, Bool, true, false, ◌&&◌, ◌||◌, ◌==◌, List, [], ◌∷◌, ◌++◌, length, Option, Some, None, refl, sym, ap, subst, ◌∙◌, arith, nat_lt, codes, if◌then◌else◌}
+use Rattle.std.proofs.Common.{◌≡◌, ◌⊎◌, inl, inr, ℕ, zero, suc, Bool, true, false, ◌&&◌, ◌||◌, ◌==◌, List, [], ◌∷◌, ◌++◌, length, Option, Some, None, refl, sym, subst, arith, nat_lt, if◌then◌else◌}
 use Rattle.std.specs.Prelude.{ℤ, pos, neg_ℤ}
 use Rattle.std.specs.Option.{option_map, option_and_then}
 use Rattle.std.specs.Char.{is_ascii_digit}
@@ -9,14 +9,14 @@ use Rattle.std.proofs.lemmas.Bool.Decides.{nat_tests}
 use Rattle.acg_base.specs.Decimals.{spelled_i64, spelled_number, fits_i64, number_of}
 use Rattle.meta_lex.specs.Bytes.{is_digit}
 use Rattle.meta_lex.specs.Forms.{is_word, is_number, is_digits, is_quoted}
-use Rattle.action_terms.specs.Labels.{Label, ActionNode, YielderNode, Wanted, AnAction, AYielder, AnItem, AClosure, under, serves, items_fit, token_fits, yielder_fits, is_datum, is_closure, is_token}
+use Rattle.action_terms.specs.Labels.{Label, ActionNode, YielderNode, Wanted, AnAction, AYielder, AnItem, AClosure, under, serves, items_fit, is_token}
 use Rattle.action_terms.specs.Trees.{Tree, tree, Trees, none, more, Is, Are, IsAction}
 use Rattle.action_terms.specs.declared.kinds.Kind.TheVariants as kind
 use Rattle.action_terms.specs.declared.kinds.YKind.TheVariants as ykind
 use Rattle.action_terms.specs.declared.kinds.Sort.{Sort}
 use Rattle.action_terms.specs.declared.kinds.Sort.TheVariants as sort
-use Rattle.action_text.specs.Shapes.{Piece, Fixed, Numeral, Quoted, Part, shape, items, more_items, sort_word, operator, operator_of, open_paren, close_paren}
-use Rattle.action_text.specs.ActionText.{IsPlain, IsChain, ArePartsOf, IsPart, IsOperand, IsEnclosed, IsActionText, Weaves, Spells, label_of}
+use Rattle.action_text.specs.Shapes.{Piece, Fixed, Numeral, Quoted, Part, shape, items, more_items, sort_word, operator_of, close_paren}
+use Rattle.action_text.specs.ActionText.{IsPlain, IsChain, ArePartsOf, IsPart, IsOperand, IsEnclosed, Weaves, Spells, label_of}
 use Rattle.action_text.specs.Canonical.{action_tokens, canonical_text, IsReadable}
 use Rattle.action_text.specs.Answers.{IsTextOf, token_bytes}
 use Rattle.action_text.proofs.CanonicalTokens.{action_tokens_spell}

@@ -1,10 +1,10 @@
 -- Tokens that can be printed are read back, each as the longest one at its place.
-use Rattle.std.proofs.Common.{◌≡◌, ◌⊎◌, inl, inr, ℕ, zero, suc, ◌+◌, ◌-◌, ◌<◌, ◌≤◌, Bool, true, false, ◌&&◌, ◌||◌, not, ◌==◌, List, [], ◌∷◌, ◌++◌, length, get_or, take, drop, refl, sym, ap, subst, ◌∙◌, arith, append_assoc, append-nil, length-append, eqb-true, cond, if◌then◌else◌}
-use Rattle.std.specs.List.{list_all, list_any, prefix_len}
+use Rattle.std.proofs.Common.{◌≡◌, ◌⊎◌, inl, inr, ℕ, suc, ◌+◌, ◌<◌, Bool, true, false, ◌||◌, not, ◌==◌, List, [], ◌∷◌, ◌++◌, length, get_or, refl, sym, ap, subst, ◌∙◌, arith, append_assoc, length-append, eqb-true, cond, if◌then◌else◌}
+use Rattle.std.specs.List.{list_all, prefix_len}
 use Rattle.std.proofs.lemmas.Bool.Decides.{nat_tests}
 use Rattle.meta_lex.specs.Bytes.{is_letter, is_digit, is_word_byte, is_quotable, is_blank, is_single}
-use Rattle.meta_lex.specs.Forms.{is_word, is_digits, is_number, is_quote, is_closed, is_quoted, is_symbol, has_form, kind_of}
-use Rattle.meta_lex.specs.Tokens.{IsToken, IsLongest, PlainToken, IsTokenAt, Reads, AreTokens, after_blanks}
+use Rattle.meta_lex.specs.Forms.{is_word, is_digits, is_number, is_closed, is_quoted, kind_of}
+use Rattle.meta_lex.specs.Tokens.{IsLongest}
 use Rattle.meta_lex.specs.declared.token.TokenKind.{TokenKind}
 use Rattle.meta_lex.specs.declared.token.TokenKind.TheVariants.{Word, Number, Quoted, Symbol}
 use Rattle.meta_lex.proofs.Longest.{word_longest, signed_longest, unsigned_longest}

@@ -2,7 +2,7 @@ use Rattle.std.proofs.Common.{◌≡◌, ap, sym, ◌∙◌, subst, arith}
 use Rattle.rv_code.specs.Images.{IsImage}
 use Rattle.rv_asm.specs.Conventions.{instruction_bytes}
 use Rattle.rv_machine.specs.Machines.{loaded_machine}
-use Rattle.rv_codegen.specs.RightImage.{compiled_image, IsRight}
+use Rattle.rv_codegen.specs.RightImage.{compiled_image}
 use Rattle.acg_driver.specs.Answers.{default_stack, default_units}
 use Rattle.acg_driver.proofs.running.load.Goals as goal
 

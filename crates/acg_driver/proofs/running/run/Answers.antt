@@ -1,9 +1,9 @@
-use Rattle.std.proofs.Common.{◌≡◌, [], ◌++◌, Ok, refl, sym, subst}
+use Rattle.std.proofs.Common.{[], Ok, refl, sym, subst}
 use Rattle.rv_code.specs.Machine.{run}
-use Rattle.rv_machine.specs.Machines.{state_of, loaded_machine}
+use Rattle.rv_machine.specs.Machines.{state_of}
 use Rattle.action_terms.specs.Meaning.{action_of}
 use Rattle.rv_codegen.specs.Measures.{subject_of, node_count, factor_of}
-use Rattle.acg_driver.specs.Answers.{default_stack, default_units, default_budget, IsRun, IsRunOf}
+use Rattle.acg_driver.specs.Answers.{default_stack, default_units, default_budget, IsRunOf}
 use Rattle.acg_driver.specs.Lines.{header_line}
 use Rattle.acg_driver.specs.Outboxes.{SendsMessages, FitsOutbox}
 use Rattle.acg_driver.specs.Prints.{Printed}
@@ -29,14 +29,14 @@ returns-in-Ok g c =
     let start = c.requires.start in
     let header = header_line default_stack default_units (factor_of (action_of graph)) in
     let printed : Printed g.K.Sink.written g.K.Sink.faults g.K.Sink.tells header c.args.out.now c.print_header.new.out (Ok c.in-Ok.field-0) =
-        subst (λ f. Printed g.K.Sink.written g.K.Sink.faults g.K.Sink.tells (header_line default_stack default_units f) c.args.out.now c.print_header.new.out (Ok c.in-Ok.field-0)) c.instructions_per_step.ensures
-        (subst (λ r. Printed g.K.Sink.written g.K.Sink.faults g.K.Sink.tells (header_line default_stack default_units c.instructions_per_step.result) c.args.out.now c.print_header.new.out r) c.in-Ok.is c.print_header.ensures) in
+    subst (λ f. Printed g.K.Sink.written g.K.Sink.faults g.K.Sink.tells (header_line default_stack default_units f) c.args.out.now c.print_header.new.out (Ok c.in-Ok.field-0)) c.instructions_per_step.ensures
+    (subst (λ r. Printed g.K.Sink.written g.K.Sink.faults g.K.Sink.tells (header_line default_stack default_units c.instructions_per_step.result) c.args.out.now c.print_header.new.out r) c.in-Ok.is c.print_header.ensures) in
     spoken-behind {P = λ rest result. IsRunOf (run default_budget (state_of c.args.loaded.now.machine [] [])) rest result} printed
-      (λ rest runs. (start.0, start.1, (rest, refl, subst (λ machine. IsRunOf (run default_budget (state_of machine [] [])) rest c.perform.result) start.2 runs)))
-      (record {
-        said = c.perform.ensures.ran;
-        failed = c.perform.ensures.fault;
-        grew = c.perform.ensures.grew;
-        counts = c.perform.ensures.counts;
-        tells_still = c.perform.ensures.tells_still;
-      })
+    (λ rest runs. (start.0, start.1, (rest, refl, subst (λ machine. IsRunOf (run default_budget (state_of machine [] [])) rest c.perform.result) start.2 runs)))
+    (record {
+      said = c.perform.ensures.ran;
+      failed = c.perform.ensures.fault;
+      grew = c.perform.ensures.grew;
+      counts = c.perform.ensures.counts;
+      tells_still = c.perform.ensures.tells_still;
+    })
