@@ -11,15 +11,12 @@ use crate::lines::print_read_fault;
 use crate::running::{load, run};
 use crate::text::{refuse, refuse_numbered, refuse_text};
 use crate::words::action_name;
-use acg_base::{Memory, Name, Sink, SinkError, Status, Store, StoreError, Words};
+use acg_base::{LIMIT_ACTION, Memory, Name, Sink, SinkError, Status, Store, StoreError, Words};
 use action_terms::Graph;
 use action_text::action_reader::read_action;
 use bumpalo::Bump;
 use rv_codegen::first_unbuilt;
 use std::alloc::Global;
-
-// The most bytes of an action.
-const ACTION_LIMIT: u32 = 1048576;
 
 // Prints that the read of the name failed.
 fn refuse_read<K: Sink>(out: &mut K, name: &Name) -> Status
@@ -49,7 +46,7 @@ fn act_on_graph<K: Sink>(alloc: Global, graph: &Graph<'_>, out: &mut K) -> Statu
 fn act_on<K: Sink>(alloc: Global, content: &[u8], out: &mut K) -> Status
     ensures { Spoken K.written K.faults K.tells (IsAnswer content.now) out.old out.new result }
 {
-    if content.len() > ACTION_LIMIT as usize {
+    if content.len() > LIMIT_ACTION as usize {
         return refuse(out, b"limit action 1048576\n", Status::Limit);
     }
     let arena = Bump::new(alloc);
@@ -68,7 +65,7 @@ fn act<S: Store, K: Sink>(alloc: Global, name: &Name, store: &mut S, out: &mut K
     ensures sure_still { S.sure store.new ≡ S.sure store.old }
 {
     let mut content = Vec::new(alloc);
-    match store.read(name, ACTION_LIMIT, &mut content) {
+    match store.read(name, LIMIT_ACTION, &mut content) {
         Err(StoreError::Memory) => refuse(out, b"memory\n", Status::Memory),
         Err(StoreError::Failed) => refuse_read(out, name),
         Ok(()) => act_on(alloc, &content, out),
