@@ -113,6 +113,14 @@ fn faults(rt: HostRuntime) -> Result<(), Fail> {
     assert_eq!(rt; serve(alloc, &act, &mut files, &mut out), Status::ReadFault);
     assert_eq!(rt; out.bytes(), b"read fault a\n".as_slice());
 
+    let mut files = store(alloc, b"send 42", Vec::new(alloc))?;
+    let mut out = sink(alloc, vec![in alloc; 0]?)?;
+    assert_eq!(rt;
+        serve(alloc, &act, &mut files, &mut out),
+        Status::WriteFault
+    );
+    assert!(rt; out.bytes().is_empty());
+
     // The second write is that of the message.
     let mut files = store(alloc, b"send 42", Vec::new(alloc))?;
     let mut out = sink(alloc, vec![in alloc; 1]?)?;
