@@ -1,0 +1,74 @@
+-- What data, frames and parts in memory stand for.
+use Rattle.std.specs.Prelude.{List, [], ◌∷◌, map, Option, Some, None, option_map}
+use Rattle.action_terms.specs.Information.{Datum as Meant, Number, Truth, CellOf, Closure, Binds, NoBinds, Bound, Token, Data}
+use Rattle.action_terms.specs.Acting.{End as EndMeant, Done, Esc, Fail, Run, Ended}
+use Rattle.action_terms.proofs.Contexts.{Frame as FrameMeant, InCalled, InParLeft, InParRight, InFirst, InSecond, InOr, InCut, InTrap, InOver}
+use Rattle.action_sos.specs.Parts.{Focus as FocusMeant, Leaf, Parts, Part as PartMeant}
+use Rattle.action_sos.specs.declared.datum.Datum.{Datum, Datum-F, fold-Datum}
+use Rattle.action_sos.specs.declared.datum.Datum.TheOpen as open_data
+use Rattle.action_sos.specs.declared.datum.Binding.{Binding, Binding-F, fold-Binding}
+use Rattle.action_sos.specs.declared.datum.End.{End}
+use Rattle.action_sos.specs.declared.datum.End.TheVariants as end
+use Rattle.action_sos.specs.declared.part.Side.TheVariants as side
+use Rattle.action_sos.specs.declared.part.Frame.{Frame}
+use Rattle.action_sos.specs.declared.part.Frame.TheVariants as frame
+use Rattle.action_sos.specs.declared.part.Focus.{Focus}
+use Rattle.action_sos.specs.declared.part.Focus.TheVariants as focus
+use Rattle.action_sos.specs.declared.part.Part.{Part}
+
+-- a token and the datum that it is bound to
+pub record Pair : Type 0 where
+  pub token : Token
+  pub datum : Meant
+
+-- the bindings of these pairs
+abbrev pub binds_of : List Pair → Binds
+binds_of [] = NoBinds
+binds_of (p ∷ ps) = Bound p.token p.datum (binds_of ps)
+
+-- one level of a datum, and of a binding
+abbrev pub datum_step : Datum-F Meant Pair → Meant
+datum_step (open_data.Number n) = Number n
+datum_step (open_data.Truth b) = Truth b
+datum_step (open_data.Cell c) = CellOf c
+datum_step (open_data.Closure body bound own) = Closure body (binds_of bound.now) (option_map (λ t. t.now) own)
+
+abbrev pub pair_step : Binding-F Meant Pair → Pair
+pair_step p = record { token = p.token.now; datum = p.datum }
+
+-- the datum that a datum in memory stands for
+abbrev pub meant : Datum → Meant
+meant = fold-Datum Meant Pair datum_step pair_step
+
+abbrev pub pair_of : Binding → Pair
+pair_of = fold-Binding Meant Pair datum_step pair_step
+
+abbrev pub data_of : List Datum → Data
+data_of d = map meant d
+
+abbrev pub bindings_of : List Binding → Binds
+bindings_of b = binds_of (map pair_of b)
+
+abbrev pub end_of : End → EndMeant
+end_of (end.Done d b) = Done (data_of d.now) (bindings_of b.now)
+end_of (end.Escaped d) = Esc (data_of d.now)
+end_of end.Failed = Fail
+
+abbrev pub frame_of : Frame → FrameMeant
+frame_of (frame.Called c) = InCalled c
+frame_of (frame.First k d b) = InFirst k (data_of d.now) (bindings_of b.now)
+frame_of (frame.Second k d b) = InSecond k (data_of d.now) (bindings_of b.now)
+frame_of (frame.Or k d b) = InOr k (data_of d.now) (bindings_of b.now)
+frame_of frame.Cut = InCut
+frame_of (frame.Trap k b) = InTrap k (bindings_of b.now)
+frame_of (frame.Over b) = InOver (bindings_of b.now)
+frame_of (frame.Beside k side.Left z) = InParRight k (Ended (end_of z))
+frame_of (frame.Beside k side.Right z) = InParLeft k (Ended (end_of z))
+
+abbrev pub focus_of : Focus → FocusMeant
+focus_of (focus.Run k d b) = Leaf (Run k (data_of d.now) (bindings_of b.now))
+focus_of (focus.Ended z) = Leaf (Ended (end_of z))
+focus_of (focus.Parts k) = Parts k
+
+abbrev pub part_of : Part → PartMeant
+part_of p = record { frames = map frame_of p.frames.items; focus = focus_of p.focus }

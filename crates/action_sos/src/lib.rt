@@ -1,0 +1,6 @@
+//! Performances of actions, a step at a time.
+#![tactic(auto)]
+
+mod bindings;
+mod datum;
+mod part;
