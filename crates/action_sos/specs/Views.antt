@@ -1,6 +1,9 @@
 -- What data, frames and parts in memory stand for.
-use Rattle.std.specs.Prelude.{List, [], ◌∷◌, map, Option, Some, None, option_map}
-use Rattle.action_terms.specs.Information.{Datum as Meant, Number, Truth, CellOf, Closure, Binds, NoBinds, Bound, Token, Data}
+use Rattle.std.specs.Prelude.{ℕ, List, [], ◌∷◌, map, Option, Some, None, option_map, slice_get}
+use Rattle.action_terms.specs.Information.{Datum as Meant, Number, Truth, CellOf, Closure, Binds, NoBinds, Bound, Token, Data, Storage}
+use Rattle.action_terms.specs.Actions.{Item}
+use Rattle.action_terms.specs.Numbering.{ListedYielder}
+use Rattle.action_terms.specs.Meaning.{item_or_them, items_from, picked}
 use Rattle.action_terms.specs.Acting.{End as EndMeant, Done, Esc, Fail, Run, Ended}
 use Rattle.action_terms.proofs.Contexts.{Frame as FrameMeant, InCalled, InParLeft, InParRight, InFirst, InSecond, InOr, InCut, InTrap, InOver}
 use Rattle.action_sos.specs.Parts.{Focus as FocusMeant, Leaf, Parts, Part as PartMeant}
@@ -72,3 +75,15 @@ focus_of (focus.Parts k) = Parts k
 
 abbrev pub part_of : Part → PartMeant
 part_of p = record { frames = map frame_of p.frames.items; focus = focus_of p.focus }
+
+-- the storage of cells in memory
+abbrev pub storage_of : List (Option Datum) → Storage
+storage_of cells = map (option_map meant) cells
+
+-- the item of number y, of these yielders
+abbrev pub item_at : List ListedYielder → ℕ → Item
+item_at ls y = item_or_them (slice_get (items_from 0 ls) y)
+
+-- the items of these numbers
+abbrev pub items_at : List ListedYielder → List ℕ → List Item
+items_at ls numbers = picked 0 (items_from 0 ls) numbers

@@ -1,13 +1,15 @@
-//! Bindings.
-ghost use Rattle.std.specs.Prelude.{◌≡◌, map, option_map, IfOk};
-ghost use Rattle.action_sos.specs.Views.{part_of, end_of, meant, bindings_of};
+//! Bindings: finite maps from tokens to data, as slices with their tokens ascending.
+ghost use Rattle.std.specs.Prelude.{◌≡◌, IfOk, OnOk, option_map};
+ghost use Rattle.action_terms.specs.Bindings.{token_lt, bind, overlaid, lookup, meets};
+ghost use Rattle.action_sos.specs.Views.{meant, bindings_of};
 
-use crate::part::Part;
-use crate::datum::Datum;
+use crate::datum::{Binding, Datum};
+use acg_base::Memory;
+use bumpalo::Bump;
 
-/// A.
-pub fn same(p: &Part<'_>) -> usize
-    ensures { result ≡ p.now.broken }
+/// What the token is bound to.
+pub fn lookup<'a>(bound: &[Binding<'a>], token: &[u8]) -> Option<Datum<'a>>
+    ensures { option_map meant result ≡ lookup token.now (bindings_of bound.now) }
 {
-    p.broken
+    None
 }

@@ -9,7 +9,7 @@ pub enum Datum<'a> {
     /// A truth-value.
     Truth(bool),
     /// A cell, by its number from 0.
-    Cell(u32),
+    Cell(usize),
     /// A closure.
     Closure {
         /// The root of its body.
