@@ -1,2 +1,5 @@
 pub mod Parts
 pub mod Views
+pub mod Codes
+pub mod Performers
+pub mod Schedules

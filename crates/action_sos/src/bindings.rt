@@ -7,9 +7,3 @@ use crate::datum::{Binding, Datum};
 use acg_base::Memory;
 use bumpalo::Bump;
 
-/// What the token is bound to.
-pub fn lookup<'a>(bound: &[Binding<'a>], token: &[u8]) -> Option<Datum<'a>>
-    ensures { option_map meant result ≡ lookup token.now (bindings_of bound.now) }
-{
-    None
-}
