@@ -17,3 +17,7 @@ pub mod ItemLaws
 pub mod SoundNodes
 pub mod NodeForms
 pub mod GraphLaws
+pub mod ProperYielders
+pub mod ProperBodies
+pub mod ProperNodes
+pub mod ProperGraphs

@@ -10,6 +10,7 @@ pub mod Labels
 pub mod Trees
 pub mod Numbering
 pub mod Meaning
+pub mod Proper
 pub mod Nodes
 pub mod Places
 pub mod Pushed

@@ -2,6 +2,8 @@
 ghost use Rattle.std.specs.Prelude.{◌≡◌, map};
 ghost use Rattle.action_terms.specs.Nodes.{listed_node, listed_yielder};
 ghost use Rattle.action_terms.specs.Numbering.{IsGraph};
+ghost use Rattle.action_terms.specs.Meaning.{action_of};
+ghost use Rattle.action_terms.specs.Proper.{IsProper};
 ghost use Rattle.action_terms.specs.declared.graph.GraphError.TheVariants.{Memory};
 
 use crate::kinds::{Kind, YKind};
@@ -71,6 +73,7 @@ impl<'a> Graph<'a> {
     pub fn nodes(&self) -> &'a [Node<'a>]
         ensures nodes { map listed_node result.now ≡ self.now.nodes }
         ensures of_an_action { IsGraph self.now }
+        ensures proper { IsProper (action_of self.now) }
     {
         self.nodes
     }

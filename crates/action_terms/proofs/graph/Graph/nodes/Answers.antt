@@ -1,0 +1,11 @@
+use Rattle.std.proofs.Common.{subst}
+use Rattle.action_terms.specs.Numbering.{Listed}
+use Rattle.action_terms.specs.Meaning.{action_of}
+use Rattle.action_terms.specs.Proper.{IsProper}
+use Rattle.action_terms.proofs.ProperGraphs.{proper-graph}
+use Rattle.action_terms.proofs.graph.Graph.nodes.Goals as goal
+
+pub returns-clause-proper : goal.returns-clause-proper
+returns-clause-proper c =
+    let P : Listed → Type 0 = λ g. IsProper (action_of g) in
+    subst P c.self.view_is (proper-graph _ c.self.invariant)
