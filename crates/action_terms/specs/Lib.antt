@@ -5,11 +5,13 @@ pub mod Yielding
 pub mod Acting
 pub mod Steps
 pub mod Performances
+pub mod Sound
 pub mod Need
 pub mod Labels
 pub mod Trees
 pub mod Numbering
 pub mod Meaning
+pub mod Proper
 pub mod Nodes
 pub mod Places
 pub mod Pushed
