@@ -1,2 +1,5 @@
 pub mod Parts
 pub mod Views
+pub mod Operations
+pub mod TokenOrder
+pub mod Puts

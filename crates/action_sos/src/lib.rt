@@ -3,4 +3,5 @@
 
 mod bindings;
 mod datum;
+mod operations;
 mod part;
