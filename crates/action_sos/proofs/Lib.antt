@@ -1,1 +1,3 @@
-
+pub mod TokenOrders
+pub mod BindingLists
+pub mod Putting

@@ -4,6 +4,7 @@
 mod answers;
 mod bindings;
 mod datum;
+mod operations;
 mod part;
 mod performer;
 

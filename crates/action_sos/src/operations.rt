@@ -1,0 +1,131 @@
+//! The operations of yielders on data. Integers are of 64 bits, signed.
+ghost use Rattle.std.specs.Prelude.{◌≡◌, ◌+ℤ◌, ◌-ℤ◌, ◌*ℤ◌, neg_ℤ, int_rem, int_div, option_map};
+ghost use Rattle.action_terms.specs.Information.{Number, Truth, CellOf};
+ghost use Rattle.action_terms.specs.Yielding.{within_64, divided, of_sort};
+ghost use Rattle.action_sos.specs.Views.{meant};
+ghost use Rattle.action_sos.specs.Operations.{two_of, one_of, given_by_two, given_by_one};
+
+use crate::datum::Datum;
+use action_terms::{Sort, YKind};
+
+/// The datum, where it is of the sort.
+pub fn of_sort<'a>(sort: Sort, datum: Datum<'a>) -> Option<Datum<'a>>
+    ensures { option_map meant result ≡ of_sort sort (meant datum.entry) }
+{
+    match (sort, datum) {
+        (Sort::Integer, Datum::Number(_))
+        | (Sort::Truth, Datum::Truth(_))
+        | (Sort::Cell, Datum::Cell(_))
+        | (Sort::Abstraction, Datum::Closure { .. }) => Some(datum),
+        _ => None,
+    }
+}
+
+fn sum(x: i64, y: i64) -> Option<i64>
+    ensures { option_map Number result ≡ within_64 (x +ℤ y) }
+{
+    x.checked_add(y)
+}
+
+fn difference(x: i64, y: i64) -> Option<i64>
+    ensures { option_map Number result ≡ within_64 (x -ℤ y) }
+{
+    x.checked_sub(y)
+}
+
+fn product(x: i64, y: i64) -> Option<i64>
+    ensures { option_map Number result ≡ within_64 (x *ℤ y) }
+{
+    x.checked_mul(y)
+}
+
+// cut toward 0
+fn quotient(x: i64, y: i64) -> Option<i64>
+    ensures { option_map Number result ≡ divided int_div x y }
+{
+    x.checked_div(y)
+}
+
+// with the sign of x; that of the least integer by -1 is 0, though its quotient is too large
+fn remainder(x: i64, y: i64) -> Option<i64>
+    ensures { option_map Number result ≡ divided int_rem x y }
+{
+    if y == 0 {
+        None
+    } else {
+        Some(x.wrapping_rem(y))
+    }
+}
+
+fn negation(x: i64) -> Option<i64>
+    ensures { option_map Number result ≡ within_64 (neg_ℤ x) }
+{
+    x.checked_neg()
+}
+
+fn number<'a>(value: Option<i64>) -> Option<Datum<'a>>
+    ensures { option_map meant result ≡ option_map Number value }
+{
+    match value {
+        Some(value) => Some(Datum::Number(value)),
+        None => None,
+    }
+}
+
+fn on_numbers<'a>(kind: YKind, x: i64, y: i64) -> Option<Datum<'a>>
+    ensures { option_map meant result ≡ given_by_two (two_of kind) (Number x) (Number y) }
+{
+    match kind {
+        YKind::Sum => number(sum(x, y)),
+        YKind::Difference => number(difference(x, y)),
+        YKind::Product => number(product(x, y)),
+        YKind::Quotient => number(quotient(x, y)),
+        YKind::Remainder => number(remainder(x, y)),
+        YKind::Is => Some(Datum::Truth(x == y)),
+        YKind::Less => Some(Datum::Truth(x < y)),
+        _ => None,
+    }
+}
+
+fn on_truths<'a>(kind: YKind, x: bool, y: bool) -> Option<Datum<'a>>
+    ensures { option_map meant result ≡ given_by_two (two_of kind) (Truth x) (Truth y) }
+{
+    match kind {
+        YKind::Is => Some(Datum::Truth(x == y)),
+        YKind::Both => Some(Datum::Truth(x && y)),
+        YKind::Either => Some(Datum::Truth(x || y)),
+        _ => None,
+    }
+}
+
+fn on_cells<'a>(kind: YKind, x: usize, y: usize) -> Option<Datum<'a>>
+    ensures { option_map meant result ≡ given_by_two (two_of kind) (CellOf x) (CellOf y) }
+{
+    match kind {
+        YKind::Is => Some(Datum::Truth(x == y)),
+        _ => None,
+    }
+}
+
+/// What an operation on two data gives.
+pub fn on_two<'a>(kind: YKind, first: Datum<'a>, second: Datum<'a>) -> Option<Datum<'a>>
+    ensures { option_map meant result ≡ given_by_two (two_of kind) (meant first.entry) (meant second.entry) }
+{
+    match (first, second) {
+        (Datum::Number(x), Datum::Number(y)) => on_numbers(kind, x, y),
+        (Datum::Truth(x), Datum::Truth(y)) => on_truths(kind, x, y),
+        (Datum::Cell(x), Datum::Cell(y)) => on_cells(kind, x, y),
+        _ => None,
+    }
+}
+
+/// What an operation on one datum gives.
+pub fn on_one<'a>(kind: YKind, datum: Datum<'a>) -> Option<Datum<'a>>
+    ensures { option_map meant result ≡ given_by_one (one_of kind) (meant datum.entry) }
+{
+    match (kind, datum) {
+        (YKind::Negation, Datum::Number(x)) => number(negation(x)),
+        (YKind::Not, Datum::Truth(x)) => Some(Datum::Truth(!x)),
+        _ => None,
+    }
+}
