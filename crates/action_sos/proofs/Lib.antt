@@ -1,1 +1,2 @@
-
+pub mod PlacedSteps
+pub mod FramesOpen
