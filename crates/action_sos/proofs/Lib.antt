@@ -1,2 +1,4 @@
 pub mod PlacedSteps
 pub mod FramesOpen
+pub mod PartsPushed
+pub mod PartsCounts
