@@ -181,14 +181,9 @@ own-step (InParRight k x) z e broken = rw e (own_right z broken)
 own-step _ z e broken = absurd e
 
 -- the end of the part beside is taken, and goes on within the outer frames
-pub frames-own : (outer inner : List Frame) (f : Frame) (z : End) → IsBesideEnd z f → IsBroken z → HasStep (frames_steps (outer ++ f ∷ inner)) (length (frames_steps inner)) (inside outer (Ended z)) Silent []
+pub frames-own : (outer inner : List Frame) (f : Frame) (z : End) → IsBesideEnd z f → IsBroken z
+    → HasStep (frames_steps (outer ++ f ∷ inner)) (length (frames_steps inner)) (inside outer (Ended z)) Silent []
 frames-own [] inner f z e broken =
-    let own = HasStep-right (own_steps f) 0 (Ended z) Silent [] (own-step f z e broken) (map (framed f) (frames_steps inner)) in
     let place : length (map (framed f) (frames_steps inner)) + 0 ≡ length (frames_steps inner) = omega (arith, length-map (frames_steps inner) (framed f)) in
-    rw place at own
-frames-own (g ∷ outer) inner f z e broken =
-    let steps = frames_steps (outer ++ f ∷ inner) in
-    let place = length (frames_steps inner) in
-    let t = inside outer (Ended z) in
-    let left = HasStep-left (map (framed g) steps) place (wrap (shut_if false g) t) Silent [] (HasStep-framed steps place t Silent [] (frames-own outer inner f z e broken) g) (own_steps g) in
-    rw (shut_if-false g) at left
+    rw place at (HasStep-right (own-step f z e broken) (map (framed f) (frames_steps inner)))
+frames-own (g ∷ outer) inner f z e broken = rw (shut_if-false g) at (HasStep-left (HasStep-framed (frames-own outer inner f z e broken) g) (own_steps g))

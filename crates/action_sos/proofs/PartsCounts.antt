@@ -22,10 +22,12 @@ pub open-parts : (a : Action) (w : World) (fs : List Frame) (k : ℕ) (x y : Tre
     → open_steps a w (inside fs (Par k x y)) ≡ map (lifted fs) (map (on_side InLeft (λ x'. Par k x' y)) (open_steps a w x) ++ map (on_side InRight (Par k x)) (open_steps a w y)) ++ frames_steps fs
 open-parts a w fs k x y kept gx gy = open-inside a w fs (Par k x y) kept tt ∙ ap (λ l. map (lifted fs) l ++ frames_steps fs) (open-par a w k x y gx gy)
 
-pub length-parts : (fs : List Frame) (h i : Step → Step) (xs ys : List Step) → length (map (lifted fs) (map h xs ++ map i ys) ++ frames_steps fs) ≡ length xs + (length ys + length (frames_steps fs))
+pub length-two_maps : (xs ys : List Step) (h i : Step → Step) → length (map h xs ++ map i ys) ≡ length xs + length ys
+length-two_maps xs ys h i = omega (arith, length-append (map h xs) (map i ys), length-map xs h, length-map ys i)
+
+length-parts : (fs : List Frame) (h i : Step → Step) (xs ys : List Step) → length (map (lifted fs) (map h xs ++ map i ys) ++ frames_steps fs) ≡ length xs + (length ys + length (frames_steps fs))
 length-parts fs h i xs ys =
-    let both = length-append (map h xs) (map i ys) in
-    omega (arith, length-append (map (lifted fs) (map h xs ++ map i ys)) (frames_steps fs), length-map (map h xs ++ map i ys) (lifted fs), both, length-map xs h, length-map ys i)
+    omega (arith, length-append (map (lifted fs) (map h xs ++ map i ys)) (frames_steps fs), length-map (map h xs ++ map i ys) (lifted fs), length-two_maps xs ys h i)
 
 length-open_parts : (a : Action) (w : World) (fs : List Frame) (k : ℕ) (x y : Tree) → All IsKeptFrame fs → IsGoingTree x → IsGoingTree y
     → length (open_steps a w (inside fs (Par k x y))) ≡ length (open_steps a w x) + (length (open_steps a w y) + length (frames_steps fs))

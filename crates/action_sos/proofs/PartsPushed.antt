@@ -15,7 +15,7 @@ pub data Pushes (ts : List Tree) : List Part → List Tree → Type 0 where
   ParPart : (fs : List Frame) (k : ℕ) (y x : Tree) (ps : List Part) (us : List Tree) → Pushes ts ps (y ∷ x ∷ us)
       → Pushes ts (record { frames = fs; focus = Parts k } ∷ ps) (inside fs (Par k x y) ∷ us)
 
-raise-some : (q : Focus) (g : Option ℕ) (h : ℕ) → raise q g ≡ Some h → (h' : ℕ) × (g ≡ Some h')
+pub raise-some : (q : Focus) (g : Option ℕ) (h : ℕ) → raise q g ≡ Some h → (h' : ℕ) × (g ≡ Some h')
 raise-some q (Some h') h e = (h', refl)
 raise-some (Leaf t) None h e = cc
 raise-some (Parts k) None h e = cc

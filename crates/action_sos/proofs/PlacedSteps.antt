@@ -44,7 +44,7 @@ pub record HasStep (steps : List Step) (place : ℕ) (tree : Tree) (effect : Eff
   pub effect_is : step.effect ≡ effect
   pub made_is : step.made ≡ made
 
-module _ (steps : List Step) (i : ℕ) (t : Tree) (e : Effect) (made : List Made) (has : HasStep steps i t e made) where
+module _ {steps : List Step} {i : ℕ} {t : Tree} {e : Effect} {made : List Made} (has : HasStep steps i t e made) where
   pub HasStep-left : (more : List Step) → HasStep (steps ++ more) i t e made
   HasStep-left more = record { step = has.step; at = slice_get-append_left steps more i has.step has.at; tree_is = has.tree_is; effect_is = has.effect_is; made_is = has.made_is }
 
