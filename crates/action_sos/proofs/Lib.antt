@@ -1,3 +1,10 @@
 pub mod TokenOrders
 pub mod BindingLists
 pub mod Putting
+pub mod PlacedSteps
+pub mod FramesOpen
+pub mod Fronts
+pub mod PartsPushed
+pub mod PartsCounts
+pub mod StepsAround
+pub mod PartsSteps

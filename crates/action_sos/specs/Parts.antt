@@ -4,7 +4,7 @@ use Rattle.action_terms.specs.Information.{World}
 use Rattle.action_terms.specs.Actions.{Action}
 use Rattle.action_terms.specs.Acting.{End, Esc, Fail, Done, Tree, Run, Ended, Par}
 use Rattle.action_terms.specs.Steps.{TakesLeft, TakesRight, Step, at_letter, after_broken, open_steps}
-use Rattle.action_terms.proofs.Contexts.{Frame, InParLeft, InParRight, InOr, wrap, shut_if, framed}
+use Rattle.action_terms.proofs.Contexts.{Frame, InParLeft, InParRight, InOr, InTail, wrap, shut_if, framed}
 
 -- what stands within the frames of a part: a tree that runs or has ended, or the two parts of node k, which are parts of their own
 pub data Focus : Type 0 where
@@ -57,9 +57,11 @@ abbrev pub IsBeside : Tree → Type 0
 IsBeside (Ended z) = Unit {0}
 IsBeside _ = ⊥
 
+-- a frame of an acting tree, where the part beside has ended
 abbrev pub IsKeptFrame : Frame → Type 0
 IsKeptFrame (InParLeft k y) = IsBeside y
 IsKeptFrame (InParRight k x) = IsBeside x
+IsKeptFrame (InTail n) = ⊥
 IsKeptFrame _ = Unit {0}
 
 abbrev pub AreKept : Part → Type 0
