@@ -4,6 +4,9 @@
 mod answers;
 mod bindings;
 mod datum;
+mod end_steps;
+mod moves;
+mod node_steps;
 mod operations;
 mod part;
 mod performer;
