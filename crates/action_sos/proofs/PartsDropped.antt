@@ -4,6 +4,7 @@ use Rattle.std.specs.Prelude.{Option, Some, None, option_map}
 use Rattle.std.proofs.lemmas.Option.{same_Some}
 use Rattle.action_terms.specs.Acting.{Tree}
 use Rattle.action_sos.specs.Parts.{Focus, Leaf, Parts, Part, trees, raise, height}
+use Rattle.action_sos.proofs.PartsSteps.{under}
 use Rattle.action_sos.proofs.PartsPushed.{raise-some, pushed-append, pushed-above, height-behind, height-above, height-trees}
 
 -- how many trees are still wanted after a part, where so many more are wanted beside the one that it spells
@@ -81,3 +82,9 @@ pub dropped-two : (ps : List Part) (m : ℕ) → spans 2 ps ≡ Some m → (y x 
 dropped-two ps m at =
     let two = two-of (trees (take m ps)) (height-trees (take m ps) 2 (spans-height 2 ps m at)) in
     (two.0, two.1, trees-dropped 2 ps m at ∙ ap (λ l. l ++ trees (drop m ps)) two.2)
+
+-- the trees below a node's two parts are those of the parts behind them
+pub under-dropped : (k : ℕ) (ps : List Part) (m : ℕ) → spans 2 ps ≡ Some m → under (Parts k) (trees ps) ≡ trees (drop m ps)
+under-dropped k ps m at =
+    let two = dropped-two ps m at in
+    ap (under (Parts k)) two.2

@@ -85,11 +85,16 @@ pub height-merged_right : (fs : List Frame) (k : ℕ) (z : End) (p : Part) (rest
     → height (parent_part fs k ∷ ended_part z ∷ p ∷ rest) h ≡ height (beside fs (InParLeft k (Ended z)) p ∷ rest) h
 height-merged_right fs k z p rest h = raise-merged k (Ended z) p.focus (height rest h)
 
+height-one_more : (ps : List Part) (n : ℕ) → height ps 0 ≡ Some 1 → height ps n ≡ Some (suc n)
+height-one_more ps n high =
+    let start : n ≡ 0 + n = omega arith in
+    let sum : 1 + n ≡ suc n = omega arith in
+    ap (height ps) start ∙ height-above ps 0 1 n high ∙ ap Some sum
+
 pub height-merged_left : (fs : List Frame) (k : ℕ) (z : End) (p : Part) (middle rest : List Part) (h g : ℕ) → height (p ∷ middle) 0 ≡ Some 1 → height rest h ≡ Some g
     → height (parent_part fs k ∷ p ∷ (middle ++ ended_part z ∷ rest)) h ≡ height (beside fs (InParRight k (Ended z)) p ∷ (middle ++ rest)) h
 height-merged_left fs k z p middle rest h g high low =
-    let above : (n : ℕ) → height (p ∷ middle) n ≡ Some (suc n) = λ n. (let start : 0 + n ≡ n = omega arith in ap (height (p ∷ middle)) (sym start)) ∙ height-above (p ∷ middle) 0 1 n high ∙ (let more : 1 + n ≡ suc n = omega arith in ap Some more) in
     let with_end : height (p ∷ (middle ++ ended_part z ∷ rest)) h ≡ Some (suc (suc g)) =
-    ap (raise p.focus) (height-append middle (ended_part z ∷ rest) h (suc g) (ap (raise (Leaf (Ended z))) low)) ∙ above (suc g) in
-    let without : height (p ∷ (middle ++ rest)) h ≡ Some (suc g) = ap (raise p.focus) (height-append middle rest h g low) ∙ above g in
+    ap (raise p.focus) (height-append middle (ended_part z ∷ rest) h (suc g) (ap (raise (Leaf (Ended z))) low)) ∙ height-one_more (p ∷ middle) (suc g) high in
+    let without : height (p ∷ (middle ++ rest)) h ≡ Some (suc g) = ap (raise p.focus) (height-append middle rest h g low) ∙ height-one_more (p ∷ middle) g high in
     ap (raise (Parts k)) with_end ∙ sym without
