@@ -6,5 +6,10 @@ pub mod FramesOpen
 pub mod Fronts
 pub mod PartsPushed
 pub mod PartsCounts
+pub mod PartsClosed
+pub mod PartsBut
 pub mod StepsAround
 pub mod PartsSteps
+pub mod PartsMerged
+pub mod TreesMerged
+pub mod PartsDropped

@@ -1,18 +1,19 @@
 -- A step of a part is one of the whole tree.
-use Rattle.std.proofs.Common.{◌≡◌, ℕ, suc, ◌+◌, List, [], ◌∷◌, ◌++◌, All, map, length, refl, sym, ap, subst, ◌∙◌, length-append, arith}
+use Rattle.std.proofs.Common.{◌≡◌, ℕ, suc, ◌+◌, List, [], ◌∷◌, ◌++◌, All, map, length, refl, sym, ap, subst, ◌∙◌, arith}
 use Rattle.std.specs.Prelude.{Some, slice_get}
 use Rattle.std.proofs.lemmas.List.{length-map}
-use Rattle.std.proofs.lemmas.List.Elements.{All-nil, All-head, All-tail}
+use Rattle.std.proofs.lemmas.List.Elements.{All-head, All-tail}
 use Rattle.action_terms.specs.Information.{World}
 use Rattle.action_terms.specs.Actions.{Action}
 use Rattle.action_terms.specs.Acting.{Tree, Par}
 use Rattle.action_terms.specs.Steps.{InLeft, InRight, Step, commits, on_side, open_steps}
 use Rattle.action_terms.proofs.Contexts.{Frame}
-use Rattle.action_sos.specs.Parts.{Focus, Leaf, Parts, Part, inside, push_focus, pushed, trees, tree_of, first_tree, raise, height, IsGoing, IsKeptFrame, AreKept, IsTree, lifted, frames_steps, focus_steps, part_steps, open_count, closed_before}
+use Rattle.action_sos.specs.Parts.{Focus, Leaf, Parts, Part, inside, push_focus, pushed, trees, tree_of, first_tree, raise, height, IsKeptFrame, AreKept, IsTree, lifted, frames_steps, focus_steps, part_steps, open_count, closed_before}
 use Rattle.action_sos.proofs.PlacedSteps.{HasStep, HasStep-right}
 use Rattle.action_sos.proofs.FramesOpen.{IsGoingTree, open-inside, open-par}
 use Rattle.action_sos.proofs.Fronts.{All-front, All-back}
 use Rattle.action_sos.proofs.StepsAround.{step-around}
+use Rattle.action_sos.proofs.PartsBut.{IsTree-going_around}
 use Rattle.action_sos.proofs.PartsPushed.{trees-going, raise-some, height-trees, height-behind, pushed-append}
 use Rattle.action_sos.proofs.PartsCounts.{total, length-two_maps, count-trees}
 
@@ -48,14 +49,6 @@ OfTree-focus a w fs (Parts k) (y ∷ x ∷ ts) j n h at kept going high =
     let whole = subst (λ l. HasStep l (length parts + j) n.tree n.effect n.made) (sym (open-inside a w fs (Par k x y) kept tt)) (HasStep-right (HasStep-self (frames_steps fs) j n at) parts) in
     let many : length parts ≡ length (open_steps a w x) + length (open_steps a w y) = length-map (open_steps a w (Par k x y)) (lifted fs) ∙ ap length (open-par a w k x y gx gy) ∙ length-two_maps (open_steps a w x) (open_steps a w y) (on_side InLeft (λ x'. Par k x' y)) (on_side InRight (Par k x)) in
     record { tree = inside fs (Par k x y); place = length parts + j; spelt = refl; has = whole; count = omega (arith, many); going = All-tail IsGoingTree x ts behind }
-
--- the parts around a part of a tree are going, whatever that part is
-pub IsTree-going_around : (before : List Part) (p : Part) (behind : List Part) → IsTree (before ++ p ∷ behind) → All IsGoing before × All IsGoing behind
-IsTree-going_around [] p [] tree = (All-nil IsGoing, All-nil IsGoing)
-IsTree-going_around [] p (q ∷ behind) tree = (All-nil IsGoing, All-tail IsGoing p (q ∷ behind) (tree.going (omega arith)))
-IsTree-going_around (q ∷ before) p behind tree =
-    let all = tree.going (omega (arith, length-append before (p ∷ behind))) in
-    (All-front IsGoing (q ∷ before) (p ∷ behind) all, All-tail IsGoing p behind (All-back IsGoing (q ∷ before) (p ∷ behind) all))
 
 -- a step of a part is one of the whole: it stands behind those of the parts behind, and the part and those that it takes become the parts `changed`
 pub stepped : (a : Action) (w : World) (before : List Part) (p : Part) (behind : List Part) (j : ℕ) (n : Step) (changed : List Part)

@@ -14,9 +14,8 @@ use Rattle.action_sos.proofs.FramesOpen.{IsGoingTree}
 use Rattle.action_sos.proofs.PartsPushed.{Pushes-pushed, Pushes-going, raise-some, height-pushed}
 use Rattle.action_sos.proofs.PartsCounts.{total, open-parts}
 
--- ---- two parts within frames
+-- ---- two parts within frames: the left part's steps come first, then the right part's, then those of the frames
 
--- the steps of the two parts, and then those of the whole around them
 step-left : (a : Action) (w : World) (fs : List Frame) (k : ℕ) (x y : Tree) → All IsKeptFrame fs → IsGoingTree x → IsGoingTree y
     → (i : ℕ) (t : Tree) (e : Effect) (made : List Made) → HasStep (open_steps a w x) i t e made
     → HasStep (open_steps a w (inside fs (Par k x y))) i (inside (map (shut_if (commits e)) fs) (Par k t y)) e made
