@@ -8,6 +8,7 @@ ghost use Rattle.action_terms.specs.Sound.{IsSoundTree};
 ghost use Rattle.action_terms.proofs.Contexts.{wrap};
 ghost use Rattle.action_sos.specs.Views.{frame_of, end_of};
 ghost use Rattle.action_sos.specs.Moves.{action_in, next_tree, IsStepAt, ended_steps};
+ghost use Rattle.action_sos.specs.declared.moves.Lists.{Lists};
 
 use crate::datum::End;
 use crate::moves::{Lists, Next};
@@ -31,9 +32,9 @@ pub fn step_of_end<'a>(
     end: End<'a>,
     choice: u64,
 ) -> Result<Next<'a>, Memory>
-    requires proper { IsProper (action_in graph.entry) }
-    requires sound { IsSoundTree (action_in graph.entry) (wrap (frame_of frame.entry) (Ended (end_of end.entry))) }
-    requires open { (w : World) → choice < length (ended_steps graph.entry frame.entry end.entry w) }
+    requires proper { IsProper (action_in graph) }
+    requires sound { IsSoundTree (action_in graph) (wrap (frame_of frame) (Ended (end_of end))) }
+    requires open { (w : World) → choice < length (ended_steps graph frame end w) }
     ensures { IfOk result (λ next. (w : World) → IsStepAt (ended_steps graph.entry frame.entry end.entry w) choice Silent (next_tree next)) }
 {
     Err(Memory)

@@ -11,9 +11,9 @@ use std::alloc::Global;
 
 /// How many steps of a node that runs stand open: two for `or`, one for all others.
 pub fn count_of_node(graph: Lists<'_>, node: u32) -> u64
-    requires proper { IsProper (action_in graph.entry) }
-    requires there { node.entry < length graph.entry.nodes.now }
-    ensures { (r : _) (w : World) → result ≡ length (node_steps graph.entry node.entry r w) }
+    requires proper { IsProper (action_in graph) }
+    requires there { node < length graph.nodes.now }
+    ensures { (r : _) (w : World) → result ≡ length (node_steps graph.entry node r w) }
 {
     1
 }
@@ -28,9 +28,9 @@ pub fn step_of_node<'a>(
     outside: Outside<'_, 'a>,
     choice: u64,
 ) -> Result<Move<'a>, Memory>
-    requires proper { IsProper (action_in graph.entry) }
-    requires there { node.entry < length graph.entry.nodes.now }
-    requires open { (w : World) → IsOutside outside.entry w → choice < length (node_steps graph.entry node received.entry w) }
+    requires proper { IsProper (action_in graph) }
+    requires there { node < length graph.nodes.now }
+    requires open { (w : World) → IsOutside outside w → choice < length (node_steps graph node received w) }
     ensures { IfOk result (λ m. (w : World) → IsOutside outside.entry w →
         IsStepAt (node_steps graph.entry node received.entry w) choice (effect_of m.change) (next_tree m.next)) }
 {
