@@ -11,6 +11,7 @@ use Rattle.action_terms.specs.Steps.{InLeft, InRight, TakesLeft, TakesRight, Sil
 use Rattle.action_terms.proofs.Contexts.{Frame, InCalled, InParLeft, InParRight, InFirst, InSecond, InOr, InCut, InTrap, InOver, InTail, wrap, shut_if, framed, shut_all-false}
 use Rattle.action_sos.specs.Parts.{inside, IsKeptFrame, lifted, own_steps, frames_steps}
 use Rattle.action_sos.proofs.PlacedSteps.{HasStep, HasStep-left, HasStep-right, HasStep-framed}
+pub use Rattle.action_sos.specs.Parts.{IsBroken, IsBesideEnd}
 
 -- the tree has not ended as a whole
 abbrev pub IsGoingTree : Tree → Type 0
@@ -150,17 +151,6 @@ open-par a w k x y gx gy =
     (ap (λ l. map (on_side InLeft (λ x'. Par k x' y)) (open_steps a w x) ++ l) (append-nil _))
 
 -- ---- the steps of frames themselves
-
--- the end of the part beside becomes that of the whole
-abbrev pub IsBroken : End → Type 0
-IsBroken (Done d b) = ⊥
-IsBroken _ = Unit {0}
-
--- the frame is that of a part whose other part has ended so
-abbrev pub IsBesideEnd : End → Frame → Type 0
-IsBesideEnd z (InParLeft k y) = y ≡ Ended z
-IsBesideEnd z (InParRight k x) = x ≡ Ended z
-IsBesideEnd z _ = ⊥
 
 shut_if-false : (f : Frame) → shut_if false f ≡ f
 shut_if-false f = let h = shut_all-false (f ∷ []) in cc

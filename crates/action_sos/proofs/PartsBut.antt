@@ -6,6 +6,7 @@ use Rattle.action_sos.specs.Parts.{Part, height, IsGoing, AreKept, IsTree, close
 use Rattle.action_sos.proofs.Fronts.{All-front, All-back}
 use Rattle.action_sos.proofs.PartsPushed.{height-append}
 use Rattle.action_sos.proofs.PartsClosed.{height-closed_before, closed_before-going, closed_before-kept, length-closed_before}
+pub use Rattle.action_sos.specs.Parts.{IsTreeBut}
 
 -- the parts around a part of a tree are going, whatever that part is
 pub IsTree-going_around : (before : List Part) (p : Part) (behind : List Part) → IsTree (before ++ p ∷ behind) → All IsGoing before × All IsGoing behind
@@ -14,13 +15,6 @@ IsTree-going_around [] p (q ∷ behind) tree = (All-nil IsGoing, All-tail IsGoin
 IsTree-going_around (q ∷ before) p behind tree =
     let all = tree.going (omega (arith, length-append before (p ∷ behind))) in
     (All-front IsGoing (q ∷ before) (p ∷ behind) all, All-tail IsGoing p behind (All-back IsGoing (q ∷ before) (p ∷ behind) all))
-
--- parts spell one tree, and none has ended as a whole but perhaps one
-pub record IsTreeBut (before : List Part) (p : Part) (behind : List Part) : Type 0 where
-  pub one : height (before ++ p ∷ behind) 0 ≡ Some 1
-  pub going_before : All IsGoing before
-  pub going_behind : All IsGoing behind
-  pub kept : All AreKept (before ++ p ∷ behind)
 
 pub IsTree-but : (before : List Part) (p : Part) (behind : List Part) → IsTree (before ++ p ∷ behind) → IsTreeBut before p behind
 IsTree-but before p behind tree =

@@ -6,17 +6,7 @@ use Rattle.action_terms.specs.Acting.{Tree}
 use Rattle.action_sos.specs.Parts.{Focus, Leaf, Parts, Part, trees, raise, height}
 use Rattle.action_sos.proofs.PartsSteps.{under}
 use Rattle.action_sos.proofs.PartsPushed.{raise-some, pushed-append, pushed-above, height-behind, height-above, height-trees}
-
--- how many trees are still wanted after a part, where so many more are wanted beside the one that it spells
-abbrev pub wanted : Focus → ℕ → ℕ
-wanted (Leaf t) need = need
-wanted (Parts k) need = suc (suc need)
-
--- how many parts at the front spell so many trees; none where the parts are too few
-abbrev pub spans : ℕ → List Part → Option ℕ
-spans zero ps = Some 0
-spans (suc need) [] = None
-spans (suc need) (p ∷ ps) = option_map suc (spans (wanted p.focus need) ps)
+pub use Rattle.action_sos.specs.Parts.{wanted, spans}
 
 mapped : (o : Option ℕ) (m : ℕ) → option_map suc o ≡ Some m → (m' : ℕ) × (o ≡ Some m') × (m ≡ suc m')
 mapped None m e = cc

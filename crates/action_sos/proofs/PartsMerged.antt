@@ -6,18 +6,7 @@ use Rattle.action_terms.proofs.Contexts.{Frame, InParLeft, InParRight, wrap}
 use Rattle.action_sos.specs.Parts.{Focus, Leaf, Parts, Part, inside, push_focus, push, pushed, trees, tree_of, first_tree, raise, height}
 use Rattle.action_sos.proofs.FramesOpen.{inside-behind}
 use Rattle.action_sos.proofs.PartsPushed.{pushed-append, pushed-above, height-append, height-above, height-trees}
-
--- a part that has ended as a whole
-abbrev pub ended_part : End → Part
-ended_part z = record { frames = []; focus = Leaf (Ended z) }
-
--- the parent of two parts
-abbrev pub parent_part : List Frame → ℕ → Part
-parent_part fs k = record { frames = fs; focus = Parts k }
-
--- a part within further frames: those of its parent, and one for the part beside it
-abbrev pub beside : List Frame → Frame → Part → Part
-beside fs f p = record p { frames = fs ++ f ∷ p.frames }
+pub use Rattle.action_sos.specs.Parts.{ended_part, parent_part, beside}
 
 -- ---- the trees
 

@@ -1,5 +1,6 @@
 pub mod Parts
 pub mod Views
+pub mod Kept
 pub mod Moves
 pub mod Codes
 pub mod Performers

@@ -1,5 +1,5 @@
 -- How a performer keeps an acting tree: as parts that run side by side, each within frames.
-use Rattle.std.specs.Prelude.{◌≡◌, ℕ, zero, suc, ◌+◌, ◌<◌, Bool, true, false, List, [], ◌∷◌, ◌++◌, All, Option, Some, None, map, length}
+use Rattle.std.specs.Prelude.{◌≡◌, ℕ, zero, suc, ◌+◌, ◌<◌, Bool, true, false, List, [], ◌∷◌, ◌++◌, All, Option, Some, None, map, length, option_map}
 use Rattle.action_terms.specs.Information.{World}
 use Rattle.action_terms.specs.Actions.{Action}
 use Rattle.action_terms.specs.Acting.{End, Esc, Fail, Done, Tree, Run, Ended, Par}
@@ -73,6 +73,13 @@ pub record IsTree (ps : List Part) : Type 0 where
   pub going : 1 < length ps → All IsGoing ps
   pub kept : All AreKept ps
 
+-- parts spell one tree, and none has ended as a whole but perhaps one
+pub record IsTreeBut (before : List Part) (p : Part) (behind : List Part) : Type 0 where
+  pub one : height (before ++ p ∷ behind) 0 ≡ Some 1
+  pub going_before : All IsGoing before
+  pub going_behind : All IsGoing behind
+  pub kept : All AreKept (before ++ p ∷ behind)
+
 abbrev pub first_tree : List Tree → Tree
 first_tree (t ∷ ts) = t
 first_tree [] = Ended Fail
@@ -133,3 +140,39 @@ between_all (p ∷ ps) = between p.focus (between_all ps)
 abbrev pub closed_before : Bool → List Part → List Part
 closed_before q [] = []
 closed_before q (p ∷ ps) = closed_around q p.focus (between_all ps) p ∷ closed_before q ps
+
+-- ---- a part that has ended beside another
+
+-- the end of the part beside becomes that of the whole
+abbrev pub IsBroken : End → Type 0
+IsBroken (Done d b) = ⊥
+IsBroken _ = Unit {0}
+
+-- the frame is that of a part whose other part has ended so
+abbrev pub IsBesideEnd : End → Frame → Type 0
+IsBesideEnd z (InParLeft k y) = y ≡ Ended z
+IsBesideEnd z (InParRight k x) = x ≡ Ended z
+IsBesideEnd z _ = ⊥
+
+-- a part that has ended as a whole
+abbrev pub ended_part : End → Part
+ended_part z = record { frames = []; focus = Leaf (Ended z) }
+
+-- the parent of two parts
+abbrev pub parent_part : List Frame → ℕ → Part
+parent_part fs k = record { frames = fs; focus = Parts k }
+
+-- a part within further frames: those of its parent, and one for the part beside it
+abbrev pub beside : List Frame → Frame → Part → Part
+beside fs f p = record p { frames = fs ++ f ∷ p.frames }
+
+-- how many trees are still wanted after a part, where so many more are wanted beside the one that it spells
+abbrev pub wanted : Focus → ℕ → ℕ
+wanted (Leaf t) need = need
+wanted (Parts k) need = suc (suc need)
+
+-- how many parts at the front spell so many trees; none where the parts are too few
+abbrev pub spans : ℕ → List Part → Option ℕ
+spans zero ps = Some 0
+spans (suc need) [] = None
+spans (suc need) (p ∷ ps) = option_map suc (spans (wanted p.focus need) ps)

@@ -1,11 +1,11 @@
 -- What data, frames and parts in memory stand for.
-use Rattle.std.specs.Prelude.{ℕ, List, [], ◌∷◌, map, Option, Some, None, option_map, slice_get}
+use Rattle.std.specs.Prelude.{ℕ, zero, suc, true, List, [], ◌∷◌, ◌++◌, map, Option, Some, None, option_map, slice_get}
 use Rattle.action_terms.specs.Information.{Datum as Meant, Number, Truth, CellOf, Closure, Binds, NoBinds, Bound, Token, Data, Storage}
 use Rattle.action_terms.specs.Actions.{Item}
 use Rattle.action_terms.specs.Numbering.{ListedYielder}
 use Rattle.action_terms.specs.Meaning.{item_or_them, items_from, picked}
 use Rattle.action_terms.specs.Acting.{End as EndMeant, Done, Esc, Fail, Run, Ended}
-use Rattle.action_terms.proofs.Contexts.{Frame as FrameMeant, InCalled, InParLeft, InParRight, InFirst, InSecond, InOr, InCut, InTrap, InOver}
+use Rattle.action_terms.proofs.Contexts.{Frame as FrameMeant, InCalled, InParLeft, InParRight, InFirst, InSecond, InOr, InCut, InTrap, InOver, shut_if}
 use Rattle.action_sos.specs.Parts.{Focus as FocusMeant, Leaf, Parts, Part as PartMeant}
 use Rattle.action_sos.specs.declared.datum.Datum.{Datum, Datum-F, fold-Datum}
 use Rattle.action_sos.specs.declared.datum.Datum.TheOpen as open_data
@@ -17,6 +17,8 @@ use Rattle.action_sos.specs.declared.part.Frame.{Frame}
 use Rattle.action_sos.specs.declared.part.Frame.TheVariants as frame
 use Rattle.action_sos.specs.declared.part.Focus.{Focus}
 use Rattle.action_sos.specs.declared.part.Focus.TheVariants as focus
+use Rattle.action_sos.specs.declared.part.Frames.{Frames, Frames-F, fold-Frames}
+use Rattle.action_sos.specs.declared.part.Frames.TheOpen as open_frames
 use Rattle.action_sos.specs.declared.part.Part.{Part}
 
 -- a token and the datum that it is bound to
@@ -73,8 +75,26 @@ focus_of (focus.Run k d b) = Leaf (Run k (data_of d.now) (bindings_of b.now))
 focus_of (focus.Ended z) = Leaf (Ended (end_of z))
 focus_of (focus.Parts k) = Parts k
 
+-- one level of the frames around a part
+abbrev pub frames_step : Frames-F (List FrameMeant) → List FrameMeant
+frames_step open_frames.Outermost = []
+frames_step (open_frames.Inner f around) = around.now ++ frame_of f ∷ []
+
+-- the frames, the outermost first
+abbrev pub frames_of : Frames → List FrameMeant
+frames_of = fold-Frames (List FrameMeant) frames_step
+
+-- in so many of the outermost frames each alternative is closed
+abbrev pub closed_first : ℕ → List FrameMeant → List FrameMeant
+closed_first zero fs = fs
+closed_first (suc n) [] = []
+closed_first (suc n) (f ∷ fs) = shut_if true f ∷ closed_first n fs
+
 abbrev pub part_of : Part → PartMeant
-part_of p = record { frames = map frame_of p.frames.items; focus = focus_of p.focus }
+part_of p = record { frames = closed_first p.closed (frames_of p.frames); focus = focus_of p.focus }
+
+abbrev pub parts_of : List Part → List PartMeant
+parts_of ps = map part_of ps
 
 -- the storage of cells in memory
 abbrev pub storage_of : List (Option Datum) → Storage

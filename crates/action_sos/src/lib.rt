@@ -9,6 +9,7 @@ mod moves;
 mod node_steps;
 mod operations;
 mod part;
+mod parts;
 mod performer;
 
 pub use answers::{Moved, Outcome};

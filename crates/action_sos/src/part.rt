@@ -1,6 +1,14 @@
 //! A part of an acting tree that runs, and the frames around it.
+ghost use Rattle.std.specs.Prelude.{◌≡◌, ◌+◌, ◌<◌, ◌≤◌, [], ◌∷◌, ◌++◌, true, length, IfOk, IfSome, IfNone};
+ghost use Rattle.action_sos.specs.Parts.{closes};
+ghost use Rattle.action_sos.specs.Views.{frame_of, focus_of, end_of, part_of};
+ghost use Rattle.action_sos.specs.Kept.{own_count, IsCounted, IsBrokenOff};
 
 use crate::datum::{Binding, Datum, End};
+use crate::moves::Received;
+use acg_base::Memory;
+use bumpalo::Bump;
+use std::alloc::Global;
 
 /// One of the two parts of `and` or `moreover`.
 #[derive(Clone, Copy, PartialEq, Eq)]
@@ -92,15 +100,120 @@ pub enum Focus<'a> {
     },
 }
 
+/// The frames around a part.
+#[cycle(frames)]
+#[derive(Clone, Copy)]
+pub enum Frames<'a> {
+    /// There are none.
+    Outermost,
+    /// A frame, and those around it.
+    Inner {
+        /// The frame.
+        frame: Frame<'a>,
+        /// The frames around it.
+        around: &'a Frames<'a>,
+    },
+}
+
 /// A part of an acting tree.
-#[derive(Drop)]
+#[derive(Clone, Copy)]
 pub struct Part<'a> {
-    /// What stands around, the outermost first.
-    pub frames: Vec<Frame<'a>>,
-    /// In the first so many frames no alternative is open.
+    /// What stands around.
+    pub frames: Frames<'a>,
+    /// How many frames there are.
+    pub depth: usize,
+    /// In so many of the outermost frames each alternative is closed, also where the frame says that it is open.
     pub closed: usize,
     /// How many frames stand beside a part that has escaped or failed.
     pub broken: usize,
     /// What stands within.
     pub focus: Focus<'a>,
+}
+
+/// How many steps of its own a frame has while its part goes on: one where it stands beside a part that has escaped or failed.
+pub fn own_count(frame: Frame<'_>) -> usize
+    ensures count { result ≡ own_count frame.entry }
+    ensures bound { result ≤ 1 }
+{
+    match frame {
+        Frame::Beside {
+            end: End::Escaped { .. } | End::Failed,
+            ..
+        } => 1,
+        _ => 0,
+    }
+}
+
+impl<'a> Part<'a> {
+    /// A part with no frames.
+    pub fn bare(focus: Focus<'a>) -> Part<'a>
+        ensures part { part_of result ≡ record { frames = []; focus = focus_of focus.entry } }
+        ensures counted { IsCounted result }
+    {
+        Part {
+            frames: Frames::Outermost,
+            depth: 0,
+            closed: 0,
+            broken: 0,
+            focus,
+        }
+    }
+
+    /// The part with each alternative of its frames closed.
+    pub fn with_all_closed(self) -> Part<'a>
+        requires counted { IsCounted self }
+        ensures part { part_of result ≡ closes true (part_of self.entry) }
+        ensures counted { IsCounted result }
+    {
+        Part {
+            closed: self.depth,
+            ..self
+        }
+    }
+
+    /// The innermost frame as it stands, and the part without it; nothing where there is no frame.
+    pub fn split_inmost(self) -> Option<(Frame<'a>, Part<'a>)>
+        requires counted { IsCounted self }
+        ensures frames { IfSome result (λ r. (part_of self.entry).frames ≡ (part_of r.1).frames ++ frame_of r.0 ∷ []) }
+        ensures focus { IfSome result (λ r. r.1.focus ≡ self.entry.focus) }
+        ensures counted { IfSome result (λ r. IsCounted r.1) }
+        ensures none { IfNone result ((part_of self.entry).frames ≡ []) }
+    {
+        None
+    }
+
+    /// The part with one more frame, the innermost.
+    pub fn within(self, arena: &'a Bump, frame: Frame<'a>) -> Result<Part<'a>, Memory>
+        requires counted { IsCounted self }
+        ensures part { IfOk result (λ p. part_of p ≡ record { frames = (part_of self.entry).frames ++ frame_of frame.entry ∷ []; focus = (part_of self.entry).focus }) }
+        ensures counted { IfOk result (λ p. IsCounted p) }
+    {
+        Err(Memory)
+    }
+
+    /// The part around a frame beside a part that has escaped or failed, and how that has ended. The index counts these frames from the innermost on.
+    pub fn break_off(self, index: usize) -> (Part<'a>, End<'a>)
+        requires counted { IsCounted self }
+        requires there { index < self.broken }
+        ensures frames { IsBrokenOff (part_of self.entry).frames index (part_of result.0).frames (end_of result.1) }
+        ensures counted { IsCounted result.0 }
+    {
+        (self, End::Failed)
+    }
+
+    /// What is left of two parts where one has ended: the frames of the node of both, the frame that says how one has ended, and the other part within.
+    pub fn beside(
+        self,
+        alloc: Global,
+        arena: &'a Bump,
+        frame: Frame<'a>,
+        inner: Part<'a>,
+    ) -> Result<Part<'a>, Memory>
+        requires counted { IsCounted self }
+        requires inner_counted { IsCounted inner }
+        ensures part { IfOk result (λ p. part_of p ≡ record { frames = (part_of self.entry).frames ++ frame_of frame.entry ∷ (part_of inner.entry).frames; focus = (part_of inner.entry).focus }) }
+        ensures counted { IfOk result (λ p. IsCounted p) }
+    {
+        Err(Memory)
+    }
 }
