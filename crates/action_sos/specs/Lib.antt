@@ -2,6 +2,7 @@ pub mod Parts
 pub mod Views
 pub mod Kept
 pub mod Moves
+pub mod Plans
 pub mod Codes
 pub mod Performers
 pub mod Schedules

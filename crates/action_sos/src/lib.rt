@@ -11,6 +11,7 @@ mod operations;
 mod part;
 mod parts;
 mod performer;
+mod plan;
 
 pub use answers::{Moved, Outcome};
 pub use performer::Performer;
