@@ -1,3 +1,10 @@
 pub mod TokenOrders
 pub mod BindingLists
 pub mod Putting
+pub mod DataLists
+pub mod ItemsAt
+pub mod ItemValues
+pub mod Stacks
+pub mod Opening
+pub mod Turns
+pub mod Answered

@@ -3,3 +3,4 @@ pub mod Views
 pub mod Operations
 pub mod TokenOrder
 pub mod Puts
+pub mod Evaluation

@@ -5,3 +5,4 @@ mod bindings;
 mod datum;
 mod operations;
 mod part;
+mod yielding;
