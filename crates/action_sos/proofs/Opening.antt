@@ -28,50 +28,54 @@ then-two : {A B D : Type 0} (f : B → Option D) (g : A → A → B) (o p : Opti
 then-two f g None p = refl
 then-two f g (Some x) p = then-some f (g x) p
 
-module _ (c : Context) (n : ℕ) (js : List Job) (vs : List (Option Datum)) where
-  -- the item that is an argument
+module _ (c : Context) (n : ℕ) where
+  -- the yielder, and the item that is an argument
+  abbrev node : YNode → YNode
+  node d = get_or c.yielders.now n d
+
   abbrev argument_item : ℕ → Item
   argument_item x = item_at (map listed_yielder c.yielders.now) (max x (suc n))
-
-  abbrev after_value : Option Datum → Option (Option Datum)
-  after_value v = finished c js (v ∷ vs)
 
   abbrev value_of : Item → Option (Option Datum)
   value_of i = item_value i (data_of c.given.now) (bindings_of c.bound.now) (storage_of c.cells.now)
 
-  opened-value : (t : Token) (body : ℕ) (k : YKind) (a : Arguments) (xs : List ℕ) → arguments_of k ≡ a → (a ≡ arguments.Zero → ⊥) →
-      option_and_then (λ os. finished c (os ++ js) vs) (opened_by a n k xs) ≡ option_and_then after_value (value_of (item_of k t body (map argument_item xs)))
-  opened-value t body k arguments.Zero xs e h = absurd (h refl)
-  opened-value t body k arguments.One [] e h = sym (ap (option_and_then after_value) (value-not_one t body _ _ _ k [] e (λ i p. cc)))
-  opened-value t body k arguments.One (x ∷ []) e h =
-      sym (ap (option_and_then after_value) (value-one t body _ _ _ k (argument_item x) e)
-      ∙ then-some after_value (one_value k (storage_of c.cells.now)) (value_at c (max x (suc n))))
-  opened-value t body k arguments.One (x ∷ y ∷ zs) e h = sym (ap (option_and_then after_value) (value-not_one t body _ _ _ k (map argument_item (x ∷ y ∷ zs)) e (λ i p. cc)))
-  opened-value t body k arguments.Two [] e h = sym (ap (option_and_then after_value) (value-not_two t body _ _ _ k [] e (λ i j p. cc)))
-  opened-value t body k arguments.Two (x ∷ []) e h = sym (ap (option_and_then after_value) (value-not_two t body _ _ _ k (argument_item x ∷ []) e (λ i j p. cc)))
-  opened-value t body k arguments.Two (x ∷ y ∷ []) e h =
-      sym (ap (option_and_then after_value) (value-two t body _ _ _ k (argument_item x) (argument_item y) e)
-      ∙ then-two after_value (two_value k) (value_at c (max x (suc n))) (value_at c (max y (suc n))))
-  opened-value t body k arguments.Two (x ∷ y ∷ z ∷ zs) e h = sym (ap (option_and_then after_value) (value-not_two t body _ _ _ k (map argument_item (x ∷ y ∷ z ∷ zs)) e (λ i j p. cc)))
-  opened-value t body k arguments.Unfit xs e h = sym (ap (option_and_then after_value) (value-unfit t body _ _ _ k (map argument_item xs) e))
+  pub value_at-leaf : (d : YNode) → n < length c.yielders.now → arguments_of (node d).kind ≡ arguments.Zero →
+      value_at c n ≡ Some (leaf_value (node d).kind (node d).token.now (node d).body (data_of c.given.now) (bindings_of c.bound.now))
+  value_at-leaf d h e = ap value_of (item_at-node c.yielders.now n d h)
+      ∙ value-leaf (node d).token.now (node d).body _ _ _ (node d).kind (map argument_item (node d).children.now) e
 
-  module _ (d : YNode) (h : n < length c.yielders.now) where
-    abbrev node : YNode
-    node = get_or c.yielders.now n d
+  module _ (js : List Job) (vs : List (Option Datum)) where
+    abbrev after_value : Option Datum → Option (Option Datum)
+    after_value v = finished c js (v ∷ vs)
 
-    pub visit-leaf : arguments_of node.kind ≡ arguments.Zero →
-        finished c (job.Visit n ∷ js) vs ≡ finished c js (leaf_value node.kind node.token.now node.body (data_of c.given.now) (bindings_of c.bound.now) ∷ vs)
-    visit-leaf e = ap (λ i. option_and_then after_value (value_of i)) (item_at-node c.yielders.now n d h)
-        ∙ ap (option_and_then after_value) (value-leaf node.token.now node.body _ _ _ node.kind (map argument_item node.children.now) e)
+    opened-value : (t : Token) (body : ℕ) (k : YKind) (a : Arguments) (xs : List ℕ) → arguments_of k ≡ a → (a ≡ arguments.Zero → ⊥) →
+        option_and_then (λ os. finished c (os ++ js) vs) (opened_by a n k xs) ≡ option_and_then after_value (value_of (item_of k t body (map argument_item xs)))
+    opened-value t body k arguments.Zero xs e h = absurd (h refl)
+    opened-value t body k arguments.One [] e h = sym (ap (option_and_then after_value) (value-not_one t body _ _ _ k [] e (λ i p. cc)))
+    opened-value t body k arguments.One (x ∷ []) e h =
+        sym (ap (option_and_then after_value) (value-one t body _ _ _ k (argument_item x) e)
+        ∙ then-some after_value (one_value k (storage_of c.cells.now)) (value_at c (max x (suc n))))
+    opened-value t body k arguments.One (x ∷ y ∷ zs) e h = sym (ap (option_and_then after_value) (value-not_one t body _ _ _ k (map argument_item (x ∷ y ∷ zs)) e (λ i p. cc)))
+    opened-value t body k arguments.Two [] e h = sym (ap (option_and_then after_value) (value-not_two t body _ _ _ k [] e (λ i j p. cc)))
+    opened-value t body k arguments.Two (x ∷ []) e h = sym (ap (option_and_then after_value) (value-not_two t body _ _ _ k (argument_item x ∷ []) e (λ i j p. cc)))
+    opened-value t body k arguments.Two (x ∷ y ∷ []) e h =
+        sym (ap (option_and_then after_value) (value-two t body _ _ _ k (argument_item x) (argument_item y) e)
+        ∙ then-two after_value (two_value k) (value_at c (max x (suc n))) (value_at c (max y (suc n))))
+    opened-value t body k arguments.Two (x ∷ y ∷ z ∷ zs) e h = sym (ap (option_and_then after_value) (value-not_two t body _ _ _ k (map argument_item (x ∷ y ∷ z ∷ zs)) e (λ i j p. cc)))
+    opened-value t body k arguments.Unfit xs e h = sym (ap (option_and_then after_value) (value-unfit t body _ _ _ k (map argument_item xs) e))
 
-    pub visit-opened : (arguments_of node.kind ≡ arguments.Zero → ⊥) →
-        finished c (job.Visit n ∷ js) vs ≡ option_and_then (λ os. finished c (os ++ js) vs) (opened n node.kind node.children.now)
-    visit-opened other = ap (λ i. option_and_then after_value (value_of i)) (item_at-node c.yielders.now n d h)
-        ∙ sym (opened-value node.token.now node.body node.kind (arguments_of node.kind) node.children.now refl other)
+    pub visit-leaf : (d : YNode) → n < length c.yielders.now → arguments_of (node d).kind ≡ arguments.Zero →
+        finished c (job.Visit n ∷ js) vs ≡ finished c js (leaf_value (node d).kind (node d).token.now (node d).body (data_of c.given.now) (bindings_of c.bound.now) ∷ vs)
+    visit-leaf d h e = ap (option_and_then after_value) (value_at-leaf d h e)
 
-  pub visit-past : length c.yielders.now ≤ n → finished c (job.Visit n ∷ js) vs ≡ None
-  visit-past h = ap (λ i. option_and_then after_value (value_of i))
-      (item_at-past (map listed_yielder c.yielders.now) n (subst (λ k. k ≤ n) (sym (length-map c.yielders.now listed_yielder)) h))
+    pub visit-opened : (d : YNode) → n < length c.yielders.now → (arguments_of (node d).kind ≡ arguments.Zero → ⊥) →
+        finished c (job.Visit n ∷ js) vs ≡ option_and_then (λ os. finished c (os ++ js) vs) (opened n (node d).kind (node d).children.now)
+    visit-opened d h other = ap (λ i. option_and_then after_value (value_of i)) (item_at-node c.yielders.now n d h)
+        ∙ sym (opened-value (node d).token.now (node d).body (node d).kind (arguments_of (node d).kind) (node d).children.now refl other)
+
+    pub visit-past : length c.yielders.now ≤ n → finished c (job.Visit n ∷ js) vs ≡ None
+    visit-past h = ap (λ i. option_and_then after_value (value_of i))
+        (item_at-past (map listed_yielder c.yielders.now) n (subst (λ k. k ≤ n) (sym (length-map c.yielders.now listed_yielder)) h))
 
 -- the jobs that are left, where a yielder is opened
 then-jobs : {A : Type 0} (f : List Job → Option A) (js : List Job) (o : Option (List Job)) →
@@ -93,4 +97,4 @@ opened-going c n js vs ws d h other going left e same =
     ∙ ap (option_and_then (λ os. finished c os vs)) e
     ∙ sym (visit-opened c n js vs d h other ∙ then-jobs (λ os. finished c os vs) js (opened n (get_or c.yielders.now n d).kind (get_or c.yielders.now n d).children.now))
 
-pub ruleset openings = (visit-past, visit-leaf, opened-going)
+pub ruleset openings = (visit-past, visit-leaf, value_at-leaf)

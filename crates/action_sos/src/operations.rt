@@ -129,3 +129,28 @@ pub fn on_one<'a>(kind: YKind, datum: Datum<'a>) -> Option<Datum<'a>>
         _ => None,
     }
 }
+
+#[cfg(test)]
+mod tests {
+    use super::*;
+
+    #[test]
+    fn integers_have_64_bits(rt: HostRuntime) {
+        assert_eq!(rt; sum(i64::MAX, 1), None);
+        assert_eq!(rt; difference(i64::MIN, 1), None);
+        assert_eq!(rt; product(i64::MAX, -1), Some(-i64::MAX));
+        assert_eq!(rt; product(i64::MIN, -1), None);
+        assert_eq!(rt; negation(i64::MIN), None);
+    }
+
+    #[test]
+    fn quotients_are_cut_toward_zero(rt: HostRuntime) {
+        assert_eq!(rt; quotient(-7, 2), Some(-3));
+        assert_eq!(rt; remainder(-7, 2), Some(-1));
+        assert_eq!(rt; remainder(7, -2), Some(1));
+        assert_eq!(rt; quotient(7, 0), None);
+        assert_eq!(rt; remainder(7, 0), None);
+        assert_eq!(rt; quotient(i64::MIN, -1), None);
+        assert_eq!(rt; remainder(i64::MIN, -1), Some(0));
+    }
+}

@@ -1,5 +1,6 @@
 //! What yielders yield.
-ghost use Rattle.std.specs.Prelude.{◌≡◌, ◌∷◌, ◌+◌, IsTrue, length, map, suc, ◌<◌, ◌^◌, max, Some, None, IfOk, OnOk, ◌++◌, option_map, slice_get, if◌then◌else◌};
+ghost use Rattle.std.specs.Prelude.{◌≡◌, ◌∷◌, ◌+◌, IsTrue, length, map, suc, ◌<◌, ◌^◌, max, Some, None, IfOk, OnOk, IfSome, ◌++◌, option_map, slice_get, if◌then◌else◌};
+ghost use Rattle.action_terms.specs.Information.{Closure};
 ghost use Rattle.action_terms.specs.Actions.{Yielder, Single, Them};
 ghost use Rattle.action_terms.specs.Nodes.{listed_yielder};
 ghost use Rattle.action_terms.specs.Yielding.{stored, set_content, yields, item_yields, both_data, items_yield};
@@ -86,6 +87,17 @@ fn placed<'a>(given: &[Datum<'a>], place: u32) -> Option<Datum<'a>>
     }
 }
 
+// a closure that isn't bound to a token of its own
+fn closure<'a>(body: u32, bound: &'a [Binding<'a>]) -> Datum<'a>
+    ensures { meant result ≡ Closure body (bindings_of bound.now) None }
+{
+    Datum::Closure {
+        body,
+        bound,
+        own: None,
+    }
+}
+
 // what a yielder without arguments yields
 fn leaf_value<'a>(
     node: YNode<'a>,
@@ -99,11 +111,7 @@ fn leaf_value<'a>(
         YKind::Truth(b) => Some(Datum::Truth(b)),
         YKind::Given { sort, place } => of_sort(sort, placed(given, place)?),
         YKind::Bound { sort } => of_sort(sort, lookup(bound, node.token)?),
-        YKind::Closure => Some(Datum::Closure {
-            body: node.body,
-            bound,
-            own: None,
-        }),
+        YKind::Closure => Some(closure(node.body, bound)),
         _ => None,
     }
 }
@@ -247,6 +255,21 @@ impl<'a> Walk<'a> {
     }
 }
 
+// the value of a yielder without arguments
+#[tactic(auto, using(crate::proofs::Opening::openings))]
+fn leaf_at<'a>(context: &Context<'a, '_>, number: usize) -> Option<Option<Datum<'a>>>
+    ensures { IfSome result (λ value. value_at context.now number ≡ Some (option_map meant value)) }
+{
+    if number >= context.yielders.len() {
+        return None;
+    }
+    let node = context.yielders[number];
+    match arguments_of(node.kind) {
+        Arguments::Zero => Some(leaf_value(node, context.given, context.bound)),
+        _ => None,
+    }
+}
+
 // the value of a yielder, or `None` where the number is that of none
 fn evaluate<'a>(
     alloc: Global,
@@ -255,6 +278,10 @@ fn evaluate<'a>(
 ) -> Result<Option<Option<Datum<'a>>>, AllocError>
     ensures { IfOk result (λ value. option_map (option_map meant) value ≡ value_at context.now number) }
 {
+    // most yielders have no arguments, and need no stacks
+    if let Some(value) = leaf_at(context, number) {
+        return Ok(Some(value));
+    }
     let mut walk = Walk {
         jobs: Vec::new(alloc),
         values: Vec::new(alloc),
@@ -345,3 +372,6 @@ pub fn yielded_items<'a>(
     }
     Ok(Some(into_bump_slice(items)))
 }
+
+#[cfg(test)]
+mod tests;
