@@ -13,3 +13,10 @@ pub mod PartsSteps
 pub mod PartsMerged
 pub mod TreesMerged
 pub mod PartsDropped
+pub mod DataLists
+pub mod ItemsAt
+pub mod ItemValues
+pub mod Stacks
+pub mod Opening
+pub mod Turns
+pub mod Answered

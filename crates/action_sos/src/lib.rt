@@ -15,3 +15,4 @@ mod plan;
 
 pub use answers::{Moved, Outcome};
 pub use performer::Performer;
+mod yielding;
