@@ -13,3 +13,5 @@ pub mod PartsSteps
 pub mod PartsMerged
 pub mod TreesMerged
 pub mod PartsDropped
+pub mod NodesOfKind
+pub mod EndedParts

@@ -7,3 +7,5 @@ pub mod Schedules
 pub mod Operations
 pub mod TokenOrder
 pub mod Puts
+pub mod Made
+pub mod Ends
