@@ -20,3 +20,5 @@ pub mod Stacks
 pub mod Opening
 pub mod Turns
 pub mod Answered
+pub mod NodesOfKind
+pub mod EndedParts

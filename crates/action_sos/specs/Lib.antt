@@ -10,3 +10,5 @@ pub mod Operations
 pub mod TokenOrder
 pub mod Puts
 pub mod Evaluation
+pub mod Made
+pub mod Ends

@@ -3,8 +3,10 @@
 
 mod answers;
 mod bindings;
+mod data;
 mod datum;
 mod end_steps;
+mod joins;
 mod moves;
 mod node_steps;
 mod operations;
