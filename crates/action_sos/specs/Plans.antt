@@ -31,6 +31,11 @@ kept_frames p = map (shut_if (commits (effect_of p.change))) (part_of p.part).fr
 pub record IsPlan (steps : List Step) (index : ℕ) (p : Plan) : Type 0 where
   pub step : IsStepAt steps index (effect_of p.change) (inside (kept_frames p) (next_tree p.next))
 
+-- a part with no more frames, and whose counts are right
+pub record IsKeptPart (old new : Part) : Type 0 where
+  pub counted : IsCounted new
+  pub fewer : length (part_of new).frames ≤ length (part_of old).frames
+
 -- the parts in place of one after a step of it, within these frames
 abbrev pub next_parts : List Frame → Next → List PartMeant
 next_parts fs (next.Ended z) = record { frames = fs; focus = Leaf (Ended (end_of z)) } ∷ []

@@ -3,6 +3,7 @@
 
 mod answers;
 mod bindings;
+mod changed;
 mod data;
 mod datum;
 mod end_steps;
@@ -14,7 +15,7 @@ mod part;
 mod parts;
 mod performer;
 mod plan;
+mod yielding;
 
 pub use answers::{Moved, Outcome};
 pub use performer::Performer;
-mod yielding;

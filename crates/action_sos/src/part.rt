@@ -130,6 +130,19 @@ pub struct Part<'a> {
     pub focus: Focus<'a>,
 }
 
+impl<'a> Focus<'a> {
+    /// A node that is to be performed.
+    pub fn run(node: u32, received: Received<'a>) -> Focus<'a>
+        ensures { result ≡ Focus.Run node received.entry.given received.entry.bound }
+    {
+        Focus::Run {
+            node,
+            given: received.given,
+            bound: received.bound,
+        }
+    }
+}
+
 /// How many steps of its own a frame has while its part goes on: one where it stands beside a part that has escaped or failed.
 pub fn own_count(frame: Frame<'_>) -> usize
     ensures count { result ≡ own_count frame.entry }

@@ -2,11 +2,11 @@
 ghost use Rattle.std.specs.Prelude.{◌≡◌, ℕ, suc, ◌+◌, ◌^◌, ◌<◌, ◌≤◌, All, length, drop, get_or, IfOk};
 ghost use Rattle.action_terms.specs.Information.{World};
 ghost use Rattle.action_terms.specs.Proper.{IsProper};
-ghost use Rattle.action_sos.specs.Parts.{part_steps, open_count, IsGoing};
+ghost use Rattle.action_sos.specs.Parts.{frames_steps, part_steps, open_count};
 ghost use Rattle.action_sos.specs.Views.{part_of, parts_of};
 ghost use Rattle.action_sos.specs.Kept.{IsCounted, weight};
 ghost use Rattle.action_sos.specs.Moves.{action_in, IsOutside};
-ghost use Rattle.action_sos.specs.Plans.{IsSoundPart, IsPlan};
+ghost use Rattle.action_sos.specs.Plans.{IsSoundPart, IsPlan, IsKeptPart};
 
 use crate::datum::End;
 use crate::end_steps::{count_of_end, step_of_end};
@@ -96,12 +96,113 @@ pub fn find_step(graph: Lists<'_>, parts: &[Part<'_>], choice: u64) -> (usize, u
     }
 }
 
-// The step that takes the end of a part beside.
-fn plan_of_break(part: Part<'_>, index: u64) -> Plan<'_> {
+// The step of this index among those of the frames around a part, each of which takes the end of a part beside.
+fn plan_of_break(part: Part<'_>, index: u64) -> Plan<'_>
+    requires counted { IsCounted part }
+    requires there { index < part.broken }
+    ensures plan { IsPlan (frames_steps (part_of part.entry).frames) index result }
+    ensures kept { IsKeptPart part.entry result.part }
+{
     let (part, end) = part.break_off(index as usize);
     Plan {
         part,
         change: Change::Silent,
         next: Next::Ended(end),
+    }
+}
+
+// The step of this index, of a part whose node runs.
+fn plan_of_run<'a>(
+    alloc: Global,
+    arena: &'a Bump,
+    graph: Lists<'a>,
+    part: Part<'a>,
+    node: u32,
+    received: Received<'a>,
+    outside: Outside<'_, 'a>,
+    index: u64,
+) -> Result<Plan<'a>, Memory>
+    requires proper { IsProper (action_in graph) }
+    requires counted { IsCounted part }
+    requires sound { IsSoundPart (action_in graph) (part_of part) }
+    requires focus { part.focus ≡ Focus.Run node received.given received.bound }
+    requires open { (w : World) → IsOutside outside w → index < length (part_steps (action_in graph) w (part_of part)) }
+    ensures plan { IfOk result (λ plan. (w : World) → IsOutside outside.entry w →
+        IsPlan (part_steps (action_in graph.entry) w (part_of part.entry)) index plan) }
+    ensures kept { IfOk result (λ plan. IsKeptPart part.entry plan.part) }
+{
+    let count = count_of_node(graph, node);
+    if index < count {
+        let step = step_of_node(alloc, arena, graph, node, received, outside, index)?;
+        return Ok(Plan {
+            part,
+            change: step.change,
+            next: step.next,
+        });
+    }
+    Ok(plan_of_break(part, index - count))
+}
+
+// The step of this index, of a part in which everything has ended.
+fn plan_of_ended<'a>(
+    arena: &'a Bump,
+    graph: Lists<'a>,
+    part: Part<'a>,
+    end: End<'a>,
+    index: u64,
+) -> Result<Plan<'a>, Memory>
+    requires proper { IsProper (action_in graph) }
+    requires counted { IsCounted part }
+    requires sound { IsSoundPart (action_in graph) (part_of part) }
+    requires focus { part.focus ≡ Focus.Ended end }
+    requires open { (w : World) → index < length (part_steps (action_in graph) w (part_of part)) }
+    ensures plan { IfOk result (λ plan. (w : World) →
+        IsPlan (part_steps (action_in graph.entry) w (part_of part.entry)) index plan) }
+    ensures kept { IfOk result (λ plan. IsKeptPart part.entry plan.part) }
+{
+    let Some((frame, around)) = part.split_inmost() else {
+        unreachable!();
+    };
+    let count = count_of_end(frame, end);
+    if index < count {
+        return Ok(Plan {
+            part: around,
+            change: Change::Silent,
+            next: step_of_end(arena, graph, frame, end, index)?,
+        });
+    }
+    Ok(plan_of_break(around, index - count))
+}
+
+/// What the part's own step of this index makes of it.
+pub fn plan_of_part<'a>(
+    alloc: Global,
+    arena: &'a Bump,
+    graph: Lists<'a>,
+    part: Part<'a>,
+    outside: Outside<'_, 'a>,
+    index: u64,
+) -> Result<Plan<'a>, Memory>
+    requires proper { IsProper (action_in graph) }
+    requires counted { IsCounted part }
+    requires sound { IsSoundPart (action_in graph) (part_of part) }
+    requires open { (w : World) → IsOutside outside w → index < length (part_steps (action_in graph) w (part_of part)) }
+    ensures plan { IfOk result (λ plan. (w : World) → IsOutside outside.entry w →
+        IsPlan (part_steps (action_in graph.entry) w (part_of part.entry)) index plan) }
+    ensures kept { IfOk result (λ plan. IsKeptPart part.entry plan.part) }
+{
+    match part.focus {
+        Focus::Run { node, given, bound } => plan_of_run(
+            alloc,
+            arena,
+            graph,
+            part,
+            node,
+            Received { given, bound },
+            outside,
+            index,
+        ),
+        Focus::Ended(end) => plan_of_ended(arena, graph, part, end, index),
+        Focus::Parts { .. } => Ok(plan_of_break(part, index)),
     }
 }
