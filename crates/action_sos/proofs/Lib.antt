@@ -22,3 +22,5 @@ pub mod Turns
 pub mod Answered
 pub mod NodesOfKind
 pub mod EndedParts
+pub mod Worlds
+pub mod StepsTaken

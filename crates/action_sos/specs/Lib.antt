@@ -5,6 +5,7 @@ pub mod Moves
 pub mod Plans
 pub mod Codes
 pub mod Performers
+pub mod Performed
 pub mod Schedules
 pub mod Operations
 pub mod TokenOrder

@@ -15,6 +15,7 @@ mod part;
 mod parts;
 mod performer;
 mod plan;
+mod world;
 mod yielding;
 
 pub use answers::{Moved, Outcome};

@@ -1,37 +1,73 @@
 //! A performer: the performance of an action, a step at a time.
-ghost use Rattle.std.specs.Prelude.{◌≡◌, ◌<◌, ◌↔◌, IfOk, OnOk, OnErr, length};
+ghost use Rattle.std.specs.Prelude.{◌≡◌, ◌<◌, ◌↔◌, IfOk, OnOk, OnErr, All, length};
 ghost use Rattle.action_terms.specs.Performances.{start};
-ghost use Rattle.action_sos.specs.Performers.{Performing, steps_of, moved_to, IsEnd, Takes};
+ghost use Rattle.action_sos.specs.Parts.{IsTree, tree_of};
+ghost use Rattle.action_sos.specs.Views.{parts_of};
+ghost use Rattle.action_sos.specs.Kept.{IsCounted};
+ghost use Rattle.action_sos.specs.Performers.{steps_of, moved_to, IsEnd, Takes};
 
-use crate::answers::Moved;
+use crate::answers::{Moved, Outcome};
+use crate::changed::changed;
+use crate::datum::End;
+use crate::moves::{Lists, Received};
+use crate::part::{Focus, Part};
+use crate::plan::{count_of_parts, find_step, plan_of_part};
+use crate::world::World;
 use acg_base::Memory;
 use action_terms::Graph;
 use bumpalo::Bump;
 use std::alloc::Global;
 use std::marker::Model;
 
-/// A performance of an action over the integers of an input, and how far it has come.
+/// The performance of an action over the integers of an input, and how far it has come.
+///
+/// Its acting tree is kept as the parts that run side by side, each within a stack of frames. A step costs about as much as there are
+/// such parts and the data that it moves, and not as much as the tree is deep.
 #[derive(Drop)]
 pub struct Performer<'a> {
-    graph: &'a [u8],
-    count: u64,
-    output: Vec<i64>,
+    alloc: Global,
+    arena: &'a Bump,
+    graph: Lists<'a>,
+    parts: Vec<Part<'a>>,
+    // no more steps than this stand open
+    bound: u64,
+    world: World<'a>,
 }
 
 impl<'a> Model for Performer<'a> {
-    ghost use Rattle.std.specs.Prelude.{[]};
     ghost use Rattle.std.specs.Coded.{codes};
     ghost use Rattle.action_sos.specs.Codes.{datum_code, tree_code};
     ghost use Rattle.action_sos.specs.Performers.{Performing};
-    ghost use Rattle.action_terms.specs.Performances.{start};
+    ghost use Rattle.action_sos.specs.Performed.{performing_of, IsPerformer};
 
     ghost Value = { Performing };
 
     ghost coded = { Prim.hlevel (codes, datum_code, tree_code) };
 
-    ghost view = { λ p. record { graph = record { nodes = []; yielders = [] }; state = start [] } };
+    ghost view = { λ p. performing_of p.graph p.parts.items p.world };
 
-    ghost invariant = { λ p. ⊥ };
+    ghost invariant = { λ p. IsPerformer p.graph p.parts.items p.world p.bound };
+}
+
+// Whether the parts are an end, and which.
+fn moved(parts: &[Part<'_>]) -> Moved
+    requires tree { IsTree (parts_of parts.now) }
+    requires counted { All IsCounted parts.now }
+    ensures { result ≡ moved_to (tree_of (parts_of parts.now)) }
+{
+    let [Part {
+        depth: 0,
+        focus: Focus::Ended(end),
+        ..
+    }] = parts
+    else {
+        return Moved::Went;
+    };
+    Moved::Ended(match end {
+        End::Done { .. } => Outcome::Completed,
+        End::Escaped { .. } => Outcome::Escaped,
+        End::Failed => Outcome::Failed,
+    })
 }
 
 impl<'a> Performer<'a> {
@@ -44,7 +80,24 @@ impl<'a> Performer<'a> {
     ) -> Result<Performer<'a>, Memory>
         ensures starts { IfOk result (λ p. p ≡ record { graph = graph.now; state = start input.now }) }
     {
-        Err(Memory)
+        let lists = Lists {
+            nodes: graph.nodes(),
+            yielders: graph.yielders(),
+        };
+        let received = Received {
+            given: &[],
+            bound: &[],
+        };
+        let mut parts = Vec::new(alloc);
+        parts.push(Part::bare(Focus::run(0, received)))?;
+        Ok(Performer {
+            alloc,
+            arena,
+            graph: lists,
+            parts,
+            bound: 2,
+            world: World::new(alloc, input)?,
+        })
     }
 
     /// How many steps stand open; 0 exactly at an end. Takes no memory.
@@ -52,7 +105,7 @@ impl<'a> Performer<'a> {
         ensures count { result ≡ length (steps_of self.now) }
         ensures at_end { result ≡ 0 ↔ IsEnd self.now.state.tree }
     {
-        0
+        count_of_parts(self.graph, &self.parts)
     }
 
     /// Takes the open step with the index `choice`. After `Memory` the performer is as before.
@@ -62,13 +115,27 @@ impl<'a> Performer<'a> {
         ensures moved { IfOk result (λ m. m ≡ moved_to self.new.state.tree) }
         ensures kept { OnErr result (self.new ≡ self.old) }
     {
-        Err(Memory)
+        let bound = self.bound.checked_add(4).ok_or(Memory)?;
+        let (place, index) = find_step(self.graph, &self.parts, choice);
+        let plan = plan_of_part(
+            self.alloc,
+            self.arena,
+            self.graph,
+            self.parts[place],
+            self.world.outside(),
+            index,
+        )?;
+        let parts = changed(self.alloc, self.arena, &self.parts, place, plan)?;
+        self.world.change(plan.change)?;
+        self.parts = parts;
+        self.bound = bound;
+        Ok(moved(&self.parts))
     }
 
     /// The messages so far. Takes no memory.
     pub fn output(&self) -> &[i64]
         ensures { result.now ≡ self.now.state.world.output }
     {
-        self.output.as_slice()
+        self.world.output.as_slice()
     }
 }
