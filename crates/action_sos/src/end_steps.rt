@@ -1,5 +1,5 @@
 //! The steps of a whole whose part has ended.
-ghost use Rattle.std.specs.Prelude.{◌≡◌, ◌≢◌, ◌<◌, ℕ, ◌∷◌, [], Some, length, slice_get, IfOk, IsTrue, ◌↔◌};
+ghost use Rattle.std.specs.Prelude.{◌≡◌, ◌≢◌, ◌<◌, ◌∷◌, [], Some, length, slice_get, IfOk, IsTrue, ◌↔◌};
 ghost use Rattle.action_terms.specs.Information.{World};
 ghost use Rattle.action_terms.specs.Acting.{Ended};
 ghost use Rattle.action_terms.specs.Actions.{Stray, node_at};
@@ -7,7 +7,7 @@ ghost use Rattle.action_terms.specs.Steps.{Silent, second_part, after_first, aft
 ghost use Rattle.action_terms.specs.Proper.{IsProper};
 ghost use Rattle.action_terms.specs.Sound.{IsBoth, IsPhases, IsTrapping, IsSoundTree};
 ghost use Rattle.action_terms.proofs.Contexts.{wrap};
-ghost use Rattle.action_sos.specs.Views.{data_of, bindings_of, frame_of, end_of};
+ghost use Rattle.action_sos.specs.Views.{bindings_of, frame_of, end_of};
 ghost use Rattle.action_sos.specs.Moves.{action_in, given_of, bound_of, next_tree, IsStepAt, ended_steps};
 ghost use Rattle.action_sos.specs.Made.{IsMadeOf};
 ghost use Rattle.action_sos.specs.Ends.{IsBroken, both_trees};
