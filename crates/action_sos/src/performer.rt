@@ -2,9 +2,9 @@
 ghost use Rattle.std.specs.Prelude.{◌≡◌, ◌<◌, ◌↔◌, IfOk, OnOk, OnErr, All, length};
 ghost use Rattle.action_terms.specs.Performances.{start};
 ghost use Rattle.action_sos.specs.Parts.{IsTree, tree_of};
-ghost use Rattle.action_sos.specs.Views.{parts_of};
+ghost use Rattle.action_sos.specs.Views.{end_of, parts_of};
 ghost use Rattle.action_sos.specs.Kept.{IsCounted};
-ghost use Rattle.action_sos.specs.Performers.{steps_of, moved_to, IsEnd, Takes};
+ghost use Rattle.action_sos.specs.Performers.{steps_of, outcome_of, moved_to, IsEnd, Takes};
 
 use crate::answers::{Moved, Outcome};
 use crate::changed::changed;
@@ -49,25 +49,34 @@ impl<'a> Model for Performer<'a> {
     ghost invariant = { λ p. IsPerformer p.graph p.parts.items p.world p.bound };
 }
 
+// The outcome of an end.
+fn outcome(end: End<'_>) -> Outcome
+    ensures { result ≡ outcome_of (end_of end.entry) }
+{
+    match end {
+        End::Done { .. } => Outcome::Completed,
+        End::Escaped { .. } => Outcome::Escaped,
+        End::Failed => Outcome::Failed,
+    }
+}
+
 // Whether the parts are an end, and which.
 fn moved(parts: &[Part<'_>]) -> Moved
     requires tree { IsTree (parts_of parts.now) }
     requires counted { All IsCounted parts.now }
     ensures { result ≡ moved_to (tree_of (parts_of parts.now)) }
 {
-    let [Part {
-        depth: 0,
-        focus: Focus::Ended(end),
-        ..
-    }] = parts
-    else {
+    if parts.len() != 1 {
         return Moved::Went;
-    };
-    Moved::Ended(match end {
-        End::Done { .. } => Outcome::Completed,
-        End::Escaped { .. } => Outcome::Escaped,
-        End::Failed => Outcome::Failed,
-    })
+    }
+    let part = parts[0];
+    if part.depth != 0 {
+        return Moved::Went;
+    }
+    match part.focus {
+        Focus::Ended(end) => Moved::Ended(outcome(end)),
+        _ => Moved::Went,
+    }
 }
 
 impl<'a> Performer<'a> {
