@@ -24,3 +24,5 @@ pub mod NodesOfKind
 pub mod EndedParts
 pub mod Worlds
 pub mod StepsTaken
+pub mod OpenLengths
+pub mod PerformerEnds

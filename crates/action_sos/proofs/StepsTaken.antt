@@ -1,5 +1,5 @@
 -- What becomes of a performer by a step of one of its parts.
-use Rattle.std.proofs.Common.{◌≡◌, ℕ, zero, suc, ◌+◌, ◌<◌, ◌≤◌, List, [], ◌∷◌, ◌++◌, All, map, length, take, drop, get_or, refl, sym, ap, ap₂, subst, ◌∙◌, take-append-drop, arith}
+use Rattle.std.proofs.Common.{◌≡◌, ℕ, zero, suc, ◌+◌, ◌<◌, ◌≤◌, ◌^◌, List, [], ◌∷◌, ◌++◌, All, map, length, take, drop, get_or, refl, sym, ap, ap₂, subst, ◌∙◌, take-append-drop, arith}
 use Rattle.std.specs.Prelude.{Option, Some, None, slice_get}
 use Rattle.std.proofs.Math.Seq.{drop-cons}
 use Rattle.std.proofs.lemmas.List.{get_or-map, length-map}
@@ -59,18 +59,18 @@ pub around-place : (ps : List Part) (place : ℕ) (d : Part) → place < length 
 around-place ps place d h =
     let within : place < length (parts_of ps) = rw (length-map ps part_of) h in
     sym (take-append-drop place (parts_of ps))
-    ∙ ap (λ l. take place (parts_of ps) ++ l) (drop-cons (parts_of ps) place (part_of d) within ∙ ap (λ p. p ∷ drop (suc place) (parts_of ps)) (get_or-map part_of ps place d))
+    ∙ ap (λ l. take place (parts_of ps) ++ l) (drop-cons (parts_of ps) place (part_of d) within ∙ ap (λ p. p ∷ drop (suc place) (parts_of ps)) (get_or-map part_of ps place d (part_of d) h))
 
 -- the step of the part at a place, of the index among its own steps, is taken, and the parts are those that its plan makes
 pub taken : (g : Lists) (ps : List Part) (w : World) (bound place index choice : ℕ) (d : Part) (plan : Plan) (new : List Part) (w' : World) (bound' : ℕ)
     → IsPerformer g ps w bound → place < length ps
     → choice ≡ open_count (action_in g) (world_of w) (drop (suc place) (parts_of ps)) + index
     → IsPlan (part_steps (action_in g) (world_of w) (part_of (get_or ps place d))) index plan
-    → IsTree (parts_of new) → All IsCounted new → weight (parts_of new) ≤ bound'
+    → IsTree (parts_of new) → All IsCounted new → weight (parts_of new) ≤ bound' → bound' < 2 ^ 64
     → tree_of (parts_of new) ≡ tree_of (closed_before (commits (effect_of plan.change)) (take place (parts_of ps)) ++ (next_parts (kept_frames plan) plan.next ++ left_behind (part_of (get_or ps place d)).focus (drop (suc place) (parts_of ps))))
     → world_of w' ≡ world_after (effect_of plan.change) (world_of w)
     → Takes choice (performing_of g ps w) (performing_of g new w') × IsPerformer g new w' bound'
-taken g ps w bound place index choice d plan new w' bound' old within at planned tree' counted' bounded' changed world' =
+taken g ps w bound place index choice d plan new w' bound' old within at planned tree' counted' bounded' small' changed world' =
     let a = action_in g in
     let before = take place (parts_of ps) in
     let p = part_of (get_or ps place d) in
@@ -95,4 +95,4 @@ taken g ps w bound place index choice d plan new w' bound' old within at planned
     let sound : IsSound a (after has.step (performing_of g ps w).state) =
         sound-after a (performing_of g ps w).state has.step old.proper old.sound (one-of (open_steps a (world_of w) (tree_of (parts_of ps))) choice has.step stands) in
     ((has.step, stands, ap (λ s. record { graph = listed_of g; state = s }) state),
-     record { proper = old.proper; sound = subst (IsSound a) (sym state) sound; tree = tree'; counted = counted'; bounded = bounded' })
+     record { proper = old.proper; sound = subst (IsSound a) (sym state) sound; tree = tree'; counted = counted'; bounded = bounded'; small = small' })

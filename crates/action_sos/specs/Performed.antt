@@ -1,5 +1,5 @@
 -- What a performer's memory stands for, and what always holds of it.
-use Rattle.std.specs.Prelude.{◌≤◌, ℕ, List, All, drop}
+use Rattle.std.specs.Prelude.{◌<◌, ◌≤◌, ◌^◌, ℕ, List, All, drop}
 use Rattle.action_terms.specs.Information.{World as WorldMeant}
 use Rattle.action_terms.specs.Proper.{IsProper}
 use Rattle.action_terms.specs.Sound.{IsSound}
@@ -25,3 +25,4 @@ pub record IsPerformer (g : Lists) (ps : List Part) (w : World) (bound : ℕ) : 
   pub tree : IsTree (parts_of ps)
   pub counted : All IsCounted ps
   pub bounded : weight (parts_of ps) ≤ bound
+  pub small : bound < 2 ^ 64

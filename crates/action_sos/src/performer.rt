@@ -124,7 +124,9 @@ impl<'a> Performer<'a> {
         ensures moved { IfOk result (λ m. m ≡ moved_to self.new.state.tree) }
         ensures kept { OnErr result (self.new ≡ self.old) }
     {
-        let bound = self.bound.checked_add(4).ok_or(Memory)?;
+        if self.bound > u64::MAX - 4 {
+            return Err(Memory);
+        }
         let (place, index) = find_step(self.graph, &self.parts, choice);
         let plan = plan_of_part(
             self.alloc,
@@ -137,7 +139,7 @@ impl<'a> Performer<'a> {
         let parts = changed(self.alloc, self.arena, &self.parts, place, plan)?;
         self.world.change(plan.change)?;
         self.parts = parts;
-        self.bound = bound;
+        self.bound += 4;
         Ok(moved(&self.parts))
     }
 
