@@ -13,3 +13,7 @@ pub mod PartsSteps
 pub mod PartsMerged
 pub mod TreesMerged
 pub mod PartsDropped
+pub mod OperandItems
+pub mod NodeForms
+pub mod NodeMoves
+pub mod NodeSteps

@@ -7,3 +7,4 @@ pub mod Schedules
 pub mod Operations
 pub mod TokenOrder
 pub mod Puts
+pub mod Running

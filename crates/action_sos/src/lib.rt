@@ -3,6 +3,7 @@
 
 mod answers;
 mod bindings;
+mod compounds;
 mod datum;
 mod end_steps;
 mod moves;
@@ -10,6 +11,9 @@ mod node_steps;
 mod operations;
 mod part;
 mod performer;
+mod primitives;
+mod running;
+mod yielding;
 
 pub use answers::{Moved, Outcome};
 pub use performer::Performer;
