@@ -17,3 +17,10 @@ pub mod OperandItems
 pub mod NodeForms
 pub mod NodeMoves
 pub mod NodeSteps
+pub mod DataLists
+pub mod ItemsAt
+pub mod ItemValues
+pub mod Stacks
+pub mod Opening
+pub mod Turns
+pub mod Answered

@@ -36,7 +36,7 @@ first_move : (r : Running) (m : Move) (n : Node) → node_meant r ≡ n →
     ((w : World) → IsOutside r.outside w → IsStepAt (run_steps n r.number (given_of r.received) (bound_of r.received) w) 0 (effect_of m.change) (next_tree m.next)) →
     IsMove r 0 m
 first_move r m n e h = record {
-  at = λ w o. subst (λ (x : Node). IsStepAt (run_steps x r.number (given_of r.received) (bound_of r.received) w) 0 (effect_of m.change) (next_tree m.next)) (sym e) (h w o)
+  at = λ w o. subst (λ (x : Node). IsStepAt (run_steps x r.number (given_of r.received) (bound_of r.received) w) 0 (effect_of m.change) (next_tree m.next)) (sym e) (h w o);
 }
 
 primitive_move : (r : Running) (m : Move) (p : Primitive) → node_meant r ≡ Simple p →
@@ -92,7 +92,7 @@ pub allocate_move : (r : Running) (m : Move) → r.node.kind ≡ kind.Allocate �
 allocate_move r m e s =
     plain_move r m Allocate (ap plain_of e)
     (λ w o. let l : length r.outside.cells.now ≡ length w.cells = rw (o.cells, length-map) in
-        subst (λ (n : ℕ). Does m (with_effect Allocates (Ended (Done (CellOf n ∷ []) NoBinds)))) l s)
+    subst (λ (n : ℕ). Does m (with_effect Allocates (Ended (Done (CellOf n ∷ []) NoBinds)))) l s)
 
 pub receive_move : (r : Running) (m : Move) → r.node.kind ≡ kind.Receive → Does m (received r.outside.input.now) → IsMove r 0 m
 receive_move r m e s = plain_move r m Receive (ap plain_of e) (λ w o. subst (λ (ns : List ℤ). Does m (received ns)) (sym o.input) s)
@@ -182,7 +182,7 @@ enact_application_move r m x d t e h y z q s =
     let f = form r kind.Apply e h in
     first_move r m (Apply f.0 f.1) (meant_as r kind.Apply r.node.children.now ((Single f.0 ∷ []) ∷ f.1 ∷ []) e refl f.2)
     (λ w o. silent_step m _ [] t _ s
-        (q ∙ (λ i. enacted (tuple_second r (Single f.0 ∷ []) f.1 [] d f.2 z w o i) (yields_first r f.0 (f.1 ∷ []) x f.2 y w o i))) refl refl)
+    (q ∙ (λ i. enacted (tuple_second r (Single f.0 ∷ []) f.1 [] d f.2 z w o i) (yields_first r f.0 (f.1 ∷ []) x f.2 y w o i))) refl refl)
 
 pub furthermore_move : (r : Running) (m : Move) (t : Tree) → r.node.kind ≡ kind.Furthermore → IsOfText r →
     t ≡ Over (running (part_of_node r 0) r.received) (bound_of r.received) → Does m (silent t) → IsMove r 0 m
@@ -196,8 +196,12 @@ pub first_arm_move : (r : Running) (m : Move) (t : Tree) → r.node.kind ≡ kin
 first_arm_move r m t e h q s =
     let f = form r kind.Or e h in
     first_move r m (Either f.0 f.1) (meant_as r kind.Or (f.0 ∷ f.1 ∷ []) (items_of r) e f.2 refl)
-    (λ w o. (_, refl, s.effect,
-        sym (q ∙ ap (λ (ps : List ℕ). Or (running (slice_index ps 0) r.received) (slice_index ps 1) (given_of r.received) (bound_of r.received)) f.2) ∙ s.tree))
+    (λ w o. (
+      _,
+      refl,
+      s.effect,
+      sym (q ∙ ap (λ (ps : List ℕ). Or (running (slice_index ps 0) r.received) (slice_index ps 1) (given_of r.received) (bound_of r.received)) f.2) ∙ s.tree,
+    ))
 
 pub second_arm_move : (r : Running) (m : Move) (t : Tree) → r.node.kind ≡ kind.Or → IsOfText r →
     t ≡ Or (running (part_of_node r 1) r.received) (part_of_node r 0) (given_of r.received) (bound_of r.received) → Does m (silent t) → IsMove r 1 m
@@ -206,7 +210,7 @@ second_arm_move r m t e h q s =
     let n : node_meant r ≡ Either f.0 f.1 = meant_as r kind.Or (f.0 ∷ f.1 ∷ []) (items_of r) e f.2 refl in
     record {
       at = λ w o. subst (λ (x : Node). IsStepAt (run_steps x r.number (given_of r.received) (bound_of r.received) w) 1 (effect_of m.change) (next_tree m.next)) (sym n)
-          (_, refl, s.effect, sym (q ∙ ap (λ (ps : List ℕ). Or (running (slice_index ps 1) r.received) (slice_index ps 0) (given_of r.received) (bound_of r.received)) f.2) ∙ s.tree)
+          (_, refl, s.effect, sym (q ∙ ap (λ (ps : List ℕ). Or (running (slice_index ps 1) r.received) (slice_index ps 0) (given_of r.received) (bound_of r.received)) f.2) ∙ s.tree);
     }
 
 pub trap_move : (r : Running) (m : Move) (t : Tree) → r.node.kind ≡ kind.Trap → IsOfText r →
@@ -224,7 +228,7 @@ branch_move r m x t e h y q s =
     let os = f.1 in
     first_move r m (Branch os.0 ps.0 ps.1) (meant_as r kind.Branch (ps.0 ∷ ps.1 ∷ []) ((Single os.0 ∷ []) ∷ []) e ps.2 os.1)
     (λ w o. silent_step m _ [] t _ s
-        (q ∙ (λ i. branched (yields_first r os.0 [] x os.1 y w o i) (slice_index (ps.2 i) 0) (slice_index (ps.2 i) 1) (given_of r.received) (bound_of r.received))) refl refl)
+    (q ∙ (λ i. branched (yields_first r os.0 [] x os.1 y w o i) (slice_index (ps.2 i) 0) (slice_index (ps.2 i) 1) (given_of r.received) (bound_of r.received))) refl refl)
 
 -- ---- kinds whose steps are alike
 
@@ -232,7 +236,7 @@ branch_move r m x t e h y q s =
 only_move : (r : Running) (m : Move) (t : Tree) → ((w : World) → run_steps (node_meant r) r.number (given_of r.received) (bound_of r.received) w ≡ silent t ∷ []) →
     Does m (silent t) → IsMove r 0 m
 only_move r m t h s = record {
-  at = λ w o. subst (λ (ns : List Step). IsStepAt ns 0 (effect_of m.change) (next_tree m.next)) (sym (h w)) (silent t, refl, s.effect, s.tree)
+  at = λ w o. subst (λ (ns : List Step). IsStepAt ns 0 (effect_of m.change) (next_tree m.next)) (sym (h w)) (silent t, refl, s.effect, s.tree);
 }
 
 call_steps : (k : Kind) (t : Token) (c : ℕ) (ps : List ℕ) (os : List (List Item)) (number : ℕ) (d : Data) (b : Binds) (w : World) →
@@ -266,7 +270,7 @@ fork_move r m t e h q s =
     let p' : part_of_node r 1 ≡ f.1 = ap (λ (ps : List ℕ). slice_index ps 1) f.2 in
     only_move r m (Par r.number (running f.0 r.received) (running f.1 r.received))
     (λ w. ap (λ (n : Node). run_steps n r.number (given_of r.received) (bound_of r.received) w) (meant_as r r.node.kind (f.0 ∷ f.1 ∷ []) (items_of r) refl f.2 refl)
-        ∙ join_steps r.node.kind r.node.token.now r.node.body f.0 f.1 (items_of r) r.number (given_of r.received) (bound_of r.received) w e)
+    ∙ join_steps r.node.kind r.node.token.now r.node.body f.0 f.1 (items_of r) r.number (given_of r.received) (bound_of r.received) w e)
     (to_tree m t _ (q ∙ (λ i. Par r.number (running (p i) r.received) (running (p' i) r.received))) s)
 
 chain_parts : (k : Kind) (ps : List ℕ) (os : List (List Item)) → is_chain k ≡ true → Wanted k ps os → AreTwo ps
@@ -291,5 +295,5 @@ begin_move r m t e h q s =
     let p : part_of_node r 0 ≡ f.0 = ap (λ (ps : List ℕ). slice_index ps 0) f.2 in
     only_move r m (First r.number (running f.0 r.received) (given_of r.received) (bound_of r.received))
     (λ w. ap (λ (n : Node). run_steps n r.number (given_of r.received) (bound_of r.received) w) (meant_as r r.node.kind (f.0 ∷ f.1 ∷ []) (items_of r) refl f.2 refl)
-        ∙ chain_steps r.node.kind r.node.token.now r.node.body f.0 f.1 (items_of r) r.number (given_of r.received) (bound_of r.received) w e)
+    ∙ chain_steps r.node.kind r.node.token.now r.node.body f.0 f.1 (items_of r) r.number (given_of r.received) (bound_of r.received) w e)
     (to_tree m t _ (q ∙ ap (λ (l : ℕ). First r.number (running l r.received) (given_of r.received) (bound_of r.received)) p) s)

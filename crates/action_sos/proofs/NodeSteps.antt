@@ -45,7 +45,7 @@ step_there : (g : Lists) (r : Running) (d : Node) (i : ℕ) (m : Move) → IsMov
     IsStepAt (node_steps g r.number r.received w) i (effect_of m.change) (next_tree m.next)
 step_there g r d i m move less y n w o =
     let same : node_meant r ≡ node_at (action_in g) r.number =
-        (λ j. node_with (items_from 0 (map listed_yielder (y j).now)) (listed_node (n j))) ∙ sym (at_number g r.number d less) in
+    (λ j. node_with (items_from 0 (map listed_yielder (y j).now)) (listed_node (n j))) ∙ sym (at_number g r.number d less) in
     subst (λ (x : Meant). IsStepAt (run_steps x r.number (given_of r.received) (bound_of r.received) w) i (effect_of m.change) (next_tree m.next)) same (move.at w o)
 
 pub first_there : {E : Type 0} (result : Result Move E) (r : Running) (g : Lists) (d : Node) (choice : ℕ) → IfOk result (IsMove r 0) → r.number < length g.nodes.now →

@@ -8,3 +8,4 @@ pub mod Operations
 pub mod TokenOrder
 pub mod Puts
 pub mod Running
+pub mod Evaluation

@@ -25,11 +25,11 @@ one_of ykind.Negation = Some Negation
 one_of ykind.Not = Some Not
 one_of _ = None
 
--- what a kind gives of two data, and of one
-abbrev pub given_by_two : Option Two → Datum → Datum → Option Datum
-given_by_two (Some f) x y = on_two f x y
-given_by_two None x y = None
+-- what the operation gives
+abbrev pub value_of_two : Option Two → Datum → Datum → Option Datum
+value_of_two (Some f) x y = on_two f x y
+value_of_two None x y = None
 
-abbrev pub given_by_one : Option One → Datum → Option Datum
-given_by_one (Some f) x = on_one f x
-given_by_one None x = None
+abbrev pub value_of_one : Option One → Datum → Option Datum
+value_of_one (Some f) x = on_one f x
+value_of_one None x = None

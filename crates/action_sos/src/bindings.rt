@@ -1,7 +1,7 @@
 //! Bindings: finite maps from tokens to data, as slices with their tokens ascending.
-ghost use Rattle.std.specs.Prelude.{◌≡◌, ℕ, suc, ◌<◌, ◌≤◌, ◌∷◌, ◌++◌, length, take, drop, insert, IfOk, IfErr, OnOk, option_map, is_some};
+ghost use Rattle.std.specs.Prelude.{◌≡◌, suc, ◌<◌, ◌≤◌, length, take, drop, IfOk, IfErr, OnOk, option_map};
 ghost use Rattle.action_terms.specs.Bindings.{bind, overlaid, lookup, meets};
-ghost use Rattle.action_sos.specs.Views.{meant, pair_of, bindings_of};
+ghost use Rattle.action_sos.specs.Views.{meant, bindings_of};
 ghost use Rattle.action_sos.specs.TokenOrder.{token_order};
 ghost use Rattle.action_sos.specs.Puts.{Puts};
 
@@ -48,7 +48,6 @@ pub fn meet(first: &[Binding<'_>], second: &[Binding<'_>]) -> bool
 }
 
 // the place where the token is bound, or else where it is to be put in
-#[tactic(auto, using(crate::proofs::BindingLists::binding_lists))]
 fn place(bound: &[Binding<'_>], token: &[u8]) -> Result<usize, usize>
     ensures bound_in { IfOk result (λ i. i < length bound.now) }
     ensures bound_at { IfOk result (λ i. Puts bound.now token.now (take i bound.now) (drop (suc i) bound.now)) }
@@ -124,4 +123,35 @@ pub fn overlay<'a>(
         put(&mut list, over[i])?;
     }
     Ok(into_bump_slice(list))
+}
+
+#[cfg(test)]
+mod tests {
+    use super::*;
+    use std::test::Fail;
+
+    fn bound_number(bound: &[Binding<'_>], token: &[u8]) -> Option<i64> {
+        match lookup(bound, token) {
+            Some(Datum::Number(n)) => Some(n),
+            _ => None,
+        }
+    }
+
+    #[test]
+    fn the_bindings_above_count(rt: HostRuntime) -> Result<(), Fail> {
+        let arena = Bump::new(rt.alloc());
+        let under = bind(&arena, b"x", Datum::Number(1), &[])?;
+        let under = bind(&arena, b"f", Datum::Number(2), under)?;
+        let over = bind(&arena, b"x", Datum::Number(3), &[])?;
+        let over = bind(&arena, b"xy", Datum::Number(4), over)?;
+        let both = overlay(&arena, under, over)?;
+        assert_eq!(rt; both.len(), 3);
+        assert_eq!(rt; bound_number(both, b"f"), Some(2));
+        assert_eq!(rt; bound_number(both, b"x"), Some(3));
+        assert_eq!(rt; bound_number(both, b"xy"), Some(4));
+        assert_eq!(rt; bound_number(both, b"a"), None);
+        assert!(rt; meet(under, over));
+        assert!(rt; !meet(under, &[]));
+        Ok(())
+    }
 }

@@ -154,12 +154,7 @@ fn fork<'a>(node: &Running<'_, 'a>) -> Move<'a>
     requires of_text { IsOfText node.now }
     ensures { IsMove node.now 0 result }
 {
-    silent(forks(
-        node.number,
-        node.part(0),
-        node.part(1),
-        node.received,
-    ))
+    silent(forks(node.number, node.part(0), node.part(1), node.received))
 }
 
 // `and then`, `then`, `hence` and `before`
@@ -187,12 +182,7 @@ fn branch<'a>(alloc: Global, node: &Running<'_, 'a>) -> Result<Move<'a>, Memory>
     ensures { IfOk result (IsMove node.now 0) }
 {
     let datum = node.yielded(alloc, 0)?;
-    Ok(silent(branches(
-        datum,
-        node.part(0),
-        node.part(1),
-        node.received,
-    )))
+    Ok(silent(branches(datum, node.part(0), node.part(1), node.received)))
 }
 
 // the first of the steps of a node

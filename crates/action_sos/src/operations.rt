@@ -3,7 +3,7 @@ ghost use Rattle.std.specs.Prelude.{◌≡◌, ◌+ℤ◌, ◌-ℤ◌, ◌*ℤ�
 ghost use Rattle.action_terms.specs.Information.{Number, Truth, CellOf};
 ghost use Rattle.action_terms.specs.Yielding.{within_64, divided, of_sort};
 ghost use Rattle.action_sos.specs.Views.{meant};
-ghost use Rattle.action_sos.specs.Operations.{two_of, one_of, given_by_two, given_by_one};
+ghost use Rattle.action_sos.specs.Operations.{two_of, one_of, value_of_two, value_of_one};
 
 use crate::datum::Datum;
 use action_terms::{Sort, YKind};
@@ -73,7 +73,7 @@ fn number<'a>(value: Option<i64>) -> Option<Datum<'a>>
 }
 
 fn on_numbers<'a>(kind: YKind, x: i64, y: i64) -> Option<Datum<'a>>
-    ensures { option_map meant result ≡ given_by_two (two_of kind) (Number x) (Number y) }
+    ensures { option_map meant result ≡ value_of_two (two_of kind) (Number x) (Number y) }
 {
     match kind {
         YKind::Sum => number(sum(x, y)),
@@ -88,7 +88,7 @@ fn on_numbers<'a>(kind: YKind, x: i64, y: i64) -> Option<Datum<'a>>
 }
 
 fn on_truths<'a>(kind: YKind, x: bool, y: bool) -> Option<Datum<'a>>
-    ensures { option_map meant result ≡ given_by_two (two_of kind) (Truth x) (Truth y) }
+    ensures { option_map meant result ≡ value_of_two (two_of kind) (Truth x) (Truth y) }
 {
     match kind {
         YKind::Is => Some(Datum::Truth(x == y)),
@@ -99,7 +99,7 @@ fn on_truths<'a>(kind: YKind, x: bool, y: bool) -> Option<Datum<'a>>
 }
 
 fn on_cells<'a>(kind: YKind, x: usize, y: usize) -> Option<Datum<'a>>
-    ensures { option_map meant result ≡ given_by_two (two_of kind) (CellOf x) (CellOf y) }
+    ensures { option_map meant result ≡ value_of_two (two_of kind) (CellOf x) (CellOf y) }
 {
     match kind {
         YKind::Is => Some(Datum::Truth(x == y)),
@@ -109,7 +109,7 @@ fn on_cells<'a>(kind: YKind, x: usize, y: usize) -> Option<Datum<'a>>
 
 /// What an operation on two data gives.
 pub fn on_two<'a>(kind: YKind, first: Datum<'a>, second: Datum<'a>) -> Option<Datum<'a>>
-    ensures { option_map meant result ≡ given_by_two (two_of kind) (meant first.entry) (meant second.entry) }
+    ensures { option_map meant result ≡ value_of_two (two_of kind) (meant first.entry) (meant second.entry) }
 {
     match (first, second) {
         (Datum::Number(x), Datum::Number(y)) => on_numbers(kind, x, y),
@@ -121,11 +121,36 @@ pub fn on_two<'a>(kind: YKind, first: Datum<'a>, second: Datum<'a>) -> Option<Da
 
 /// What an operation on one datum gives.
 pub fn on_one<'a>(kind: YKind, datum: Datum<'a>) -> Option<Datum<'a>>
-    ensures { option_map meant result ≡ given_by_one (one_of kind) (meant datum.entry) }
+    ensures { option_map meant result ≡ value_of_one (one_of kind) (meant datum.entry) }
 {
     match (kind, datum) {
         (YKind::Negation, Datum::Number(x)) => number(negation(x)),
         (YKind::Not, Datum::Truth(x)) => Some(Datum::Truth(!x)),
         _ => None,
+    }
+}
+
+#[cfg(test)]
+mod tests {
+    use super::*;
+
+    #[test]
+    fn integers_have_64_bits(rt: HostRuntime) {
+        assert_eq!(rt; sum(i64::MAX, 1), None);
+        assert_eq!(rt; difference(i64::MIN, 1), None);
+        assert_eq!(rt; product(i64::MAX, -1), Some(-i64::MAX));
+        assert_eq!(rt; product(i64::MIN, -1), None);
+        assert_eq!(rt; negation(i64::MIN), None);
+    }
+
+    #[test]
+    fn quotients_are_cut_toward_zero(rt: HostRuntime) {
+        assert_eq!(rt; quotient(-7, 2), Some(-3));
+        assert_eq!(rt; remainder(-7, 2), Some(-1));
+        assert_eq!(rt; remainder(7, -2), Some(1));
+        assert_eq!(rt; quotient(7, 0), None);
+        assert_eq!(rt; remainder(7, 0), None);
+        assert_eq!(rt; quotient(i64::MIN, -1), None);
+        assert_eq!(rt; remainder(i64::MIN, -1), Some(0));
     }
 }

@@ -1,6 +1,5 @@
 use Rattle.std.proofs.Common.{refl, ap}
 use Rattle.std.proofs.lemmas.Result.{IfOk-weaker}
-use Rattle.action_terms.specs.Information.{NoBinds}
 use Rattle.action_terms.specs.Actions.{Complete, Failing, Escape, Commit, Regive, Rebind}
 use Rattle.action_sos.specs.Running.{plain_of}
 use Rattle.action_sos.proofs.NodeMoves.{plain_move, silent_move, allocate_move, receive_move, fail_kind}

@@ -8,8 +8,8 @@ first_step-requires c = record { there = not_stray c.args.graph c.args.node _ c.
 pub second_arm-requires-clause-kind : goal.second_arm-requires-clause-kind
 second_arm-requires-clause-kind c =
     (second_kind _ c.args.choice
-        (choice_within c.args.graph c.args.node _ c.requires.proper c.requires.there c.args.received c.args.outside c.args.choice c.requires.open)
-        c.if-choice-eq0.false).0
+    (choice_within c.args.graph c.args.node _ c.requires.proper c.requires.there c.args.received c.args.outside c.args.choice c.requires.open)
+    c.if-choice-eq0.false).0
 
 pub second_arm-requires-clause-of_text : goal.second_arm-requires-clause-of_text
 second_arm-requires-clause-of_text c = record { there = not_stray c.args.graph c.args.node _ c.requires.proper c.requires.there }
