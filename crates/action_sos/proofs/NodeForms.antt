@@ -1,7 +1,7 @@
 -- What stands under a node of a text, by its kind.
 use Rattle.std.proofs.Common.{◌≡◌, ◌≢◌, ℕ, List, [], ◌∷◌, refl}
 use Rattle.action_terms.specs.Information.{Token}
-use Rattle.action_terms.specs.Actions.{Yielder, ClosureOf, Item, Single, Them, Stray}
+use Rattle.action_terms.specs.Actions.{Yielder, ClosureOf, Item, Single, Stray}
 use Rattle.action_terms.specs.Meaning.{node_of}
 use Rattle.action_terms.specs.declared.kinds.Kind.{Kind}
 use Rattle.action_terms.specs.declared.kinds.Kind.TheVariants as kind

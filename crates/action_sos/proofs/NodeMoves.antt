@@ -1,18 +1,17 @@
 -- What a node of a text does, by its kind.
-use Rattle.std.proofs.Common.{◌≡◌, ◌≢◌, ◌<◌, ℕ, ℤ, true, List, [], ◌∷◌, map, Option, Some, None, length, refl, ap, sym, subst, ◌∙◌, arith}
+use Rattle.std.proofs.Common.{◌≡◌, ℕ, ℤ, true, List, [], ◌∷◌, map, Option, Some, length, refl, ap, sym, subst, ◌∙◌}
 use Rattle.std.proofs.lemmas.List.{length-map}
-use Rattle.std.specs.Prelude.{slice_get, slice_index}
+use Rattle.std.specs.Prelude.{slice_index}
 use Rattle.action_terms.specs.Information.{Token, Datum, CellOf, Closure, Binds, NoBinds, Data, World}
-use Rattle.action_terms.specs.Actions.{Yielder, ClosureOf, Item, Single, Primitive, Complete, Failing, Escape, Commit, Regive, Rebind, Give, EscapeWith, Check, Bind, BindRec, Store, Allocate, Receive, Send, Node, Simple, Enact, Apply, Unfolding, Unfold, Furthermore, Both, And, Moreover, Phases, AndThen, Then, Hence, Before, Either, Trapping, Branch}
+use Rattle.action_terms.specs.Actions.{Yielder, ClosureOf, Item, Single, Primitive, Failing, Give, EscapeWith, Check, Bind, BindRec, Store, Allocate, Receive, Send, Node, Simple, Enact, Apply, Furthermore, Either, Trapping, Branch}
 use Rattle.action_terms.specs.Meaning.{items_from, picked, node_of}
 use Rattle.action_terms.specs.Acting.{Tree, Done, Esc, Ended, Run, Called, Par, First, Or, Trap, Over}
-use Rattle.action_terms.specs.Steps.{Silent, Allocates, Commits, Step, silent, with_effect, done, failed, ends_with, checked, bound, sent, put, received, enacted, branched, performed, run_steps}
+use Rattle.action_terms.specs.Steps.{Silent, Allocates, Step, silent, with_effect, ends_with, checked, bound, sent, put, received, enacted, branched, performed, run_steps}
 use Rattle.action_terms.specs.Yielding.{yields, items_yield}
 use Rattle.action_terms.specs.declared.kinds.Kind.{Kind}
 use Rattle.action_terms.specs.declared.kinds.Kind.TheVariants as kind
-use Rattle.action_sos.specs.Views.{item_at, items_at}
 use Rattle.action_sos.specs.Moves.{given_of, bound_of, running, effect_of, next_tree, IsOutside, IsStepAt}
-use Rattle.action_sos.specs.Running.{listed_running, yielders_of, operand_of, number_of, part_of_node, closure_body_of, node_meant, plain_of, is_plain, is_call, is_join, is_chain, IsYielded, AreYielded, IsOfText, Does, IsMove}
+use Rattle.action_sos.specs.Running.{listed_running, yielders_of, number_of, part_of_node, closure_body_of, node_meant, plain_of, is_plain, is_call, is_join, is_chain, IsYielded, AreYielded, IsOfText, Does, IsMove}
 use Rattle.action_sos.specs.declared.moves.Move.{Move}
 use Rattle.action_sos.specs.declared.running.Running.{Running}
 use Rattle.action_sos.proofs.OperandItems.{first_item, second_item, first_items, second_items, body_of_item}

@@ -1,5 +1,5 @@
 -- How many steps of a node of a text stand open, and where the node is found in memory.
-use Rattle.std.proofs.Common.{◌≡◌, ◌≢◌, ◌<◌, ℕ, suc, List, [], ◌∷◌, map, Option, Some, None, length, get_or, refl, ap, sym, subst, ◌∙◌, arith}
+use Rattle.std.proofs.Common.{◌≡◌, ◌≢◌, ◌<◌, ℕ, List, [], ◌∷◌, map, Some, length, get_or, refl, ap, sym, subst, ◌∙◌, arith}
 use Rattle.std.specs.Prelude.{slice_get, option_map, Result, IfOk}
 use Rattle.std.proofs.lemmas.Result.{IfOk-weaker}
 use Rattle.std.proofs.lemmas.Option.{slice_get-map, slice_get-get_or}
@@ -7,7 +7,7 @@ use Rattle.std.proofs.lemmas.List.{length-map}
 use Rattle.action_terms.specs.Information.{Token, Data, Binds, World}
 use Rattle.action_terms.specs.Actions.{Node as Meant, ClosureOf, Item, Single, Stray, node_at}
 use Rattle.action_terms.specs.Nodes.{listed_node, listed_yielder}
-use Rattle.action_terms.specs.Meaning.{items_from, picked, node_of, node_with, action_of}
+use Rattle.action_terms.specs.Meaning.{items_from, picked, node_of, node_with}
 use Rattle.action_terms.specs.Proper.{IsProper}
 use Rattle.action_terms.specs.Steps.{run_steps}
 use Rattle.action_terms.specs.declared.graph.Node.{Node}

@@ -1,13 +1,13 @@
 -- The items of the operands of a node in memory.
-use Rattle.std.proofs.Common.{◌≡◌, ◌≢◌, ℕ, zero, suc, ◌-◌, List, [], ◌∷◌, map, Option, Some, None, refl, ap, sym, ◌∙◌, arith, get_or}
+use Rattle.std.proofs.Common.{◌≡◌, ℕ, zero, suc, ◌-◌, List, [], ◌∷◌, map, arith}
 use Rattle.std.specs.Prelude.{slice_get, slice_index}
 use Rattle.action_terms.specs.Information.{Token}
-use Rattle.action_terms.specs.Actions.{Yielder, ClosureOf, Item, Single, Them}
+use Rattle.action_terms.specs.Actions.{ClosureOf, Item, Single}
 use Rattle.action_terms.specs.Numbering.{ListedYielder}
 use Rattle.action_terms.specs.Meaning.{item_of, item_or_them, items_from, picked}
 use Rattle.action_terms.specs.declared.kinds.YKind.{YKind}
 use Rattle.action_terms.specs.declared.kinds.YKind.TheVariants as ykind
-use Rattle.action_sos.specs.Running.{or_no_numbers, or_no_body, body_at}
+use Rattle.action_sos.specs.Running.{or_no_numbers, body_at}
 
 at_number : (items : List Item) (n : ℕ) → item_or_them (slice_get items (n - 0)) ≡ item_or_them (slice_get items n)
 at_number items n = let e : n - 0 ≡ n = omega arith in rw e

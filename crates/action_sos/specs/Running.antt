@@ -1,7 +1,7 @@
 -- What a node in memory that runs is and does.
 use Rattle.std.specs.Prelude.{◌≡◌, ◌≢◌, ℕ, Bool, true, false, List, [], map, Option, Some, None, is_some, slice_get, slice_index}
 use Rattle.action_terms.specs.Information.{Datum, Data, World}
-use Rattle.action_terms.specs.Actions.{Yielder, Single, Item, Primitive, Complete, Failing, Escape, Commit, Regive, Rebind, Allocate, Receive, Node, Stray}
+use Rattle.action_terms.specs.Actions.{Yielder, Single, Primitive, Complete, Failing, Escape, Commit, Regive, Rebind, Allocate, Receive, Node, Stray}
 use Rattle.action_terms.specs.Numbering.{ListedNode, ListedYielder}
 use Rattle.action_terms.specs.Nodes.{listed_node, listed_yielder}
 use Rattle.action_terms.specs.Meaning.{items_from, node_with}

@@ -1,9 +1,8 @@
 //! The steps of a node that runs.
-ghost use Rattle.std.specs.Prelude.{◌≡◌, ◌<◌, ℕ, length, IfOk, true};
+ghost use Rattle.std.specs.Prelude.{◌≡◌, ◌<◌, length, IfOk, true};
 ghost use Rattle.action_terms.specs.Information.{World};
 ghost use Rattle.action_terms.specs.Proper.{IsProper};
-ghost use Rattle.action_terms.specs.Steps.{run_steps};
-ghost use Rattle.action_sos.specs.Moves.{action_in, given_of, bound_of, effect_of, next_tree, IsOutside, IsStepAt, node_steps};
+ghost use Rattle.action_sos.specs.Moves.{action_in, effect_of, next_tree, IsOutside, IsStepAt, node_steps};
 ghost use Rattle.action_sos.specs.Running.{count_of, is_plain, is_call, is_join, is_chain, IsOfText, IsMove};
 
 use crate::compounds::{
@@ -21,176 +20,179 @@ use bumpalo::Bump;
 use std::alloc::Global;
 
 // the primitives without operands
-fn plain_step<'a>(node: &Running<'_, 'a>) -> Result<Move<'a>, Memory>
-    requires kind { is_plain node.now.node.kind ≡ true }
-    ensures { IfOk result (IsMove node.now 0) }
+fn plain_step<'a>(running: &Running<'_, 'a>) -> Result<Move<'a>, Memory>
+    requires kind { is_plain running.now.node.kind ≡ true }
+    ensures { IfOk result (IsMove running.now 0) }
 {
-    let received = node.received;
-    match node.node.kind {
+    let received = running.received;
+    match running.node.kind {
         Kind::Complete => Ok(silent(completes(&[], &[]))),
         Kind::Escape => Ok(silent(escapes(received.given))),
         Kind::Commit => Ok(commits()),
         Kind::Regive => Ok(silent(completes(received.given, &[]))),
         Kind::Rebind => Ok(silent(completes(&[], received.bound))),
-        Kind::Allocate => allocates(node.arena, node.outside.cells.len()),
-        Kind::Receive => receives(node.arena, node.outside.input),
+        Kind::Allocate => allocates(running.arena, running.outside.cells.len()),
+        Kind::Receive => receives(running.arena, running.outside.input),
+        // only `fail` is left
         _ => Ok(silent(fails())),
     }
 }
 
-fn give<'a>(alloc: Global, node: &Running<'_, 'a>) -> Result<Move<'a>, Memory>
-    requires kind { node.now.node.kind ≡ Kind.Give }
-    requires of_text { IsOfText node.now }
-    ensures { IfOk result (IsMove node.now 0) }
+fn give<'a>(alloc: Global, running: &Running<'_, 'a>) -> Result<Move<'a>, Memory>
+    requires kind { running.now.node.kind ≡ Kind.Give }
+    requires of_text { IsOfText running.now }
+    ensures { IfOk result (IsMove running.now 0) }
 {
-    Ok(silent(gives(node.yielded_items(alloc, 0)?)))
+    Ok(silent(gives(running.yielded_items(alloc, 0)?)))
 }
 
-fn escape_with<'a>(alloc: Global, node: &Running<'_, 'a>) -> Result<Move<'a>, Memory>
-    requires kind { node.now.node.kind ≡ Kind.EscapeWith }
-    requires of_text { IsOfText node.now }
-    ensures { IfOk result (IsMove node.now 0) }
+fn escape_with<'a>(alloc: Global, running: &Running<'_, 'a>) -> Result<Move<'a>, Memory>
+    requires kind { running.now.node.kind ≡ Kind.EscapeWith }
+    requires of_text { IsOfText running.now }
+    ensures { IfOk result (IsMove running.now 0) }
 {
-    Ok(silent(escapes_with(node.yielded_items(alloc, 0)?)))
+    Ok(silent(escapes_with(running.yielded_items(alloc, 0)?)))
 }
 
-fn check<'a>(alloc: Global, node: &Running<'_, 'a>) -> Result<Move<'a>, Memory>
-    requires kind { node.now.node.kind ≡ Kind.Check }
-    requires of_text { IsOfText node.now }
-    ensures { IfOk result (IsMove node.now 0) }
+fn check<'a>(alloc: Global, running: &Running<'_, 'a>) -> Result<Move<'a>, Memory>
+    requires kind { running.now.node.kind ≡ Kind.Check }
+    requires of_text { IsOfText running.now }
+    ensures { IfOk result (IsMove running.now 0) }
 {
-    Ok(silent(checks(node.yielded(alloc, 0)?)))
+    Ok(silent(checks(running.yielded(alloc, 0)?)))
 }
 
-fn bind<'a>(alloc: Global, node: &Running<'_, 'a>) -> Result<Move<'a>, Memory>
-    requires kind { node.now.node.kind ≡ Kind.Bind }
-    requires of_text { IsOfText node.now }
-    ensures { IfOk result (IsMove node.now 0) }
+fn bind<'a>(alloc: Global, running: &Running<'_, 'a>) -> Result<Move<'a>, Memory>
+    requires kind { running.now.node.kind ≡ Kind.Bind }
+    requires of_text { IsOfText running.now }
+    ensures { IfOk result (IsMove running.now 0) }
 {
-    let datum = node.yielded(alloc, 0)?;
-    Ok(silent(binds(node.arena, node.node.token, datum)?))
+    let datum = running.yielded(alloc, 0)?;
+    Ok(silent(binds(running.arena, running.node.token, datum)?))
 }
 
-fn bind_recursively<'a>(node: &Running<'_, 'a>) -> Result<Move<'a>, Memory>
-    requires kind { node.now.node.kind ≡ Kind.BindRec }
-    requires of_text { IsOfText node.now }
-    ensures { IfOk result (IsMove node.now 0) }
+fn bind_recursively<'a>(running: &Running<'_, 'a>) -> Result<Move<'a>, Memory>
+    requires kind { running.now.node.kind ≡ Kind.BindRec }
+    requires of_text { IsOfText running.now }
+    ensures { IfOk result (IsMove running.now 0) }
 {
-    let token = node.node.token;
-    let closure = own_closure(node.closure_body(), node.received.bound, token);
-    Ok(silent(binds(node.arena, token, Some(closure))?))
+    let token = running.node.token;
+    let closure = own_closure(running.closure_body(), running.received.bound, token);
+    Ok(silent(binds(running.arena, token, Some(closure))?))
 }
 
 #[tactic(auto, using(crate::proofs::NodeMoves::store_move))]
-fn store<'a>(alloc: Global, node: &Running<'_, 'a>) -> Result<Move<'a>, Memory>
-    requires kind { node.now.node.kind ≡ Kind.Store }
-    requires of_text { IsOfText node.now }
-    ensures { IfOk result (IsMove node.now 0) }
+fn store<'a>(alloc: Global, running: &Running<'_, 'a>) -> Result<Move<'a>, Memory>
+    requires kind { running.now.node.kind ≡ Kind.Store }
+    requires of_text { IsOfText running.now }
+    ensures { IfOk result (IsMove running.now 0) }
 {
-    let datum = node.yielded(alloc, 0)?;
-    let cell = node.yielded(alloc, 1)?;
+    let datum = running.yielded(alloc, 0)?;
+    let cell = running.yielded(alloc, 1)?;
     Ok(stores(datum, cell))
 }
 
 #[tactic(auto, using(crate::proofs::NodeMoves::send_move))]
-fn send<'a>(alloc: Global, node: &Running<'_, 'a>) -> Result<Move<'a>, Memory>
-    requires kind { node.now.node.kind ≡ Kind.Send }
-    requires of_text { IsOfText node.now }
-    ensures { IfOk result (IsMove node.now 0) }
+fn send<'a>(alloc: Global, running: &Running<'_, 'a>) -> Result<Move<'a>, Memory>
+    requires kind { running.now.node.kind ≡ Kind.Send }
+    requires of_text { IsOfText running.now }
+    ensures { IfOk result (IsMove running.now 0) }
 {
-    Ok(sends(node.yielded(alloc, 0)?))
+    Ok(sends(running.yielded(alloc, 0)?))
 }
 
-fn enact<'a>(alloc: Global, node: &Running<'_, 'a>) -> Result<Move<'a>, Memory>
-    requires kind { node.now.node.kind ≡ Kind.Enact }
-    requires of_text { IsOfText node.now }
-    ensures { IfOk result (IsMove node.now 0) }
+fn enact<'a>(alloc: Global, running: &Running<'_, 'a>) -> Result<Move<'a>, Memory>
+    requires kind { running.now.node.kind ≡ Kind.Enact }
+    requires of_text { IsOfText running.now }
+    ensures { IfOk result (IsMove running.now 0) }
 {
-    let closure = node.yielded(alloc, 0)?;
-    Ok(silent(enacts(node.arena, Some(&[]), closure)?))
+    let closure = running.yielded(alloc, 0)?;
+    Ok(silent(enacts(running.arena, Some(&[]), closure)?))
 }
 
-fn enact_application<'a>(alloc: Global, node: &Running<'_, 'a>) -> Result<Move<'a>, Memory>
-    requires kind { node.now.node.kind ≡ Kind.Apply }
-    requires of_text { IsOfText node.now }
-    ensures { IfOk result (IsMove node.now 0) }
+fn enact_application<'a>(alloc: Global, running: &Running<'_, 'a>) -> Result<Move<'a>, Memory>
+    requires kind { running.now.node.kind ≡ Kind.Apply }
+    requires of_text { IsOfText running.now }
+    ensures { IfOk result (IsMove running.now 0) }
 {
-    let closure = node.yielded(alloc, 0)?;
-    let given = node.yielded_items(alloc, 1)?;
-    Ok(silent(enacts(node.arena, given, closure)?))
+    let closure = running.yielded(alloc, 0)?;
+    let given = running.yielded_items(alloc, 1)?;
+    Ok(silent(enacts(running.arena, given, closure)?))
 }
 
 // `unfolding` and `unfold`
 #[tactic(auto, using(crate::proofs::NodeMoves::call_move))]
-fn call<'a>(node: &Running<'_, 'a>) -> Move<'a>
-    requires { is_call node.now.node.kind ≡ true }
-    ensures { IsMove node.now 0 result }
+fn call<'a>(running: &Running<'_, 'a>) -> Move<'a>
+    requires { is_call running.now.node.kind ≡ true }
+    ensures { IsMove running.now 0 result }
 {
-    silent(calls(node.node.body, node.received))
+    silent(calls(running.node.body, running.received))
 }
 
 #[tactic(auto, using(crate::proofs::NodeMoves::furthermore_move))]
-fn furthermore<'a>(node: &Running<'_, 'a>) -> Move<'a>
-    requires kind { node.now.node.kind ≡ Kind.Furthermore }
-    requires of_text { IsOfText node.now }
-    ensures { IsMove node.now 0 result }
+fn furthermore<'a>(running: &Running<'_, 'a>) -> Move<'a>
+    requires kind { running.now.node.kind ≡ Kind.Furthermore }
+    requires of_text { IsOfText running.now }
+    ensures { IsMove running.now 0 result }
 {
-    silent(lays_over(node.part(0), node.received))
+    silent(lays_over(running.part(0), running.received))
 }
 
 #[tactic(auto, using(crate::proofs::NodeMoves::first_arm_move))]
-fn first_arm<'a>(node: &Running<'_, 'a>) -> Move<'a>
-    requires kind { node.now.node.kind ≡ Kind.Or }
-    requires of_text { IsOfText node.now }
-    ensures { IsMove node.now 0 result }
+fn first_arm<'a>(running: &Running<'_, 'a>) -> Move<'a>
+    requires kind { running.now.node.kind ≡ Kind.Or }
+    requires of_text { IsOfText running.now }
+    ensures { IsMove running.now 0 result }
 {
-    silent(chooses(node.part(0), node.part(1), node.received))
+    silent(chooses(running.part(0), running.part(1), running.received))
 }
 
 // `and` and `moreover`
 #[tactic(auto, using(crate::proofs::NodeMoves::fork_move))]
-fn fork<'a>(node: &Running<'_, 'a>) -> Move<'a>
-    requires kind { is_join node.now.node.kind ≡ true }
-    requires of_text { IsOfText node.now }
-    ensures { IsMove node.now 0 result }
+fn fork<'a>(running: &Running<'_, 'a>) -> Move<'a>
+    requires kind { is_join running.now.node.kind ≡ true }
+    requires of_text { IsOfText running.now }
+    ensures { IsMove running.now 0 result }
 {
-    silent(forks(node.number, node.part(0), node.part(1), node.received))
+    let left = running.part(0);
+    let right = running.part(1);
+    silent(forks(running.number, left, right, running.received))
 }
 
 // `and then`, `then`, `hence` and `before`
 #[tactic(auto, using(crate::proofs::NodeMoves::begin_move))]
-fn begin<'a>(node: &Running<'_, 'a>) -> Move<'a>
-    requires kind { is_chain node.now.node.kind ≡ true }
-    requires of_text { IsOfText node.now }
-    ensures { IsMove node.now 0 result }
+fn begin<'a>(running: &Running<'_, 'a>) -> Move<'a>
+    requires kind { is_chain running.now.node.kind ≡ true }
+    requires of_text { IsOfText running.now }
+    ensures { IsMove running.now 0 result }
 {
-    silent(begins(node.number, node.part(0), node.received))
+    silent(begins(running.number, running.part(0), running.received))
 }
 
 #[tactic(auto, using(crate::proofs::NodeMoves::trap_move))]
-fn trap<'a>(node: &Running<'_, 'a>) -> Move<'a>
-    requires kind { node.now.node.kind ≡ Kind.Trap }
-    requires of_text { IsOfText node.now }
-    ensures { IsMove node.now 0 result }
+fn trap<'a>(running: &Running<'_, 'a>) -> Move<'a>
+    requires kind { running.now.node.kind ≡ Kind.Trap }
+    requires of_text { IsOfText running.now }
+    ensures { IsMove running.now 0 result }
 {
-    silent(traps(node.number, node.part(0), node.received))
+    silent(traps(running.number, running.part(0), running.received))
 }
 
-fn branch<'a>(alloc: Global, node: &Running<'_, 'a>) -> Result<Move<'a>, Memory>
-    requires kind { node.now.node.kind ≡ Kind.Branch }
-    requires of_text { IsOfText node.now }
-    ensures { IfOk result (IsMove node.now 0) }
+fn branch<'a>(alloc: Global, running: &Running<'_, 'a>) -> Result<Move<'a>, Memory>
+    requires kind { running.now.node.kind ≡ Kind.Branch }
+    requires of_text { IsOfText running.now }
+    ensures { IfOk result (IsMove running.now 0) }
 {
-    let datum = node.yielded(alloc, 0)?;
-    Ok(silent(branches(datum, node.part(0), node.part(1), node.received)))
+    let datum = running.yielded(alloc, 0)?;
+    Ok(silent(branches(datum, running.part(0), running.part(1), running.received)))
 }
 
 // the first of the steps of a node
-fn first_step<'a>(alloc: Global, node: &Running<'_, 'a>) -> Result<Move<'a>, Memory>
-    requires { IsOfText node.now }
-    ensures { IfOk result (IsMove node.now 0) }
+fn first_step<'a>(alloc: Global, running: &Running<'_, 'a>) -> Result<Move<'a>, Memory>
+    requires { IsOfText running.now }
+    ensures { IfOk result (IsMove running.now 0) }
 {
-    match node.node.kind {
+    match running.node.kind {
         Kind::Complete
         | Kind::Fail
         | Kind::Escape
@@ -198,34 +200,34 @@ fn first_step<'a>(alloc: Global, node: &Running<'_, 'a>) -> Result<Move<'a>, Mem
         | Kind::Regive
         | Kind::Rebind
         | Kind::Allocate
-        | Kind::Receive => plain_step(node),
-        Kind::Give => give(alloc, node),
-        Kind::EscapeWith => escape_with(alloc, node),
-        Kind::Check => check(alloc, node),
-        Kind::Bind => bind(alloc, node),
-        Kind::BindRec => bind_recursively(node),
-        Kind::Store => store(alloc, node),
-        Kind::Send => send(alloc, node),
-        Kind::Enact => enact(alloc, node),
-        Kind::Apply => enact_application(alloc, node),
-        Kind::Unfold | Kind::Unfolding => Ok(call(node)),
-        Kind::Furthermore => Ok(furthermore(node)),
-        Kind::Or => Ok(first_arm(node)),
-        Kind::And | Kind::Moreover => Ok(fork(node)),
-        Kind::AndThen | Kind::Then | Kind::Hence | Kind::Before => Ok(begin(node)),
-        Kind::Trap => Ok(trap(node)),
-        Kind::Branch => branch(alloc, node),
+        | Kind::Receive => plain_step(running),
+        Kind::Give => give(alloc, running),
+        Kind::EscapeWith => escape_with(alloc, running),
+        Kind::Check => check(alloc, running),
+        Kind::Bind => bind(alloc, running),
+        Kind::BindRec => bind_recursively(running),
+        Kind::Store => store(alloc, running),
+        Kind::Send => send(alloc, running),
+        Kind::Enact => enact(alloc, running),
+        Kind::Apply => enact_application(alloc, running),
+        Kind::Unfold | Kind::Unfolding => Ok(call(running)),
+        Kind::Furthermore => Ok(furthermore(running)),
+        Kind::Or => Ok(first_arm(running)),
+        Kind::And | Kind::Moreover => Ok(fork(running)),
+        Kind::AndThen | Kind::Then | Kind::Hence | Kind::Before => Ok(begin(running)),
+        Kind::Trap => Ok(trap(running)),
+        Kind::Branch => branch(alloc, running),
     }
 }
 
 // the second step of `or`, which alone has two
 #[tactic(auto, using(crate::proofs::NodeMoves::second_arm_move))]
-fn second_arm<'a>(node: &Running<'_, 'a>) -> Move<'a>
-    requires kind { node.now.node.kind ≡ Kind.Or }
-    requires of_text { IsOfText node.now }
-    ensures { IsMove node.now 1 result }
+fn second_arm<'a>(running: &Running<'_, 'a>) -> Move<'a>
+    requires kind { running.now.node.kind ≡ Kind.Or }
+    requires of_text { IsOfText running.now }
+    ensures { IsMove running.now 1 result }
 {
-    silent(chooses(node.part(1), node.part(0), node.received))
+    silent(chooses(running.part(1), running.part(0), running.received))
 }
 
 fn count_of_kind(kind: Kind) -> u64

@@ -9,7 +9,7 @@ use Rattle.action_sos.proofs.node_steps.branch.Goals as goal
 
 pub returns : goal.returns
 returns c =
-    let r = c.args.node.now.received in
-    let parts : branched (option_map meant c.in_ok-datum.datum) c.part.result c.part-2.result (given_of r) (bound_of r) ≡ branched (option_map meant c.in_ok-datum.datum) (part_of_node c.args.node.now 0) (part_of_node c.args.node.now 1) (given_of r) (bound_of r) =
+    let r = c.args.running.now.received in
+    let parts : branched (option_map meant c.in_ok-datum.datum) c.part.result c.part-2.result (given_of r) (bound_of r) ≡ branched (option_map meant c.in_ok-datum.datum) (part_of_node c.args.running.now 0) (part_of_node c.args.running.now 1) (given_of r) (bound_of r) =
     λ i. branched (option_map meant c.in_ok-datum.datum) (c.part.ensures i) (c.part-2.ensures i) (given_of r) (bound_of r) in
-    branch_move c.args.node.now c.silent.result _ _ c.requires.kind c.requires.of_text c.in_ok-datum.ensures (c.branches.ensures ∙ parts) c.silent.ensures
+    branch_move c.args.running.now c.silent.result _ _ c.requires.kind c.requires.of_text c.in_ok-datum.ensures (c.branches.ensures ∙ parts) c.silent.ensures
