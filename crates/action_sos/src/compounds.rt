@@ -158,3 +158,34 @@ pub fn lays_over<'a>(part: u32, received: Received<'a>) -> Next<'a>
         received,
     }
 }
+
+#[cfg(test)]
+mod tests {
+    use super::enacts;
+    use crate::bindings::lookup;
+    use crate::datum::Datum;
+    use crate::moves::Next;
+    use bumpalo::Bump;
+    use std::test::Fail;
+
+    #[test]
+    fn an_enacted_body_knows_its_closure(rt: HostRuntime) -> Result<(), Fail> {
+        let arena = Bump::new(rt.alloc());
+        let closure = Datum::Closure {
+            body: 4,
+            bound: &[],
+            own: Some(b"f"),
+        };
+        let next = enacts(&arena, Some(&[]), Some(closure))?;
+        let known = match next {
+            Next::Within {
+                frame: _,
+                node: 4,
+                received,
+            } => lookup(received.bound, b"f").is_some(),
+            _ => false,
+        };
+        assert!(rt; known);
+        Ok(())
+    }
+}

@@ -159,3 +159,23 @@ pub fn allocates<'a>(arena: &'a Bump, cells: usize) -> Result<Move<'a>, Memory>
         next: gives_one(arena, Datum::Cell(cells))?,
     })
 }
+
+#[cfg(test)]
+mod tests {
+    use super::{allocates, binds, receives};
+    use crate::datum::Datum;
+    use crate::moves::Change;
+    use bumpalo::Bump;
+    use std::test::Fail;
+
+    #[test]
+    fn primitives_that_place_data_succeed(rt: HostRuntime) -> Result<(), Fail> {
+        let arena = Bump::new(rt.alloc());
+        let taken = receives(&arena, &[5])?;
+        assert!(rt; matches!(taken.change, Change::Takes));
+        let cell = allocates(&arena, 0)?;
+        assert!(rt; matches!(cell.change, Change::Allocates));
+        let _bound = binds(&arena, b"x", Some(Datum::Number(1)))?;
+        Ok(())
+    }
+}
