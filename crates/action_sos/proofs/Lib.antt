@@ -13,6 +13,10 @@ pub mod PartsSteps
 pub mod PartsMerged
 pub mod TreesMerged
 pub mod PartsDropped
+pub mod OperandItems
+pub mod NodeForms
+pub mod NodeMoves
+pub mod NodeSteps
 pub mod DataLists
 pub mod ItemsAt
 pub mod ItemValues

@@ -10,6 +10,7 @@ pub mod Schedules
 pub mod Operations
 pub mod TokenOrder
 pub mod Puts
+pub mod Running
 pub mod Evaluation
 pub mod Made
 pub mod Ends

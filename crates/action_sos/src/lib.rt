@@ -5,6 +5,7 @@ mod answers;
 mod bindings;
 mod changed;
 mod data;
+mod compounds;
 mod datum;
 mod end_steps;
 mod joins;
@@ -16,6 +17,8 @@ mod parts;
 mod performer;
 mod plan;
 mod world;
+mod primitives;
+mod running;
 mod yielding;
 
 pub use answers::{Moved, Outcome};
