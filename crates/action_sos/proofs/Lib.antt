@@ -13,3 +13,8 @@ pub mod PartsSteps
 pub mod PartsMerged
 pub mod TreesMerged
 pub mod PartsDropped
+pub mod ClosedFrames
+pub mod FrameCounts
+pub mod FramesKept
+pub mod CountedParts
+pub mod PartsWithin
