@@ -13,6 +13,11 @@ pub mod PartsSteps
 pub mod PartsMerged
 pub mod TreesMerged
 pub mod PartsDropped
+pub mod PartsPlaced
+pub mod PartsParents
+pub mod PartsJoined
+pub mod PartsSettled
+pub mod PartsInMemory
 pub mod ClosedFrames
 pub mod FrameCounts
 pub mod FramesKept
