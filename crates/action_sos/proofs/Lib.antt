@@ -30,3 +30,13 @@ pub mod Worlds
 pub mod StepsTaken
 pub mod OpenLengths
 pub mod PerformerEnds
+pub mod PartsPlaced
+pub mod PartsParents
+pub mod PartsJoined
+pub mod PartsSettled
+pub mod PartsInMemory
+pub mod ClosedFrames
+pub mod FrameCounts
+pub mod FramesKept
+pub mod CountedParts
+pub mod PartsWithin
