@@ -1,7 +1,7 @@
 -- The outermost frames of a part, in which each alternative is closed.
 use Rattle.std.proofs.Common.{◌≡◌, ℕ, zero, suc, ◌≤◌, true, List, [], ◌∷◌, ◌++◌, map, length, refl, sym, ap, ap₂, ◌∙◌, arith}
 use Rattle.std.proofs.lemmas.List.{map-append}
-use Rattle.action_terms.proofs.Contexts.{Frame, InCalled, InParLeft, InParRight, InFirst, InSecond, InOr, InCut, InTrap, InOver, InTail, shut_if}
+use Rattle.action_terms.proofs.Contexts.{Frame, InOr, shut_if}
 use Rattle.action_sos.specs.Views.{closed_first}
 
 pub length-closed_first : (n : ℕ) (fs : List Frame) → length (closed_first n fs) ≡ length fs
@@ -15,11 +15,11 @@ closed_first-behind zero fs gs most = refl
 closed_first-behind (suc n) [] gs most = absurd (omega arith)
 closed_first-behind (suc n) (f ∷ fs) gs most = ap (λ l. shut_if true f ∷ l) (closed_first-behind n fs gs (omega arith))
 
-pub closed_first-length : (fs : List Frame) → closed_first (length fs) fs ≡ map (shut_if true) fs
+closed_first-length : (fs : List Frame) → closed_first (length fs) fs ≡ map (shut_if true) fs
 closed_first-length [] = refl
 closed_first-length (f ∷ fs) = ap (λ l. shut_if true f ∷ l) (closed_first-length fs)
 
-pub shut-twice : (f : Frame) → shut_if true (shut_if true f) ≡ shut_if true f
+shut-twice : (f : Frame) → shut_if true (shut_if true f) ≡ shut_if true f
 shut-twice (InOr k d b) = refl
 shut-twice _ = refl
 

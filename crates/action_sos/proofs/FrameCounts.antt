@@ -1,9 +1,9 @@
 -- How many steps of their own frames have.
 use Rattle.std.proofs.Common.{◌≡◌, ℕ, zero, suc, ◌+◌, ◌≤◌, true, List, [], ◌∷◌, ◌++◌, map, length, refl, length-append, arith}
 use Rattle.std.proofs.lemmas.List.{length-map}
-use Rattle.action_terms.specs.Acting.{End, Done, Esc, Fail, Tree, Ended}
+use Rattle.action_terms.specs.Acting.{Esc, Fail, Tree, Ended}
 use Rattle.action_terms.specs.Steps.{TakesLeft, TakesRight, at_letter, after_broken}
-use Rattle.action_terms.proofs.Contexts.{Frame, InCalled, InParLeft, InParRight, InFirst, InSecond, InOr, InCut, InTrap, InOver, InTail, shut_if, framed}
+use Rattle.action_terms.proofs.Contexts.{Frame, InParLeft, InParRight, InOr, shut_if, framed}
 use Rattle.action_sos.specs.Parts.{own_steps, frames_steps}
 use Rattle.action_sos.specs.Views.{closed_first}
 
@@ -24,7 +24,7 @@ pub frames_steps-at_most : (fs : List Frame) → length (frames_steps fs) ≤ le
 frames_steps-at_most [] = omega arith
 frames_steps-at_most (f ∷ fs) = omega (arith, frames_steps-cons f fs, own-at_most f, frames_steps-at_most fs)
 
-pub frames_steps-append : (fs gs : List Frame) → length (frames_steps (fs ++ gs)) ≡ length (frames_steps fs) + length (frames_steps gs)
+frames_steps-append : (fs gs : List Frame) → length (frames_steps (fs ++ gs)) ≡ length (frames_steps fs) + length (frames_steps gs)
 frames_steps-append [] gs = omega arith
 frames_steps-append (f ∷ fs) gs = omega (arith, frames_steps-cons f fs, frames_steps-cons f (fs ++ gs), frames_steps-append fs gs)
 

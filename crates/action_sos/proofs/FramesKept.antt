@@ -1,5 +1,5 @@
 -- The frames of a part in memory, one at a time.
-use Rattle.std.proofs.Common.{◌≡◌, ℕ, suc, ◌+◌, List, [], ◌∷◌, ◌++◌, length, sym, ap, ◌∙◌, Bor, length-append, arith}
+use Rattle.std.proofs.Common.{◌≡◌, suc, ◌+◌, List, [], ◌∷◌, ◌++◌, length, sym, ap, ◌∙◌, Bor, length-append, arith}
 use Rattle.action_terms.proofs.Contexts.{Frame as FrameMeant}
 use Rattle.action_sos.specs.Parts.{frames_steps}
 use Rattle.action_sos.specs.Views.{frame_of, frames_step, frames_of}
@@ -9,9 +9,6 @@ use Rattle.action_sos.specs.declared.part.Frames.{Frames, fold-roll-Frames}
 use Rattle.action_sos.specs.declared.part.Frames.TheOpen as open_frames
 use Rattle.action_sos.specs.declared.part.Frames.TheVariants as variants
 use Rattle.action_sos.proofs.FrameCounts.{frames_steps-inmost}
-
-pub frames_of-outermost : frames_of variants.Outermost ≡ []
-frames_of-outermost = ap frames_of (sym variants.rolls-Outermost) ∙ fold-roll-Frames (List FrameMeant) frames_step open_frames.Outermost
 
 pub frames_of-inner : (f : Frame) (around : Bor Frames) → frames_of (variants.Inner f around) ≡ frames_of around.now ++ frame_of f ∷ []
 frames_of-inner f around = ap frames_of (sym (variants.rolls-Inner f around)) ∙ fold-roll-Frames (List FrameMeant) frames_step (open_frames.Inner f around)

@@ -1,6 +1,6 @@
 -- Parts in memory, one more of them looked at.
-use Rattle.std.proofs.Common.{◌≡◌, ℕ, zero, suc, ◌+◌, ◌-◌, ◌<◌, ◌≤◌, true, List, [], ◌∷◌, ◌++◌, take, drop, get_or, set, length, sym, ap, ◌∙◌, append_assoc, add-one, drop-cons, arith}
-use Rattle.std.specs.Prelude.{Some, option_map}
+use Rattle.std.proofs.Common.{◌≡◌, ℕ, zero, suc, ◌+◌, ◌-◌, ◌<◌, ◌≤◌, true, List, ◌∷◌, ◌++◌, take, drop, get_or, set, length, sym, ap, ◌∙◌, append_assoc, drop-cons, arith}
+use Rattle.std.specs.Prelude.{Some}
 use Rattle.std.proofs.lemmas.List.{map-set, get_or-map, length-map}
 use Rattle.action_sos.specs.Parts.{Focus, Leaf, Parts, Part as PartMeant, raise, height, between, between_all, closed_around, closed_before, wanted, spans}
 use Rattle.action_sos.specs.Views.{focus_of, part_of, parts_of}

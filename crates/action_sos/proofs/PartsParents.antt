@@ -1,5 +1,5 @@
 -- A part within a tree has a parent.
-use Rattle.std.proofs.Common.{◌≡◌, ℕ, zero, suc, ◌+◌, ◌<◌, ◌≤◌, List, [], ◌∷◌, ◌++◌, take, drop, get_or, length, refl, sym, ap, ◌∙◌, take-append-drop, length-take, length-drop, arith}
+use Rattle.std.proofs.Common.{◌≡◌, ℕ, zero, suc, ◌+◌, ◌<◌, ◌≤◌, List, [], ◌∷◌, ◌++◌, take, drop, get_or, length, sym, ap, ◌∙◌, take-append-drop, length-take, length-drop, arith}
 use Rattle.std.specs.Prelude.{Some}
 use Rattle.std.proofs.lemmas.Option.{same_Some}
 use Rattle.action_sos.specs.Parts.{Focus, Leaf, Parts, Part, raise, height}
@@ -19,7 +19,7 @@ height-positive (p ∷ ps) h e some =
     raise-positive p.focus behind.0 h (ap (raise p.focus) (sym behind.1) ∙ e)
 
 -- parts that lack nothing don't take the tree of a part behind them
-pub no-parent : (before behind : List Part) (h : ℕ) → height before 0 ≡ Some h → height (before ++ behind) 0 ≡ Some 1 → 0 < length before → 0 < length behind → ⊥
+no-parent : (before behind : List Part) (h : ℕ) → height before 0 ≡ Some h → height (before ++ behind) 0 ≡ Some 1 → 0 < length before → 0 < length behind → ⊥
 no-parent before behind h high one some more =
     let split = height-behind before behind 0 1 one in
     let start : split.0 ≡ 0 + split.0 = omega arith in

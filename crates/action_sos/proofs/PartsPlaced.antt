@@ -1,5 +1,5 @@
 -- The parts between a place and another before it.
-use Rattle.std.proofs.Common.{◌≡◌, ℕ, zero, suc, ◌+◌, ◌<◌, ◌≤◌, true, List, [], ◌∷◌, ◌++◌, take, drop, get_or, set, length, refl, sym, ap, ap₂, ◌∙◌, add-one, arith}
+use Rattle.std.proofs.Common.{◌≡◌, ℕ, zero, suc, ◌+◌, ◌<◌, ◌≤◌, true, List, [], ◌∷◌, ◌++◌, take, drop, get_or, set, length, refl, sym, ap, ◌∙◌, arith}
 use Rattle.action_sos.specs.Parts.{Focus, Leaf, Parts, Part, closed_around, closed_before, between, between_all}
 
 -- one more of them
@@ -9,11 +9,6 @@ drop-between (p ∷ ps) i zero d less within = absurd (omega arith)
 drop-between (p ∷ ps) zero (suc n) d less within = ap (λ m. p ∷ drop m (p ∷ take n ps)) (let one : 1 ≡ 0 + 1 = omega arith in one)
 drop-between (p ∷ ps) (suc i) (suc n) d less within =
     drop-between ps i n d (omega arith) (omega arith) ∙ ap (λ m. get_or ps i d ∷ drop m (p ∷ take n ps)) (let more : suc (i + 1) ≡ suc i + 1 = omega arith in more)
-
-pub drop-whole : {A : Type 0} (n : ℕ) (ps : List A) → drop n (take n ps) ≡ []
-drop-whole zero ps = refl
-drop-whole (suc n) [] = refl
-drop-whole (suc n) (p ∷ ps) = drop-whole n ps
 
 -- a part in front of others is read, and written
 pub get_or-front : {A : Type 0} (ms rest : List A) (i : ℕ) (d : A) → i < length ms → get_or (take (suc i) ms ++ rest) i d ≡ get_or ms i d

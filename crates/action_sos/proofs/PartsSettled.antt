@@ -1,6 +1,6 @@
 -- Parts in memory of which one has ended beside another: both are taken out, and their parent gives way to what is left of the two.
 use Rattle.std.proofs.Common.{◌≡◌, ℕ, zero, suc, ◌+◌, ◌-◌, ◌<◌, ◌≤◌, List, [], ◌∷◌, ◌++◌, All, take, drop, get_or, set, map, length, refl, sym, ap, ap₂, subst, ◌∙◌, append_assoc, length-append, length-take, arith}
-use Rattle.std.specs.Prelude.{Option, Some, option_map, slice_get}
+use Rattle.std.specs.Prelude.{Some, option_map, slice_get}
 use Rattle.std.specs.List.{remove}
 use Rattle.std.proofs.Math.ListN.{get_or-map}
 use Rattle.std.proofs.Math.Seq.{set-append_seam, get_or-append_seam}

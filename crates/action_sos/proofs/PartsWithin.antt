@@ -1,5 +1,5 @@
 -- A part in memory with one more frame, the innermost.
-use Rattle.std.proofs.Common.{◌≡◌, ℕ, suc, ◌+◌, ◌≤◌, [], ◌∷◌, ◌++◌, length, ap, ◌∙◌, Bor, arith}
+use Rattle.std.proofs.Common.{◌≡◌, ℕ, ◌+◌, [], ◌∷◌, ◌++◌, length, ap, ◌∙◌, Bor, arith}
 use Rattle.action_sos.specs.Parts.{Part as PartMeant, frames_steps}
 use Rattle.action_sos.specs.Views.{frame_of, focus_of, frames_of, closed_first, part_of}
 use Rattle.action_sos.specs.Kept.{own_count, IsCounted}

@@ -1,4 +1,4 @@
-use Rattle.std.proofs.Common.{◌≡◌, ◌+◌, ◌≤◌, true, All, ◌++◌, take, drop}
+use Rattle.std.proofs.Common.{◌≡◌, true, All, ◌++◌, take, drop}
 use Rattle.action_sos.specs.Parts.{between_all, closed_before}
 use Rattle.action_sos.specs.Views.{parts_of}
 use Rattle.action_sos.specs.Kept.{IsCounted}

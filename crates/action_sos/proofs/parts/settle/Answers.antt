@@ -1,7 +1,6 @@
-use Rattle.std.proofs.Common.{◌≡◌, ℕ, ◌+◌, suc, ◌≤◌, ◌<◌, take, drop, length, sym, ap, ◌∙◌, subst, arith}
+use Rattle.std.proofs.Common.{◌+◌, ◌<◌, length, sym, subst, arith}
 use Rattle.std.proofs.lemmas.List.Elements.{All-set}
-use Rattle.action_sos.specs.Views.{part_of, parts_of}
-use Rattle.action_sos.specs.Kept.{IsCounted, weight}
+use Rattle.action_sos.specs.Kept.{IsCounted}
 use Rattle.action_sos.proofs.PartsSettled.{All-taken, All-read, settled-alone, settled-within, settled-long, settled-inside, settled-tree, settled-same, settled-weight}
 use Rattle.action_sos.proofs.parts.settle.Goals as goal
 

@@ -1,4 +1,4 @@
-use Rattle.std.proofs.Common.{◌≡◌, ◌+◌, ◌<◌, ap, ◌∙◌, arith}
+use Rattle.std.proofs.Common.{◌<◌, ap, ◌∙◌, arith}
 use Rattle.std.specs.Prelude.{Some}
 use Rattle.action_sos.proofs.PartsInMemory.{wanted-bound, spans-seen}
 use Rattle.action_sos.proofs.parts.span_of_two.Goals as goal

@@ -1,4 +1,4 @@
-use Rattle.std.proofs.Common.{◌≡◌, [], ◌∷◌, ◌++◌, drop, map, reverse}
+use Rattle.std.proofs.Common.{◌≡◌, ◌∷◌, ◌++◌, drop, map, reverse}
 use Rattle.action_sos.specs.Views.{frame_of, part_of}
 use Rattle.action_sos.specs.Kept.{IsCounted}
 use Rattle.action_sos.proofs.part.Part.beside.Given as goal

@@ -1,7 +1,6 @@
-use Rattle.std.proofs.Common.{◌≡◌, ℕ, ◌-◌, ◌+◌, ◌≤◌, [], ◌∷◌, ◌++◌, suc, length, sym, ap, ◌∙◌, arith}
+use Rattle.std.proofs.Common.{◌≡◌, ◌-◌, ◌≤◌, [], ◌∷◌, ◌++◌, suc, length, sym, ap, ◌∙◌, arith}
 use Rattle.action_sos.specs.Parts.{frames_steps}
 use Rattle.action_sos.specs.Views.{frame_of, frames_of, closed_first}
-use Rattle.action_sos.specs.Kept.{own_count}
 use Rattle.action_sos.proofs.ClosedFrames.{closed_first-inmost, closed_first-behind}
 use Rattle.action_sos.proofs.FramesKept.{frames_of-inner, length-inner, steps-inner}
 use Rattle.action_sos.proofs.part.Part.split_inmost.Goals as goal

@@ -1,4 +1,4 @@
-use Rattle.std.proofs.Common.{◌≡◌, ap, sym, ◌∙◌}
+use Rattle.std.proofs.Common.{ap, sym, ◌∙◌}
 use Rattle.action_sos.specs.Views.{focus_of, frames_of, closed_first}
 use Rattle.action_sos.specs.Parts.{Part}
 use Rattle.action_sos.proofs.ClosedFrames.{closed_first-shut}

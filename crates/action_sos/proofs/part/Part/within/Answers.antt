@@ -1,4 +1,4 @@
-use Rattle.std.proofs.Common.{◌≡◌, ◌+◌, ap, arith}
+use Rattle.std.proofs.Common.{◌+◌, ap, arith}
 use Rattle.action_sos.proofs.CountedParts.{IsCounted-broken}
 use Rattle.action_sos.proofs.PartsWithin.{part_of-within, IsCounted-within}
 use Rattle.action_sos.proofs.part.Part.within.Goals as goal
