@@ -22,3 +22,8 @@ pub mod Turns
 pub mod Answered
 pub mod NodesOfKind
 pub mod EndedParts
+pub mod ClosedFrames
+pub mod FrameCounts
+pub mod FramesKept
+pub mod CountedParts
+pub mod PartsWithin
