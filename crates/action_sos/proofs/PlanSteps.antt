@@ -1,12 +1,11 @@
 -- Plans, as steps of a part's own.
-use Rattle.std.proofs.Common.{◌≡◌, ℕ, ◌+◌, ◌-◌, ◌≤◌, false, List, [], ◌∷◌, ◌++◌, map, length, refl, sym, ap, ap₂, ◌∙◌, arith}
-use Rattle.std.specs.Prelude.{Some, slice_get, option_map}
+use Rattle.std.proofs.Common.{◌≡◌, ℕ, ◌+◌, ◌-◌, ◌≤◌, List, [], ◌∷◌, ◌++◌, map, length, refl, sym, ap, ap₂, subst, ◌∙◌, arith}
+use Rattle.std.specs.Prelude.{slice_get}
 use Rattle.std.proofs.lemmas.List.{length-map}
-use Rattle.std.proofs.lemmas.Option.{slice_get-map}
 use Rattle.action_terms.specs.Information.{World}
 use Rattle.action_terms.specs.Acting.{Tree, Ended}
-use Rattle.action_terms.specs.Steps.{Effect, Silent, Step, commits}
-use Rattle.action_terms.proofs.Contexts.{Frame as FrameMeant, shut_if, shut_all-false}
+use Rattle.action_terms.specs.Steps.{Effect, Silent, Made, Step, commits}
+use Rattle.action_terms.proofs.Contexts.{Frame as FrameMeant, shut_if}
 use Rattle.action_sos.specs.Parts.{inside, lifted, frames_steps, part_steps}
 use Rattle.action_sos.specs.Views.{end_of, frame_of, part_of}
 use Rattle.action_sos.specs.Kept.{IsBrokenOff}
@@ -23,34 +22,25 @@ use Rattle.action_sos.specs.declared.part.Frame.{Frame}
 use Rattle.action_sos.specs.declared.part.Focus.TheVariants as focus
 use Rattle.action_sos.specs.declared.part.Part.{Part}
 use Rattle.action_sos.specs.declared.plan.Plan.{Plan}
-use Rattle.action_sos.proofs.PlacedSteps.{slice_get-append_left, slice_get-append_right, lifted-effect, lifted-tree}
+use Rattle.action_sos.proofs.PlacedSteps.{HasStep, HasStep-left, HasStep-right, HasStep-lifted}
 use Rattle.action_sos.proofs.FramesOpen.{frames-own}
+use Rattle.action_sos.proofs.PartsClosed.{closes-false}
 use Rattle.action_sos.proofs.PlanCounts.{run-steps, ended-steps}
 
 -- ---- steps at a place
 
+has-step : (steps : List Step) (j : ℕ) (e : Effect) (t : Tree) (at : IsStepAt steps j e t) → HasStep steps j t e at.0.made
+has-step steps j e t at = record { step = at.0; at = at.1; tree_is = at.3; effect_is = at.2; made_is = refl }
+
+step-at : (steps : List Step) (j : ℕ) (e : Effect) (t : Tree) (made : List Made) → HasStep steps j t e made → IsStepAt steps j e t
+step-at steps j e t made has = (has.step, has.at, has.effect_is, has.tree_is)
+
 lifted-at : (fs : List FrameMeant) (steps more : List Step) (j : ℕ) (e : Effect) (t : Tree) → IsStepAt steps j e t
     → IsStepAt (map (lifted fs) steps ++ more) j e (inside (map (shut_if (commits e)) fs) t)
-lifted-at fs steps more j e t at = (
-  lifted fs at.0,
-  slice_get-append_left (map (lifted fs) steps) more j (lifted fs at.0) (slice_get-map (lifted fs) steps j ∙ ap (option_map (lifted fs)) at.1),
-  lifted-effect fs at.0 ∙ at.2,
-  lifted-tree fs at.0 ∙ ap₂ (λ e' t'. inside (map (shut_if (commits e')) fs) t') at.2 at.3,
-)
+lifted-at fs steps more j e t at = step-at _ j e _ _ (HasStep-left (HasStep-lifted (has-step steps j e t at) fs) more)
 
 behind-at : (before steps : List Step) (i j : ℕ) (e : Effect) (t : Tree) → length before + j ≡ i → IsStepAt steps j e t → IsStepAt (before ++ steps) i e t
-behind-at before steps i j e t sum at = (
-  at.0,
-  ap (slice_get (before ++ steps)) (sym sum) ∙ slice_get-append_right before steps j ∙ at.1,
-  at.2,
-  at.3,
-)
-
-map-shut_false : (fs : List FrameMeant) → map (shut_if false) fs ≡ fs
-map-shut_false [] = refl
-map-shut_false (f ∷ fs) =
-    let h = shut_all-false (f ∷ []) in
-    ap₂ ◌∷◌ (let e : shut_if false f ≡ f = cc in e) (map-shut_false fs)
+behind-at before steps i j e t sum at = subst (λ n. IsStepAt (before ++ steps) n e t) sum (step-at _ (length before + j) e t _ (HasStep-right (has-step steps j e t at) before))
 
 -- a step among those behind others
 plan-behind : (steps before own : List Step) (count index : ℕ) (q : Plan) → steps ≡ before ++ own → length before ≡ count → count ≤ index → IsPlan own (index - count) q → IsPlan steps index q
@@ -71,7 +61,7 @@ plan-broken fs index p z off =
         own.step,
         ap₂ (λ l n. slice_get (frames_steps l) n) off.stands (sym off.place) ∙ own.at,
         own.effect_is,
-        own.tree_is ∙ ap (λ l. inside l (Ended (end_of z))) (sym (map-shut_false outer)),
+        own.tree_is ∙ ap (λ l. inside l (Ended (end_of z))) (sym (ap (λ q. q.frames) (closes-false (part_of p)))),
       );
     }
 
