@@ -40,3 +40,10 @@ pub mod FrameCounts
 pub mod FramesKept
 pub mod CountedParts
 pub mod PartsWithin
+pub mod FramesInMemory
+pub mod SoundWithin
+pub mod SoundParts
+pub mod PlanCounts
+pub mod StepsFound
+pub mod PlanSteps
+pub mod PartWorlds

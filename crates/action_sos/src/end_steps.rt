@@ -1,5 +1,9 @@
 //! The steps of a whole whose part has ended.
+<<<<<<< HEAD
 ghost use Rattle.std.specs.Prelude.{◌≡◌, ◌≢◌, ◌<◌, ◌∷◌, [], Some, length, slice_get, IfOk, IsTrue, ◌↔◌};
+=======
+ghost use Rattle.std.specs.Prelude.{◌≡◌, ◌≢◌, ◌<◌, ◌≤◌, ℕ, ◌∷◌, [], Some, length, slice_get, IfOk, IsTrue, ◌↔◌};
+>>>>>>> a7608aa4ba52e6a81c1ef43a801ceff0d448aaaa
 ghost use Rattle.action_terms.specs.Information.{World};
 ghost use Rattle.action_terms.specs.Acting.{Ended};
 ghost use Rattle.action_terms.specs.Actions.{Stray, node_at};
@@ -31,8 +35,9 @@ fn is_broken(end: End<'_>) -> bool
 
 /// How many steps stand open where a part within the frame has ended so.
 pub fn count_of_end(frame: Frame<'_>, end: End<'_>) -> u64
-    ensures { (g : Lists) (w : World) → IsSoundTree (action_in g) (wrap (frame_of frame.entry) (Ended (end_of end.entry))) →
+    ensures count { (g : Lists) (w : World) → IsSoundTree (action_in g) (wrap (frame_of frame.entry) (Ended (end_of end.entry))) →
         result ≡ length (ended_steps g frame.entry end.entry w) }
+    ensures bound { result ≤ 2 }
 {
     match frame {
         Frame::Beside { end: other, .. } if is_broken(other) && is_broken(end) => 2,

@@ -67,7 +67,7 @@ pub fn count_of_parts(graph: Lists<'_>, parts: &[Part<'_>]) -> u64
     ensures count { (w : World) → result ≡ open_count (action_in graph.entry) w (parts_of parts.now) }
 {
     let mut count = 0;
-    for part in parts.iter().rev() {
+    for part in parts {
         count += count_of_part(graph, *part);
     }
     count
@@ -85,15 +85,14 @@ pub fn find_step(graph: Lists<'_>, parts: &[Part<'_>], choice: u64) -> (usize, u
     ensures own { (w : World) (d : Part) → result.1 < length (part_steps (action_in graph.entry) w (part_of (get_or parts.now result.0 d))) }
 {
     let mut index = choice;
-    let mut place = parts.len() - 1;
-    loop {
+    for place in (0..parts.len()).rev() {
         let count = count_of_part(graph, parts[place]);
         if index < count {
             return (place, index);
         }
         index -= count;
-        place -= 1;
     }
+    unreachable!()
 }
 
 // The step of this index among those of the frames around a part, each of which takes the end of a part beside.

@@ -1,0 +1,41 @@
+-- What stands within frames of a sound tree is sound.
+use Rattle.std.proofs.Common.{◌≡◌, ℕ, ◌<◌, List, [], ◌∷◌, ◌++◌, map, length, subst, ◌∙◌}
+use Rattle.std.proofs.lemmas.List.{length-map}
+use Rattle.action_terms.specs.Actions.{Action}
+use Rattle.action_terms.specs.Acting.{End, Tree, Run, Ended}
+use Rattle.action_terms.specs.Information.{Data, Binds}
+use Rattle.action_terms.specs.Nodes.{listed_node}
+use Rattle.action_terms.specs.Meaning.{node_with, items_from}
+use Rattle.action_terms.specs.Sound.{IsSoundTree}
+use Rattle.action_terms.proofs.Contexts.{Frame, InCalled, InParLeft, InParRight, InFirst, InSecond, InOr, InCut, InTrap, InOver, InTail, wrap}
+use Rattle.action_sos.specs.Parts.{inside}
+use Rattle.action_sos.specs.Moves.{listed_of, action_in}
+use Rattle.action_sos.specs.declared.moves.Lists.{Lists}
+use Rattle.action_sos.proofs.FramesOpen.{inside-behind}
+
+wrapped-sound : (a : Action) (f : Frame) (t : Tree) → IsSoundTree a (wrap f t) → IsSoundTree a t
+wrapped-sound a (InCalled c) t s = s
+wrapped-sound a (InParLeft k y) t s = s.1
+wrapped-sound a (InParRight k x) t s = s.2
+wrapped-sound a (InFirst k d b) t s = s.1
+wrapped-sound a (InSecond k d1 b1) t s = s.3
+wrapped-sound a (InOr k2 d b) t s = s.0
+wrapped-sound a InCut t s = s
+wrapped-sound a (InTrap k b) t s = s.1
+wrapped-sound a (InOver b) t s = s.0
+wrapped-sound a (InTail n) t s = s
+
+pub inside-sound : (a : Action) (fs : List Frame) (t : Tree) → IsSoundTree a (inside fs t) → IsSoundTree a t
+inside-sound a [] t s = s
+inside-sound a (f ∷ fs) t s = inside-sound a fs t (wrapped-sound a f (inside fs t) s)
+
+-- with the innermost frame
+pub inmost-sound : (a : Action) (fs : List Frame) (f : Frame) (t : Tree) → IsSoundTree a (inside (fs ++ f ∷ []) t) → IsSoundTree a (wrap f t)
+inmost-sound a fs f t s = inside-sound a fs (wrap f t) (subst (IsSoundTree a) (inside-behind fs (f ∷ []) t) s)
+
+length-action_in : (g : Lists) → length (action_in g) ≡ length g.nodes.now
+length-action_in g = length-map (map listed_node g.nodes.now) (node_with (items_from 0 (listed_of g).yielders)) ∙ length-map g.nodes.now listed_node
+
+-- a node that is to be performed is one of the graph
+pub run-there : (g : Lists) (fs : List Frame) (k : ℕ) (d : Data) (b : Binds) → IsSoundTree (action_in g) (inside fs (Run k d b)) → k < length g.nodes.now
+run-there g fs k d b s = subst (λ n. k < n) (length-action_in g) (inside-sound (action_in g) fs (Run k d b) s).0
