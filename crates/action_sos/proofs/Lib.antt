@@ -22,3 +22,12 @@ pub mod Turns
 pub mod Answered
 pub mod NodesOfKind
 pub mod EndedParts
+pub mod ClosedFrames
+pub mod FrameCounts
+pub mod FramesKept
+pub mod CountedParts
+pub mod PartsWithin
+pub mod KeptInMemory
+pub mod PartsWeights
+pub mod ChangedParts
+pub mod ChangedInMemory

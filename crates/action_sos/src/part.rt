@@ -1,6 +1,7 @@
 //! A part of an acting tree that runs, and the frames around it.
-ghost use Rattle.std.specs.Prelude.{◌≡◌, ◌+◌, ◌<◌, ◌≤◌, [], ◌∷◌, ◌++◌, true, length, IfOk, IfSome, IfNone};
-ghost use Rattle.action_sos.specs.Parts.{closes};
+ghost use Rattle.std.specs.Prelude.{◌≡◌, ◌+◌, ◌<◌, ◌≤◌, [], ◌∷◌, ◌++◌, true, length, map, reverse, IfOk, IfSome, IfNone};
+ghost use Rattle.action_terms.proofs.Contexts.{shut_if};
+ghost use Rattle.action_sos.specs.Parts.{closes, IsBesideEnd, IsBroken};
 ghost use Rattle.action_sos.specs.Views.{frame_of, focus_of, end_of, part_of};
 ghost use Rattle.action_sos.specs.Kept.{own_count, IsCounted, IsBrokenOff};
 
@@ -157,6 +158,35 @@ pub fn own_count(frame: Frame<'_>) -> usize
     }
 }
 
+impl<'a> Frame<'a> {
+    // the frame once what stands within has committed
+    fn shut(self) -> Frame<'a>
+        ensures { frame_of result ≡ shut_if true (frame_of self.entry) }
+    {
+        match self {
+            Frame::Or { .. } => Frame::Cut,
+            frame => frame,
+        }
+    }
+
+    // how the part beside has escaped or failed, where it has
+    fn broken_beside(self) -> Option<End<'a>>
+        ensures beside { IfSome result (λ z. IsBesideEnd (end_of z) (frame_of self.entry)) }
+        ensures broken { IfSome result (λ z. IsBroken (end_of z)) }
+        ensures one { IfSome result (λ z. own_count self.entry ≡ 1) }
+        ensures none { IfNone result (own_count self.entry ≡ 0) }
+    {
+        match self {
+            Frame::Beside {
+                end: End::Done { .. },
+                ..
+            } => None,
+            Frame::Beside { end, .. } => Some(end),
+            _ => None,
+        }
+    }
+}
+
 impl<'a> Part<'a> {
     /// A part with no frames.
     pub fn bare(focus: Focus<'a>) -> Part<'a>
@@ -192,7 +222,23 @@ impl<'a> Part<'a> {
         ensures counted { IfSome result (λ r. IsCounted r.1) }
         ensures none { IfNone result ((part_of self.entry).frames ≡ []) }
     {
-        None
+        let Frames::Inner { frame, around } = self.frames else {
+            return None;
+        };
+        let depth = self.depth - 1;
+        let (frame_now, closed) = if self.closed > depth {
+            (frame.shut(), depth)
+        } else {
+            (frame, self.closed)
+        };
+        let part = Part {
+            frames: *around,
+            depth,
+            closed,
+            broken: self.broken - own_count(frame),
+            focus: self.focus,
+        };
+        Some((frame_now, part))
     }
 
     /// The part with one more frame, the innermost.
@@ -201,7 +247,31 @@ impl<'a> Part<'a> {
         ensures part { IfOk result (λ p. part_of p ≡ record { frames = (part_of self.entry).frames ++ frame_of frame.entry ∷ []; focus = (part_of self.entry).focus }) }
         ensures counted { IfOk result (λ p. IsCounted p) }
     {
-        Err(Memory)
+        let Some(depth) = self.depth.checked_add(1) else {
+            return Err(Memory);
+        };
+        let around = arena.try_alloc(self.frames)?;
+        Ok(Part {
+            frames: Frames::Inner { frame, around },
+            depth,
+            closed: self.closed,
+            broken: self.broken + own_count(frame),
+            focus: self.focus,
+        })
+    }
+
+    // the frames as they stand, the innermost first
+    fn inmost_first(self, alloc: Global) -> Result<Vec<Frame<'a>>, Memory>
+        requires counted { IsCounted self }
+        ensures { IfOk result (λ v. reverse (map frame_of v.items) ≡ (part_of self.entry).frames) }
+    {
+        let mut frames = Vec::with_capacity(alloc, self.depth)?;
+        let mut part = self;
+        while let Some((frame, outer)) = part.split_inmost() {
+            frames.push(frame)?;
+            part = outer;
+        }
+        Ok(frames)
     }
 
     /// The part around a frame beside a part that has escaped or failed, and how that has ended. The index counts these frames from the innermost on.
@@ -211,7 +281,18 @@ impl<'a> Part<'a> {
         ensures frames { IsBrokenOff (part_of self.entry).frames index (part_of result.0).frames (end_of result.1) }
         ensures counted { IsCounted result.0 }
     {
-        (self, End::Failed)
+        let mut part = self;
+        let mut left = index;
+        while let Some((frame, outer)) = part.split_inmost() {
+            part = outer;
+            if let Some(end) = frame.broken_beside() {
+                if left == 0 {
+                    return (part, end);
+                }
+                left -= 1;
+            }
+        }
+        unreachable!()
     }
 
     /// What is left of two parts where one has ended: the frames of the node of both, the frame that says how one has ended, and the other part within.
@@ -227,6 +308,14 @@ impl<'a> Part<'a> {
         ensures part { IfOk result (λ p. part_of p ≡ record { frames = (part_of self.entry).frames ++ frame_of frame.entry ∷ (part_of inner.entry).frames; focus = (part_of inner.entry).focus }) }
         ensures counted { IfOk result (λ p. IsCounted p) }
     {
-        Err(Memory)
+        let frames = inner.inmost_first(alloc)?;
+        let mut part = self.within(arena, frame)?;
+        for i in (0..frames.len()).rev() {
+            part = part.within(arena, frames[i])?;
+        }
+        Ok(Part {
+            focus: inner.focus,
+            ..part
+        })
     }
 }

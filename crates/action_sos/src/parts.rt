@@ -16,8 +16,7 @@ pub fn close_around(parts: &mut [Part<'_>], place: usize)
     requires counted { All IsCounted parts.old }
     ensures parts { parts_of parts.new ≡ closed_before true (take place (parts_of parts.old)) ++ drop place (parts_of parts.old) }
     ensures counted { All IsCounted parts.new }
-{
-}
+{}
 
 /// How many of the first parts make up two trees.
 pub fn span_of_two(parts: &[Part<'_>]) -> usize
