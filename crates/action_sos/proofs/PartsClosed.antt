@@ -60,7 +60,7 @@ closed_before-kept q (p ∷ ps) kept =
     (closed_before-kept q ps (All-tail AreKept p ps kept))
 
 -- nothing changes without a commitment
-closes-false : (p : Part) → closes false p ≡ p
+pub closes-false : (p : Part) → closes false p ≡ p
 closes-false p = ap (λ l. record p { frames = l }) (map-false p.frames)
   where
     map-false : (fs : List Frame) → map (shut_if false) fs ≡ fs
