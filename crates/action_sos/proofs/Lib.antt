@@ -31,3 +31,4 @@ pub mod KeptInMemory
 pub mod PartsWeights
 pub mod ChangedParts
 pub mod ChangedInMemory
+pub mod ChangedTrees
