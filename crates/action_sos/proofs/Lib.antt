@@ -22,6 +22,11 @@ pub mod Turns
 pub mod Answered
 pub mod NodesOfKind
 pub mod EndedParts
+pub mod PartsPlaced
+pub mod PartsParents
+pub mod PartsJoined
+pub mod PartsSettled
+pub mod PartsInMemory
 pub mod ClosedFrames
 pub mod FrameCounts
 pub mod FramesKept

@@ -8,7 +8,7 @@ use Rattle.action_sos.proofs.PartsSteps.{under}
 use Rattle.action_sos.proofs.PartsPushed.{raise-some, pushed-append, pushed-above, height-behind, height-above, height-trees}
 pub use Rattle.action_sos.specs.Parts.{wanted, spans}
 
-mapped : (o : Option ℕ) (m : ℕ) → option_map suc o ≡ Some m → (m' : ℕ) × (o ≡ Some m') × (m ≡ suc m')
+pub mapped : (o : Option ℕ) (m : ℕ) → option_map suc o ≡ Some m → (m' : ℕ) × (o ≡ Some m') × (m ≡ suc m')
 mapped None m e = cc
 mapped (Some m') m e = (m', refl, sym (same_Some (suc m') m e))
 

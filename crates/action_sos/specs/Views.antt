@@ -12,6 +12,7 @@ use Rattle.action_sos.specs.declared.datum.Datum.TheOpen as open_data
 use Rattle.action_sos.specs.declared.datum.Binding.{Binding, Binding-F, fold-Binding}
 use Rattle.action_sos.specs.declared.datum.End.{End}
 use Rattle.action_sos.specs.declared.datum.End.TheVariants as end
+use Rattle.action_sos.specs.declared.part.Side.{Side}
 use Rattle.action_sos.specs.declared.part.Side.TheVariants as side
 use Rattle.action_sos.specs.declared.part.Frame.{Frame}
 use Rattle.action_sos.specs.declared.part.Frame.TheVariants as frame
@@ -69,6 +70,11 @@ frame_of (frame.Trap k b) = InTrap k (bindings_of b.now)
 frame_of (frame.Over b) = InOver (bindings_of b.now)
 frame_of (frame.Beside k side.Left z) = InParRight k (Ended (end_of z))
 frame_of (frame.Beside k side.Right z) = InParLeft k (Ended (end_of z))
+
+-- how many trees stand between a node of two parts and the part on this side: the right part stands first
+abbrev pub trees_between : Side → ℕ
+trees_between side.Right = 0
+trees_between side.Left = 1
 
 abbrev pub focus_of : Focus → FocusMeant
 focus_of (focus.Run k d b) = Leaf (Run k (data_of d.now) (bindings_of b.now))
