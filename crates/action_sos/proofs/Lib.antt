@@ -47,3 +47,8 @@ pub mod PlanCounts
 pub mod StepsFound
 pub mod PlanSteps
 pub mod PartWorlds
+pub mod KeptInMemory
+pub mod PartsWeights
+pub mod ChangedParts
+pub mod ChangedInMemory
+pub mod ChangedTrees

@@ -13,7 +13,7 @@ length-closed_before q [] = refl
 length-closed_before q (p ∷ ps) = ap suc (length-closed_before q ps)
 
 -- a part by whether a commitment closes its frames
-closed_around-cases : (P : Part → Type 0) (q : Bool) (f : Focus) (h : ℕ) (p : Part) → P p → P (closes q p) → P (closed_around q f h p)
+pub closed_around-cases : (P : Part → Type 0) (q : Bool) (f : Focus) (h : ℕ) (p : Part) → P p → P (closes q p) → P (closed_around q f h p)
 closed_around-cases P q (Leaf t) h p same closed = same
 closed_around-cases P q (Parts k) zero p same closed = closed
 closed_around-cases P q (Parts k) (suc zero) p same closed = closed
@@ -35,7 +35,7 @@ closed_before-going q (p ∷ ps) going =
     (closed_around-cases IsGoing q p.focus (between_all ps) p here shut)
     (closed_before-going q ps (All-tail IsGoing p ps going))
 
-shut_if-kept : (q : Bool) (f : Frame) → IsKeptFrame f → IsKeptFrame (shut_if q f)
+pub shut_if-kept : (q : Bool) (f : Frame) → IsKeptFrame f → IsKeptFrame (shut_if q f)
 shut_if-kept true (InOr k d b) kept = tt
 shut_if-kept false (InOr k d b) kept = tt
 shut_if-kept q (InCalled c) kept = kept
