@@ -1,9 +1,5 @@
 //! The steps of a whole whose part has ended.
-<<<<<<< HEAD
-ghost use Rattle.std.specs.Prelude.{◌≡◌, ◌≢◌, ◌<◌, ◌∷◌, [], Some, length, slice_get, IfOk, IsTrue, ◌↔◌};
-=======
 ghost use Rattle.std.specs.Prelude.{◌≡◌, ◌≢◌, ◌<◌, ◌≤◌, ℕ, ◌∷◌, [], Some, length, slice_get, IfOk, IsTrue, ◌↔◌};
->>>>>>> a7608aa4ba52e6a81c1ef43a801ceff0d448aaaa
 ghost use Rattle.action_terms.specs.Information.{World};
 ghost use Rattle.action_terms.specs.Acting.{Ended};
 ghost use Rattle.action_terms.specs.Actions.{Stray, node_at};
