@@ -11,10 +11,10 @@ use Rattle.action_sos.proofs.FrameCounts.{frames_steps-cons, frames_steps-at_mos
 pub IsCounted-broken : (p : Part) → IsCounted p → p.broken ≤ p.depth
 IsCounted-broken p counted = omega (arith, counted.depth, counted.broken, frames_steps-at_most (frames_of p.frames))
 
-depth-frames : (p : Part) → IsCounted p → p.depth ≡ length (part_of p).frames
+pub depth-frames : (p : Part) → IsCounted p → p.depth ≡ length (part_of p).frames
 depth-frames p counted = counted.depth ∙ sym (length-closed_first p.closed (frames_of p.frames))
 
-broken-frames : (p : Part) → IsCounted p → p.broken ≡ length (frames_steps (part_of p).frames)
+pub broken-frames : (p : Part) → IsCounted p → p.broken ≡ length (frames_steps (part_of p).frames)
 broken-frames p counted = counted.broken ∙ sym (frames_steps-closed_first p.closed (frames_of p.frames))
 
 -- the part without its innermost frame
