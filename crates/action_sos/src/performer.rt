@@ -52,7 +52,7 @@ impl<'a> Performer<'a> {
         ensures count { result ≡ length (steps_of self.now) }
         ensures at_end { result ≡ 0 ↔ IsEnd self.now.state.tree }
     {
-        0
+        self.count
     }
 
     /// Takes the open step with the index `choice`. After `Memory` the performer is as before.
@@ -62,6 +62,9 @@ impl<'a> Performer<'a> {
         ensures moved { IfOk result (λ m. m ≡ moved_to self.new.state.tree) }
         ensures kept { OnErr result (self.new ≡ self.old) }
     {
+        if self.count == 0 {
+            return Err(Memory);
+        }
         Err(Memory)
     }
 
