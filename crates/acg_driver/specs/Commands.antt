@@ -3,6 +3,8 @@ use Rattle.std.specs.Prelude.{ℕ, ◌^◌, Bool, true, ◌&&◌, not, nat_lt, i
 use Rattle.std.specs.List.{list_all}
 use Rattle.std.specs.Str.{bytes_eq}
 use Rattle.acg_base.specs.Decimals.{spelled_number}
+use Rattle.acg_driver.specs.declared.words.Command.{Command as Request}
+use Rattle.acg_driver.specs.declared.words.Command.TheVariants as request
 
 -- `act ACTION` and `perform N ACTION [INPUT]`, with the names of their files
 pub data Command : Type 0 where
@@ -35,3 +37,13 @@ command_of (command ∷ operands) =
        else if bytes_eq command (codes "perform") then perform_of operands
        else None)
     else None
+
+-- the command that a value of the program stands for
+abbrev pub asked : Request → Command
+asked (request.Act name) = Act name.now
+asked (request.Perform number name input) = Perform number name.now (option_map (λ file. file.now) input)
+
+-- the operand of an input, where there is one
+abbrev pub listed_input : Option (List ℕ) → List (List ℕ)
+listed_input None = []
+listed_input (Some input) = input ∷ []

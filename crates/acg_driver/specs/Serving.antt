@@ -1,6 +1,7 @@
 -- What serving a command line does: to the sink, and to the store.
-use Rattle.std.specs.Prelude.{◌≡◌, ◌≢◌, ◌⊎◌, ℕ, ◌≤◌, Bool, true, IsTrue, List, ◌++◌, length, Option, Some, None}
+use Rattle.std.specs.Prelude.{◌≡◌, ◌≢◌, ◌⊎◌, ℕ, ◌≤◌, Bool, true, IsTrue, List, ◌++◌, length, Option, Some, None, Result, Ok, Err}
 use Rattle.acg_base.specs.Outside.{Contents, SameContents, Grew, Rose}
+use Rattle.acg_base.specs.declared.store.StoreError.{StoreError}
 use Rattle.acg_base.specs.declared.status.Status.{Status}
 use Rattle.acg_base.specs.declared.status.Status.TheVariants as status
 use Rattle.action_terms.specs.Numbering.{Listed}
@@ -12,6 +13,7 @@ use Rattle.acg_driver.specs.Commands.{Command, Act, Perform, command_of}
 use Rattle.acg_driver.specs.Lines.{words_line, memory_line, read_fault_line}
 use Rattle.acg_driver.specs.Answers.{Reads, IsAnswer, default_stack, default_units}
 use Rattle.acg_driver.specs.Contents.{IsContentAt}
+use Rattle.acg_driver.specs.Prints.{unread_status}
 use Rattle.acg_driver.specs.Performed.{IsInput, input_limit, IsPerformReply}
 
 -- what `act` prints, by its status. Memory may run out before the file is read
@@ -46,6 +48,11 @@ pub record Looked {S : Type 0} (contents : S → Contents) (failed_reads failed_
   pub writes : failed_writes new ≡ failed_writes old
   pub tells_still : tells new ≡ tells old
 
+-- the status of a read
+abbrev pub read_status : {A : Type 0} → Result A StoreError → Status
+read_status (Ok read) = status.Done
+read_status (Err e) = unread_status e
+
 -- the store lacks a file that the command reads: a second one is read where the first spells an action
 abbrev pub Lacks : Contents → Command → Type 0
 Lacks contents (Act name) = contents name ≡ None
@@ -53,10 +60,19 @@ Lacks contents (Perform n name None) = contents name ≡ None
 Lacks contents (Perform n name (Some input)) =
     (contents name ≡ None) ⊎ (((content : List ℕ) × (g : Listed) × (contents name ≡ Some content) × Reads content g) × (contents input ≡ None))
 
--- over a store whose reads fail only at names that aren't there, a read fault is answered where a file isn't there, unless memory runs out before or the sink fails
-pub record FaultsSurely (contents : Contents) (command : Command) (result : Status) : Type 0 where
-  pub only : result ≡ status.ReadFault → Lacks contents command
-  pub all : Lacks contents command → (result ≡ status.ReadFault) ⊎ ((result ≡ status.Memory) ⊎ (result ≡ status.WriteFault))
+-- the file of an input isn't there
+abbrev pub LacksInput : Contents → (input : Option (List ℕ)) → Type 0
+LacksInput contents None = ⊥
+LacksInput contents (Some name) = contents name ≡ None
+
+-- a read fault is answered where a file is lacking, unless memory runs out before or the sink fails
+pub record FaultsWhere (IsLacking : Type 0) (result : Status) : Type 0 where
+  pub only : result ≡ status.ReadFault → IsLacking
+  pub all : IsLacking → (result ≡ status.ReadFault) ⊎ ((result ≡ status.Memory) ⊎ (result ≡ status.WriteFault))
+
+-- over a store whose reads fail only at names that aren't there, a read fault is answered where a file of the command isn't there
+abbrev pub FaultsSurely : Contents → Command → Status → Type 0
+FaultsSurely contents command result = FaultsWhere (Lacks contents command) result
 
 -- the statuses of a performance that isn't refused
 abbrev pub IsOfPerformance : Status → Type 0
