@@ -1,5 +1,5 @@
 -- The reply to `act`, from the answer for what was read.
-use Rattle.std.proofs.Common.{◌≡◌, ℕ, Bool, List, refl}
+use Rattle.std.proofs.Common.{ℕ, Bool, List, refl}
 use Rattle.acg_base.specs.Outside.{Contents}
 use Rattle.acg_base.specs.declared.status.Status.{Status}
 use Rattle.acg_base.specs.declared.status.Status.TheVariants as status

@@ -1,14 +1,13 @@
 -- What is printed for an input: from what is printed for its integers, and from what was read of its file.
-use Rattle.std.proofs.Common.{◌≡◌, ◌⊎◌, inl, inr, ℕ, ◌+◌, ◌<◌, ◌≤◌, Bool, true, false, List, [], length, Option, Some, None, refl, sym, ap, ◌∙◌, subst, arith, IsTrue}
-use Rattle.std.proofs.lemmas.List.{take_all, length-take}
-use Rattle.acg_base.specs.Outside.{Contents, SameContents, front}
+use Rattle.std.proofs.Common.{inl, inr, ℕ, ◌≤◌, Bool, true, false, List, [], length, Option, Some, None, refl, subst}
+use Rattle.acg_base.specs.Outside.{Contents, front}
 use Rattle.acg_base.specs.declared.status.Status.{Status}
 use Rattle.acg_base.specs.declared.status.Status.TheVariants as status
 use Rattle.acg_base.specs.declared.store.StoreError.{StoreError}
 use Rattle.acg_base.specs.declared.store.StoreError.TheVariants as store_error
 use Rattle.action_terms.specs.Performances.{records}
 use Rattle.action_terms.specs.Numbering.{Listed}
-use Rattle.acg_driver.specs.Contents.{IsContentAt, IsFrontAt}
+use Rattle.acg_driver.specs.Contents.{IsFrontAt}
 use Rattle.acg_driver.specs.Prints.{unread_line, unread_status}
 use Rattle.acg_driver.specs.Performed.{IsPerformed, IsInput, IsInputAnswer, IsReadOn, IsInputReply, input_limit}
 use Rattle.acg_driver.proofs.Fronts.{short-front, long-front}

@@ -1,5 +1,5 @@
 -- What a request does to a store whose files it reads.
-use Rattle.std.proofs.Common.{◌≡◌, ◌≢◌, ◌⊎◌, inl, inr, ℕ, ◌≤◌, Bool, IsTrue, List, refl, sym, ap, ◌∙◌, subst, arith}
+use Rattle.std.proofs.Common.{◌≡◌, ◌≢◌, ◌⊎◌, inl, inr, ℕ, Bool, IsTrue, refl, sym, ◌∙◌, subst, arith}
 use Rattle.acg_base.specs.Outside.{Contents, Grew, Rose}
 use Rattle.acg_base.specs.declared.status.Status.{Status}
 use Rattle.acg_base.specs.declared.status.Status.TheVariants as status
@@ -24,9 +24,9 @@ module _ {S : Type 0} {contents : S → Contents} {failed_reads failed_writes : 
     same = looked.same;
     failed = λ fault. looked.failed (sym (answers (read-not_write fault)) ∙ fault);
     grew = λ more. elim (write_fault-or result) [
-        | inl fault ↦ inr fault
-        | inr other ↦ elim (looked.grew more) [ inl fault ↦ inl (answers other ∙ fault) | inr fault ↦ inr (answers other ∙ fault) ]
-      ];
+      | inl fault ↦ inr fault
+      | inr other ↦ elim (looked.grew more) [ inl fault ↦ inl (answers other ∙ fault) | inr fault ↦ inr (answers other ∙ fault) ]
+    ];
     counts = looked.counts;
     writes = looked.writes;
     tells_still = looked.tells_still;
@@ -77,9 +77,9 @@ pub faults-unread : {IsLacking : Type 0} {result : Status} (e : StoreError) → 
 faults-unread {IsLacking} {result} e lacks answers = record {
   only = λ fault. lacks (failed-unread e (sym (answers (read-not_write fault)) ∙ fault));
   all = λ _. elim (write_fault-or result) [
-      | inl fault ↦ inr (inr fault)
-      | inr other ↦ elim (unread-cases e) [ inl fault ↦ inl (answers other ∙ fault) | inr memory ↦ inr (inl (answers other ∙ memory)) ]
-    ];
+    | inl fault ↦ inr (inr fault)
+    | inr other ↦ elim (unread-cases e) [ inl fault ↦ inl (answers other ∙ fault) | inr memory ↦ inr (inl (answers other ∙ memory)) ]
+  ];
 }
 
 -- nothing is lacking, and no read fault is answered

@@ -1,5 +1,5 @@
 -- The reply to `perform`, from what becomes of the files that it reads.
-use Rattle.std.proofs.Common.{◌≡◌, ◌≢◌, ◌⊎◌, inl, inr, ℕ, Bool, List, Option, Some, None, refl, sym, ◌∙◌, subst, IsTrue}
+use Rattle.std.proofs.Common.{◌≡◌, ◌≢◌, inl, inr, ℕ, Bool, List, Option, Some, None, refl, sym, ◌∙◌, subst, IsTrue}
 use Rattle.acg_base.specs.Outside.{Contents, SameContents, front}
 use Rattle.acg_base.specs.declared.status.Status.{Status}
 use Rattle.acg_base.specs.declared.status.Status.TheVariants as status
@@ -28,11 +28,11 @@ perform-unread told contents n name input store_error.Failed = inr (inl (refl, r
 -- so does a refused text
 pub perform-refused : (told : Bool) (contents : Contents) (n : ℕ) (name : List ℕ) (input : Option (List ℕ)) (read : List ℕ) (r : Refusal) → IsFrontAt action_limit told contents name read → Refuses read r → IsPerformReply told contents n name input (refusal_line r) (refusal_status r)
 perform-refused told contents n name input read r found refuses = elim (text-refused read r refuses) [
-    | inl memory ↦ inl memory
-    | inr refused ↦
+  | inl memory ↦ inl memory
+  | inr refused ↦
       let there = refusal-located told contents name read (refusal_line r) (refusal_status r) found refused in
       inr (inr (there.0, there.1, inl there.2))
-  ]
+]
 
 -- an input of a store with the same contents
 same-input : (told told' : Bool) (contents contents' : Contents) (input : Option (List ℕ)) (bytes : List ℕ) → told' ≡ told → (IsTrue told → SameContents contents contents') → IsInput told' contents' input bytes → IsInput told contents input bytes
@@ -82,11 +82,11 @@ pub faults-refused : (contents : Contents) (n : ℕ) (name : List ℕ) (input : 
 faults-refused contents n name input bytes read r result there is_front refuses answers = record {
   only = λ fault. absurd (refused-other r (sym (answers (read-not_write fault)) ∙ fault));
   all = λ lacks. elim (write_fault-or result) [
-      | inl fault ↦ inr (inr fault)
-      | inr other ↦
+    | inl fault ↦ inr (inr fault)
+    | inr other ↦
         let text = lacks-reads contents n name input bytes there lacks in
         inr (inl (answers other ∙ reads-refused_memory bytes text.0 r text.1 (subst (λ b. Refuses b r) is_front refuses)))
-    ];
+  ];
 }
 
 -- the file of an input is lacking in a store with the same contents

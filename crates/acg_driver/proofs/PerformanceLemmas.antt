@@ -1,11 +1,11 @@
 -- Performances that a number chooses: how far they come in so many steps, and what they have sent.
-use Rattle.std.proofs.Common.{◌≡◌, ℕ, zero, suc, ◌+◌, ◌<◌, ◌≤◌, ℤ, List, [], ◌∷◌, ◌++◌, length, drop, Some, slice_get, refl, sym, ap, ◌∙◌, subst, arith, append-nil}
+use Rattle.std.proofs.Common.{◌≡◌, ℕ, ◌+◌, ◌<◌, ◌≤◌, ℤ, List, [], ◌∷◌, ◌++◌, length, drop, Some, slice_get, refl, sym, ap, ◌∙◌, subst, arith, append-nil}
 use Rattle.std.proofs.lemmas.List.{length-append, drop_at}
 use Rattle.acg_base.specs.declared.status.Status.TheVariants as status
-use Rattle.action_terms.specs.Information.{World, NoBinds}
+use Rattle.action_terms.specs.Information.{World}
 use Rattle.action_terms.specs.Acting.{End, Done, Esc, Fail, Tree, Run, Ended, Called, Par, First, Second, Or, Cut, Trap, Over}
-use Rattle.action_terms.specs.Steps.{Effect, Silent, Commits, Allocates, Takes, Misses, Puts, Sends, Step, open_steps, world_after}
-use Rattle.action_terms.specs.Performances.{State, start, after}
+use Rattle.action_terms.specs.Steps.{Effect, Silent, Commits, Allocates, Takes, Misses, Puts, Sends, Step, world_after}
+use Rattle.action_terms.specs.Performances.{State, start}
 use Rattle.action_terms.specs.Numbering.{Listed}
 use Rattle.action_terms.specs.Meaning.{action_of}
 use Rattle.action_sos.specs.Performers.{Performing, steps_of, outcome_of, moved_to, IsEnd, Takes as TakesStep}

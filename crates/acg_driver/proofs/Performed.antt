@@ -1,5 +1,5 @@
 -- An action that reads is performed.
-use Rattle.std.proofs.Common.{◌≡◌, ◌≢◌, ◌⊎◌, inl, inr, ℕ, ◌<◌, ◌≤◌, Bool, true, List, length, Option, Some, None, refl, sym, ap, ◌∙◌, subst, arith}
+use Rattle.std.proofs.Common.{◌≡◌, ◌≢◌, inl, inr, ℕ, ◌≤◌, true, List, length, Option, Some, None, refl, sym, ◌∙◌, subst, arith}
 use Rattle.acg_base.specs.Outside.{Contents}
 use Rattle.acg_base.specs.declared.status.Status.{Status}
 use Rattle.acg_base.specs.declared.status.Status.TheVariants as status
@@ -44,12 +44,12 @@ reply-performs contents n name input printed s lacks reply content g bytes there
       | inr others ↦ elim others [
         | inl fault ↦ absurd (other fault.0)
         | inr text ↦
-          let both = sym (text.1 refl) ∙ there in
-          let same : text.0 ≡ content = cc in
-          elim text.2 [
-            | inl refused ↦ absurd (reads-not_refused text.0 printed g s (subst (λ b. Reads b g) (sym same) reads) refused)
-            | inr read ↦ on-performs contents n input read.0 bytes printed s other is_input within read.2
-          ]
+            let both = sym (text.1 refl) ∙ there in
+            let same : text.0 ≡ content = cc in
+            elim text.2 [
+              | inl refused ↦ absurd (reads-not_refused text.0 printed g s (subst (λ b. Reads b g) (sym same) reads) refused)
+              | inr read ↦ on-performs contents n input read.0 bytes printed s other is_input within read.2
+            ]
       ]
     ]
 

@@ -1,16 +1,15 @@
 -- A text that is read as a graph has no error, and so it isn't refused.
-use Rattle.std.proofs.Common.{◌≡◌, ◌⊎◌, inl, inr, ℕ, ◌+◌, ◌<◌, ◌≤◌, List, [], ◌∷◌, ◌++◌, length, take, drop, Some, slice_get, refl, sym, ap, ◌∙◌, subst, arith}
+use Rattle.std.proofs.Common.{◌≡◌, inl, inr, ℕ, ◌+◌, ◌≤◌, List, [], length, drop, Some, slice_get, refl, sym, ap, ◌∙◌, subst, arith}
 use Rattle.std.proofs.lemmas.List.{take-append-drop}
 use Rattle.std.proofs.lemmas.Bool.{cases_lt}
 use Rattle.acg_base.specs.Outside.{front}
 use Rattle.acg_base.specs.declared.status.Status.{Status}
 use Rattle.acg_base.specs.declared.status.Status.TheVariants as status
-use Rattle.meta_lex.specs.Tokens.{PlainToken}
 use Rattle.meta_lex.proofs.OneReading.{one_token_list, tokens_or_bad_byte}
 use Rattle.action_terms.specs.Trees.{Tree, preorder}
-use Rattle.action_terms.specs.Numbering.{Listed, IsGraphOf, action_count, yielder_count, strays, node_limit}
+use Rattle.action_terms.specs.Numbering.{Listed, strays, node_limit}
 use Rattle.action_terms.proofs.SealLemmas.{length-preorder}
-use Rattle.action_text.specs.ActionText.{Spells, BeginsAction}
+use Rattle.action_text.specs.ActionText.{Spells}
 use Rattle.action_text.specs.Answers.{IsTextOf, IsBadText, IsReadAs, IsTextError, token_bytes}
 use Rattle.action_text.specs.declared.errors.TextError.{TextError}
 use Rattle.action_text.specs.declared.errors.TextError.TheVariants as error

@@ -1,5 +1,5 @@
 -- What was read of a file with an action: what is said of it holds of all bytes.
-use Rattle.std.proofs.Common.{◌≡◌, ◌⊎◌, inl, inr, ℕ, ◌<◌, ◌≤◌, Bool, true, false, List, length, Some, refl, subst, IsTrue}
+use Rattle.std.proofs.Common.{inl, inr, ℕ, Bool, true, false, List, refl, subst}
 use Rattle.acg_base.specs.Outside.{Contents, front}
 use Rattle.acg_base.specs.declared.status.Status.{Status}
 use Rattle.acg_base.specs.declared.status.Status.TheVariants as status

@@ -1,11 +1,11 @@
 -- Command lines by the number of their words.
-use Rattle.std.proofs.Common.{◌≡◌, ◌⊎◌, ℕ, ◌<◌, ◌≤◌, Bool, true, false, List, [], ◌∷◌, length, get_or, map, arith, refl, codes, String, string_bytes, Option, Some, None, option_map}
-use Rattle.std.specs.Prelude.{◌&&◌, nat_lt, if◌then◌else◌}
+use Rattle.std.proofs.Common.{◌≡◌, ◌⊎◌, ℕ, ◌<◌, ◌≤◌, Bool, true, false, List, [], ◌∷◌, length, get_or, map, arith, refl, codes, String, string_bytes, Option, None}
+use Rattle.std.specs.Prelude.{if◌then◌else◌}
 use Rattle.std.specs.List.{list_all}
 use Rattle.std.specs.Str.{bytes_eq}
 use Rattle.std.specs.declared.alloc.Global.{Global}
 use Rattle.std.proofs.lemmas.Slice.Eq.{bytes_eq-Decides}
-use Rattle.acg_driver.specs.Commands.{Command, Act, Perform, command_of, is_word, act_of, perform_of, schedule_number, listed_input}
+use Rattle.acg_driver.specs.Commands.{Command, command_of, is_word}
 
 -- strings make up a list of their number
 pub two-words : (list : List (String Global)) (first second : String Global) → length list ≡ 2 → first ≡ get_or list 0 first → second ≡ get_or list 1 second → map string_bytes list ≡ string_bytes first ∷ string_bytes second ∷ []

@@ -1,5 +1,5 @@
 -- Command lines.
-use Rattle.std.specs.Prelude.{ℕ, ◌^◌, Bool, true, ◌&&◌, not, nat_lt, if◌then◌else◌, List, [], ◌∷◌, length, codes, Option, Some, None, option_map, option_and_then}
+use Rattle.std.specs.Prelude.{ℕ, ◌^◌, Bool, nat_lt, if◌then◌else◌, List, [], ◌∷◌, length, codes, Option, Some, None, option_map, option_and_then}
 use Rattle.std.specs.List.{list_all}
 use Rattle.std.specs.Str.{bytes_eq}
 use Rattle.acg_base.specs.Decimals.{spelled_number}
@@ -33,9 +33,9 @@ unfoldable pub command_of : List (List ℕ) → Option Command
 command_of [] = None
 command_of (command ∷ operands) =
     if list_all is_word operands then
-      (if bytes_eq command (codes "act") then act_of operands
-       else if bytes_eq command (codes "perform") then perform_of operands
-       else None)
+    (if bytes_eq command (codes "act") then act_of operands
+    else if bytes_eq command (codes "perform") then perform_of operands
+    else None)
     else None
 
 -- the command that a value of the program stands for

@@ -3,7 +3,7 @@ use Rattle.std.specs.Prelude.{◌≡◌, ◌⊎◌, ℕ, ◌<◌, ◌≤◌, ℤ
 use Rattle.acg_base.specs.Outside.{Contents}
 use Rattle.acg_base.specs.declared.status.Status.{Status}
 use Rattle.acg_base.specs.declared.status.Status.TheVariants as status
-use Rattle.action_terms.specs.Acting.{End, Done, Esc, Fail, Tree, Ended}
+use Rattle.action_terms.specs.Acting.{End, Done, Esc, Fail, Ended}
 use Rattle.action_terms.specs.Steps.{Step}
 use Rattle.action_terms.specs.Performances.{State, records}
 use Rattle.action_terms.specs.Numbering.{Listed}
@@ -89,4 +89,4 @@ IsPerformReply told contents n name input printed result =
     ((result ≡ status.Memory) × (printed ≡ memory_line))
     ⊎ (((result ≡ status.ReadFault) × (printed ≡ read_fault_line name))
     ⊎ ((content : List ℕ) × IsContentAt told contents name content
-       × (IsTextRefusal content printed result ⊎ ((g : Listed) × Reads content g × IsReadOn told contents n input g printed result))))
+    × (IsTextRefusal content printed result ⊎ ((g : Listed) × Reads content g × IsReadOn told contents n input g printed result))))

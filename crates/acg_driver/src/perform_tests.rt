@@ -78,8 +78,24 @@ fn missing_files(rt: HostRuntime) -> Result<(), Fail> {
     let no_input = ["perform", "0", "a", "absent"];
     let fault = b"read fault absent\n";
     assert!(rt; answers(alloc, &no_input, b"complete", fault, Status::ReadFault)?);
-    assert!(rt; answers(alloc, &no_input, b"unfold", b"stray unfold 0\n", Status::Action)?);
-    assert!(rt; answers(alloc, &no_input, b"send ?", b"action byte 5\n", Status::Action)?);
+    assert!(rt;
+        answers(
+            alloc,
+            &no_input,
+            b"unfold",
+            b"stray unfold 0\n",
+            Status::Action
+        )?
+    );
+    assert!(rt;
+        answers(
+            alloc,
+            &no_input,
+            b"send ?",
+            b"action byte 5\n",
+            Status::Action
+        )?
+    );
     let no_action = ["perform", "0", "absent", "i"];
     assert!(rt; answers(alloc, &no_action, b"complete", fault, Status::ReadFault)?);
     Ok(())

@@ -40,10 +40,12 @@ pub fn serve<S: Store, K: Sink>(alloc: Global, words: &Words, store: &mut S, out
     match parse_command(words) {
         None => answer(out, b"words\n", Status::Words),
         Some(Command::Act { name }) => act(alloc, name, store, out),
-        Some(Command::Perform {
-            number,
-            name,
-            input,
-        }) => perform_file(alloc, number, name, input, store, out),
+        Some(
+            Command::Perform {
+                number,
+                name,
+                input,
+            },
+        ) => perform_file(alloc, number, name, input, store, out),
     }
 }

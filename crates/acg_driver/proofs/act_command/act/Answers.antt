@@ -1,4 +1,4 @@
-use Rattle.std.proofs.Common.{◌≡◌, None, Some, sym, ◌∙◌, subst}
+use Rattle.std.proofs.Common.{sym, ◌∙◌, subst}
 use Rattle.acg_driver.specs.Contents.{IsFrontAt}
 use Rattle.acg_driver.specs.Answers.{action_limit, IsAnswer}
 use Rattle.acg_driver.specs.Serving.{IsActReply}

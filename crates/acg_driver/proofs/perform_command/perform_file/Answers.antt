@@ -1,4 +1,4 @@
-use Rattle.std.proofs.Common.{◌≡◌, option_map, sym, subst, Bor, List, ℕ, IsTrue}
+use Rattle.std.proofs.Common.{option_map, sym, subst, Bor, List, ℕ, IsTrue}
 use Rattle.acg_driver.specs.Contents.{IsFrontAt}
 use Rattle.acg_driver.specs.Answers.{action_limit, Reads}
 use Rattle.acg_driver.specs.Prints.{Refuses}
@@ -46,7 +46,7 @@ returns-clause-spoken g c =
     let found : IsFrontAt action_limit told contents name read = subst (λ bytes. IsFrontAt action_limit told contents name bytes) (sym c.deref.ensures.value) c.in-Ok.ensures.front in
     spoken-map {P = IsInputReply (g.S.Store.tells between) (g.S.Store.contents between) c.args.number input graph}
     (λ printed other reply. perform-reply told (g.S.Store.tells between) contents (g.S.Store.contents between) c.args.number name input read graph printed c.perform_graph.result
-        found c.in-Ok-read_graph.ensures.graph c.in-Ok.ensures.looked.tells_still c.in-Ok.ensures.looked.same reply)
+    found c.in-Ok-read_graph.ensures.graph c.in-Ok.ensures.looked.tells_still c.in-Ok.ensures.looked.same reply)
     c.perform_graph.ensures.spoken
 
 pub returns-clause-surely : goal.returns-clause-surely

@@ -1,4 +1,4 @@
-use Rattle.std.proofs.Common.{◌≡◌, ℕ, List, Option, Some, option_map, sym, subst, Bor}
+use Rattle.std.proofs.Common.{ℕ, List, Option, Some, option_map, sym, subst, Bor}
 use Rattle.acg_base.specs.declared.status.Status.{Status}
 use Rattle.acg_driver.specs.Contents.{IsFrontAt}
 use Rattle.acg_driver.specs.Performed.{IsInputAnswer, IsInputReply, input_limit}
@@ -28,4 +28,4 @@ returns-in-Ok-clause-spoken g c =
     let SaidOf : Option (Bor (List ℕ)) → Type 0 = λ input. Spoken g.K.Sink.written g.K.Sink.faults g.K.Sink.tells (Said input) c.args.out.now c.perform_over-in-Ok.new.out c.perform_over-in-Ok.result in
     subst SaidOf (sym c.in-Some.is)
     (spoken-map {P = IsInputAnswer c.args.number graph read} {Q = Said (Some c.in-Some.name)}
-        (λ printed other answer. reply-within told contents c.args.number name graph read printed c.perform_over-in-Ok.result found answer) c.perform_over-in-Ok.ensures)
+    (λ printed other answer. reply-within told contents c.args.number name graph read printed c.perform_over-in-Ok.result found answer) c.perform_over-in-Ok.ensures)

@@ -1,4 +1,4 @@
-use Rattle.std.proofs.Common.{◌≤◌, length, refl, ap, ◌∙◌, subst, arith}
+use Rattle.std.proofs.Common.{◌≤◌, length, refl, ◌∙◌, subst, arith}
 use Rattle.action_terms.specs.Performances.{start, records}
 use Rattle.acg_driver.specs.Performed.{IsPerformed, IsInputAnswer, input_limit}
 use Rattle.acg_driver.proofs.PerformanceLemmas.{reached-start, broken-performed}
@@ -20,5 +20,5 @@ returns-in-Ok g c =
     let within : length c.args.input.now ≤ input_limit = omega arith in
     spoken-map {P = IsPerformed c.args.number graph c.deref.result.now}
     (λ printed other performed. performed-answers c.args.number graph c.args.input.now printed c.perform.result within
-        (subst (λ list. IsPerformed c.args.number graph list printed c.perform.result) (c.deref.ensures.value ∙ c.in-Ok.ensures) performed))
+    (subst (λ list. IsPerformed c.args.number graph list printed c.perform.result) (c.deref.ensures.value ∙ c.in-Ok.ensures) performed))
     c.perform.ensures

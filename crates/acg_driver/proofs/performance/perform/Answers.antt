@@ -1,4 +1,4 @@
-use Rattle.std.proofs.Common.{refl, sym, subst}
+use Rattle.std.proofs.Common.{refl, subst}
 use Rattle.action_terms.specs.Performances.{start}
 use Rattle.action_sos.specs.Performers.{Performing}
 use Rattle.acg_driver.specs.Performed.{IsPerformed}

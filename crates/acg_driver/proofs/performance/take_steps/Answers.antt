@@ -1,4 +1,4 @@
-use Rattle.std.proofs.Common.{◌≡◌, ℕ, suc, ◌+◌, ℤ, List, ◌++◌, length, drop, sym, ap, subst, ◌∙◌, arith, IsTrue}
+use Rattle.std.proofs.Common.{◌≡◌, suc, ◌+◌, ℤ, List, ◌++◌, length, drop, sym, ap, subst, ◌∙◌, arith}
 use Rattle.action_sos.specs.Schedules.{number_at, next_number}
 use Rattle.acg_driver.specs.Lines.{message_lines}
 use Rattle.acg_driver.specs.Performed.{IsPerformed, step_limit}
@@ -24,13 +24,13 @@ returns-in-Ended g c =
     let behind : List ℤ → Type 0 = λ output. Printed g.K.Sink.written g.K.Sink.faults g.K.Sink.tells (message_lines (drop (length c.output-before.result.now) output)) c.loop-turn.out c.print_sent.new.out c.print_sent.result in
     let sent = printed-whole c.print_sent.result (sym c.is_err.ensures.value ∙ c.if-is_err.false) (subst behind c.output.ensures c.print_sent.ensures) in
     let reached = reached-more c.args.number c.loop-turn.number start.graph start.state.world.input c.loop-turn._turn c.chosen-choice.result c.open_steps.result old new before.reached
-        before.same before.chooses c.open_steps.ensures.count c.chosen-choice.ensures takes in
+    before.same before.chooses c.open_steps.ensures.count c.chosen-choice.ensures takes in
     let ended = moved-ended new.state.tree c.in-Ended.outcome (sym c.in-Ended.is ∙ c.in-Ok.ensures.moved) in
     answered-behind {IsSaid = IsPerformed c.args.number start.graph start.state.world.input} (message_lines new.state.world.output)
     (sent.tells_still ∙ before.telling)
     (printed-still sent ∙ before.still)
     (λ tells. printed-behind (message_lines old.state.world.output) before.telling before.wrote sent tells
-        ∙ ap (λ lines. g.K.Sink.written c.args.out.now ++ lines) (sym (lines-step c.chosen-choice.result (length c.output-before.result.now) old new (ap length c.output-before.ensures) takes)))
+    ∙ ap (λ lines. g.K.Sink.written c.args.out.now ++ lines) (sym (lines-step c.chosen-choice.result (length c.output-before.result.now) old new (ap length c.output-before.ensures) takes)))
     (c.print_end.ensures ended.0 ended.2)
     (ended-performed c.args.number start.graph start.state.world.input (c.loop-turn._turn + 1) new.state ended.0 reached (omega arith) ended.1)
 

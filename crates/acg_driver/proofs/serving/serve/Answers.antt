@@ -1,6 +1,6 @@
 use Rattle.std.proofs.Common.{◌≡◌, ◌≢◌, inl, inr, ℕ, List, Option, Some, option_map, true, sym, ap, ◌∙◌, subst, Bor}
 use Rattle.acg_base.specs.declared.status.Status.TheVariants as status
-use Rattle.acg_driver.specs.Commands.{Command, Perform, command_of, asked}
+use Rattle.acg_driver.specs.Commands.{Command, Perform, asked}
 use Rattle.acg_driver.specs.Performed.{IsPerformReply}
 use Rattle.acg_driver.specs.Serving.{IsCommandReply, Spoken, Lacks, Performs}
 use Rattle.acg_driver.proofs.Performed.{command-performs}
