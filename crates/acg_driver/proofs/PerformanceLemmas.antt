@@ -58,6 +58,13 @@ failed-end Fail e = (refl, refl)
 pub chosen-within : (x count : ℕ) → 0 < count → chosen x count < count
 chosen-within x count some = omega arith
 
+-- at the start there is no end yet, and nothing was sent
+pub start-going : (s : State) (input : List ℤ) → s ≡ start input → IsEnd s.tree → ⊥
+start-going s input e (z, ended) = let both = sym (ap (λ (t : State). t.tree) e) ∙ ended in cc
+
+pub start-silent : (written : List ℕ) (s : State) (input : List ℤ) → s ≡ start input → written ≡ written ++ message_lines s.world.output
+start-silent written s input e = sym (ap (λ (t : State). written ++ message_lines t.world.output) e ∙ append-nil written)
+
 -- so many steps that the number chooses lead from the start over the input to the state
 pub record IsReached (n : ℕ) (g : Listed) (input : List ℤ) (count : ℕ) (s : State) : Type 0 where
   pub steps : List Step

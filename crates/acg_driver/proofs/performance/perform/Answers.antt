@@ -1,4 +1,4 @@
-use Rattle.std.proofs.Common.{refl, subst}
+use Rattle.std.proofs.Common.{◌≡◌, refl, sym, subst}
 use Rattle.action_terms.specs.Performances.{start}
 use Rattle.action_sos.specs.Performers.{Performing}
 use Rattle.acg_driver.specs.Performed.{IsPerformed}
@@ -18,3 +18,8 @@ pub returns-in-Ok : goal.returns-in-Ok
 returns-in-Ok g c =
     let SpokenOf : Performing → Type 0 = λ p. Spoken g.K.Sink.written g.K.Sink.faults g.K.Sink.tells (IsPerformed c.args.number p.graph p.state.world.input) c.args.out.now c.take_steps.new.out c.take_steps.result in
     subst SpokenOf c.in-Ok.ensures.starts c.take_steps.ensures
+
+pub take_steps-requires : goal.take_steps-requires
+take_steps-requires g c =
+    let Started : Performing → Type 0 = λ p. p.state ≡ start p.state.world.input in
+    subst Started (sym c.in-Ok.ensures.starts) refl

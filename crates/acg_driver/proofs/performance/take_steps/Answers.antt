@@ -1,11 +1,25 @@
-use Rattle.std.proofs.Common.{◌≡◌, suc, ◌+◌, ℤ, List, ◌++◌, length, drop, sym, ap, subst, ◌∙◌, arith}
+use Rattle.std.proofs.Common.{◌≡◌, suc, ◌+◌, ℤ, List, ◌++◌, length, drop, refl, sym, ap, subst, ◌∙◌, arith}
 use Rattle.action_sos.specs.Schedules.{number_at, next_number}
 use Rattle.acg_driver.specs.Lines.{message_lines}
 use Rattle.acg_driver.specs.Performed.{IsPerformed, step_limit}
 use Rattle.acg_driver.specs.Prints.{Printed}
-use Rattle.acg_driver.proofs.PerformanceLemmas.{chosen-within, moved-ended, moved-on, one-more, reached-more, same-graph, lines-step, ended-performed, running-performed, broken-performed}
+use Rattle.acg_driver.proofs.PerformanceLemmas.{chosen-within, moved-ended, moved-on, one-more, start-going, start-silent, reached-start, reached-more, same-graph, lines-step, ended-performed, running-performed, broken-performed}
 use Rattle.acg_driver.proofs.Speaking.{answered-behind, fault-spoken, printed-behind, printed-whole, printed-still}
 use Rattle.acg_driver.proofs.performance.take_steps.Goals as goal
+
+pub loop-turn-init : goal.loop-turn-init
+loop-turn-init g c =
+    let start = c.args.performer.now in
+    let input = start.state.world.input in
+    record {
+      same = refl;
+      reached = reached-start c.args.number start.graph input start.state c.requires;
+      chooses = refl;
+      going = start-going start.state input c.requires;
+      still = refl;
+      telling = refl;
+      wrote = λ _. start-silent (g.K.Sink.written c.args.out.now) start.state input c.requires;
+    }
 
 pub returns-in_default : goal.returns-in_default
 returns-in_default g c =
