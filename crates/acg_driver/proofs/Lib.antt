@@ -2,6 +2,15 @@ pub mod WordsLemmas
 pub mod PrintsLemmas
 pub mod CodeBytes
 pub mod Speaking
-pub mod Replies
-pub mod PerformingLemmas
+pub mod MessageLemmas
+pub mod MachineRunLemmas
 pub mod RightRuns
+pub mod PerformanceLemmas
+pub mod Fronts
+pub mod InputAnswers
+pub mod TextErrors
+pub mod ActReplies
+pub mod PerformReplies
+pub mod TextFronts
+pub mod Looking
+pub mod Performed

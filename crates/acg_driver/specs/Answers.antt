@@ -63,15 +63,22 @@ Reads content g = (length content ≤ action_limit) × IsReadAs content g
 abbrev pub IsBuiltGraph : List ℕ → Listed → Type 0
 IsBuiltGraph content g = Reads content g × (unbuilt (action_of g) ≡ [])
 
--- the printed lines and the status for a content, by the status
-abbrev pub IsAnswer : (content printed : List ℕ) → Status → Type 0
-IsAnswer content printed status.Limit =
+-- an action's text is refused: it is too long, has too many nodes, or is no action
+abbrev pub IsTextRefusal : (content printed : List ℕ) → Status → Type 0
+IsTextRefusal content printed status.Limit =
     ((action_limit < length content) × (printed ≡ limit_action_line)) ⊎ (Errs content error.Nodes × (printed ≡ limit_nodes_line))
-IsAnswer content printed status.Action =
+IsTextRefusal content printed status.Action =
     ((offset : ℕ) × Errs content (error.BadByte offset) × (printed ≡ action_byte_line offset))
     ⊎ (((offset : ℕ) × Errs content (error.NotAction offset) × (printed ≡ action_text_line offset))
-    ⊎ (((node : ℕ) × Errs content (error.StrayUnfold node) × (printed ≡ stray_unfold_line node))
-    ⊎ ((g : Listed) × (node : ℕ) × Reads content g × (slice_get (unbuilt (action_of g)) 0 ≡ Some node) × (printed ≡ unbuilt_line node))))
+    ⊎ ((node : ℕ) × Errs content (error.StrayUnfold node) × (printed ≡ stray_unfold_line node)))
+IsTextRefusal content printed _ = ⊥
+
+-- the printed lines and the status for a content, by the status
+abbrev pub IsAnswer : (content printed : List ℕ) → Status → Type 0
+IsAnswer content printed status.Limit = IsTextRefusal content printed status.Limit
+IsAnswer content printed status.Action =
+    IsTextRefusal content printed status.Action
+    ⊎ ((g : Listed) × (node : ℕ) × Reads content g × (slice_get (unbuilt (action_of g)) 0 ≡ Some node) × (printed ≡ unbuilt_line node))
 IsAnswer content printed status.Done = (g : Listed) × IsBuiltGraph content g × IsRun g printed status.Done
 IsAnswer content printed status.Failed = (g : Listed) × IsBuiltGraph content g × IsRun g printed status.Failed
 IsAnswer content printed status.Escaped = (g : Listed) × IsBuiltGraph content g × IsRun g printed status.Escaped

@@ -23,6 +23,9 @@ numbered_line text n = text ++ (unsigned_decimal_of n ++ codes "\n")
 abbrev pub limit_action_line : List ℕ
 limit_action_line = codes "limit action 1048576\n"
 
+abbrev pub limit_input_line : List ℕ
+limit_input_line = codes "limit input 8388608\n"
+
 abbrev pub limit_nodes_line : List ℕ
 limit_nodes_line = codes "limit nodes 65536\n"
 

@@ -1,11 +1,11 @@
 //! Printed lines.
 
-ghost use Rattle.std.specs.Prelude.{◌≡◌, ℕ, ◌+◌, ◌≤◌, List, [], ◌++◌, length, take, codes};
+ghost use Rattle.std.specs.Prelude.{◌≡◌, ◌≢◌, ℕ, ◌+◌, ◌≤◌, List, [], ◌++◌, length, take, codes};
 ghost use Rattle.acg_base.specs.Decimals.{decimal_of, unsigned_decimal_of};
 ghost use Rattle.acg_driver.specs.Lines.{numbered_line, header_line, message_line, read_fault_line};
-ghost use Rattle.acg_driver.specs.Prints.{Printed};
+ghost use Rattle.acg_driver.specs.Prints.{Printed, Answered};
 
-use acg_base::{Sink, SinkError, decimal_into, unsigned_into};
+use acg_base::{Sink, SinkError, Status, decimal_into, unsigned_into};
 use std::marker::Model;
 
 // A line in the making, of at most 128 bytes. A contract sees the list of its bytes.
@@ -137,4 +137,30 @@ pub fn print_read_fault<K: Sink>(out: &mut K, name: &[u8]) -> Result<(), SinkErr
     out.write(b"read fault ")?;
     out.write(name)?;
     out.write(b"\n")
+}
+
+/// Prints the line, and answers the status, or `WriteFault` where the sink fails.
+pub fn answer<K: Sink>(out: &mut K, line: &[u8], status: Status) -> Status
+    requires { status ≢ Status.WriteFault }
+    ensures { Answered K.written K.faults K.tells line.now status
+        out.old out.new result }
+{
+    match out.write(line) {
+        Ok(()) => status,
+        Err(SinkError::Failed) => Status::WriteFault,
+    }
+}
+
+/// Prints the text, the number and a line feed, and answers the status, or `WriteFault` where the
+/// sink fails.
+pub fn answer_numbered<K: Sink>(out: &mut K, text: &[u8], number: u32, status: Status) -> Status
+    requires short { length text.now ≤ 40 }
+    requires other { status ≢ Status.WriteFault }
+    ensures { Answered K.written K.faults K.tells (numbered_line text.now number) status
+        out.old out.new result }
+{
+    match print_numbered(out, text, u64::from(number)) {
+        Ok(()) => status,
+        Err(SinkError::Failed) => Status::WriteFault,
+    }
 }

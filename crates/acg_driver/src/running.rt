@@ -8,8 +8,8 @@ ghost use Rattle.acg_driver.specs.Serving.{Spoken, IsRightStart};
 
 use crate::image::{DEFAULT_STACK, DEFAULT_UNITS, compiled_image};
 use crate::lines::print_header;
+use crate::machine_run::run_machine;
 use crate::outbox::Outbox;
-use crate::performing::perform;
 use acg_base::{Memory, Sink, SinkError, Status};
 use action_terms::Graph;
 use rv_codegen::{generate, instructions_per_step};
@@ -51,7 +51,7 @@ pub fn run<K: Sink>(graph: &Graph<'_>, loaded: &mut Loaded, out: &mut K) -> Stat
         DEFAULT_UNITS,
         instructions_per_step(graph),
     ) {
-        Ok(()) => perform(&mut loaded.machine, &mut loaded.outbox, DEFAULT_BUDGET, out),
+        Ok(()) => run_machine(&mut loaded.machine, &mut loaded.outbox, DEFAULT_BUDGET, out),
         Err(SinkError::Failed) => Status::WriteFault,
     }
 }

@@ -6,7 +6,7 @@ use std::alloc::Global;
 use std::test::Fail;
 
 // The words of a command line.
-fn words(alloc: Global, list: &[&str]) -> Result<Words, Fail> {
+pub(crate) fn words(alloc: Global, list: &[&str]) -> Result<Words, Fail> {
     let mut words = Vec::new(alloc);
     for word in list {
         words.push(String::from_str(alloc, word)?)?;
@@ -23,7 +23,7 @@ fn store(alloc: Global, action: &[u8], reads: Vec<u32>) -> Result<MapStore, Fail
 }
 
 // A sink with room for every row. Its writes of these numbers fail.
-fn sink(alloc: Global, writes: Vec<u32>) -> Result<ListSink, Fail> {
+pub(crate) fn sink(alloc: Global, writes: Vec<u32>) -> Result<ListSink, Fail> {
     Ok(ListSink::new(alloc, 256, writes).ok().ok_or("memory")?)
 }
 

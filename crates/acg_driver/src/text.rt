@@ -1,68 +1,58 @@
-//! The refusal of a text that is no action.
+//! Contents that are read as actions, and the refusal of those that are none.
 
-ghost use Rattle.std.specs.Prelude.{◌≡◌, ◌≢◌, ℕ, ◌≤◌, List, ◌++◌, length, IsTrue};
-ghost use Rattle.acg_driver.specs.Lines.{numbered_line};
-ghost use Rattle.acg_driver.specs.Answers.{Errs, IsAnswer};
-ghost use Rattle.acg_driver.specs.Prints.{Refused, refusal_line, refusal_status};
+ghost use Rattle.std.specs.Prelude.{◌≡◌, ◌≤◌, length, IfOk, IfErr};
+ghost use Rattle.acg_driver.specs.Answers.{Reads};
+ghost use Rattle.acg_driver.specs.Prints.{Answered, Refuses, refusal_line, refusal_status};
 
-use crate::lines::print_numbered;
-use acg_base::{Sink, SinkError, Status};
+use crate::lines::{answer, answer_numbered};
+use acg_base::{LIMIT_ACTION, Sink, Status};
+use action_terms::Graph;
+use action_text::action_reader::read_action;
 use action_text::errors::TextError;
+use bumpalo::Bump;
+use std::alloc::Global;
 
-/// Prints the line, and answers the status, or `WriteFault` where the sink fails.
-pub fn refuse<K: Sink>(out: &mut K, line: &[u8], status: Status) -> Status
-    requires { status ≢ Status.WriteFault }
-    ensures { Refused K.written K.faults K.tells line.now status out.old out.new result }
+/// Why a content is refused.
+#[derive(Clone, Copy, Debug, PartialEq, Eq, Drop)]
+pub enum Refusal {
+    /// It has more bytes than an action may have.
+    Size,
+    /// Its text is that of no graph, or memory ran out.
+    Text(TextError),
+}
+
+/// Reads a content as an action, and answers its graph, which lies in the arena.
+pub fn read_graph<'a>(alloc: Global, arena: &'a Bump, content: &[u8]) -> Result<Graph<'a>, Refusal>
+    ensures graph { IfOk result (λ g. Reads content.now g) }
+    ensures refusal { IfErr result (λ r. Refuses content.now r) }
 {
-    match out.write(line) {
-        Ok(()) => status,
-        Err(SinkError::Failed) => Status::WriteFault,
+    if content.len() > LIMIT_ACTION as usize {
+        return Err(Refusal::Size);
+    }
+    match read_action(alloc, arena, content) {
+        Ok(graph) => Ok(graph),
+        Err(error) => Err(Refusal::Text(error)),
     }
 }
 
-/// Prints the text, the number and a line feed, and answers the status, or `WriteFault` where the
-/// sink fails.
-pub fn refuse_numbered<K: Sink>(out: &mut K, text: &[u8], number: u32, status: Status) -> Status
-    requires short { length text.now ≤ 40 }
-    requires other { status ≢ Status.WriteFault }
-    ensures { Refused K.written K.faults K.tells (numbered_line text.now number) status
+/// Prints the line of the refusal, and answers its status: `Action`, `Limit` or `Memory`, or `WriteFault` where the sink
+/// fails.
+pub fn refuse_text<K: Sink>(out: &mut K, refusal: Refusal) -> Status
+    ensures { Answered K.written K.faults K.tells (refusal_line refusal) (refusal_status refusal)
         out.old out.new result }
 {
-    match print_numbered(out, text, u64::from(number)) {
-        Ok(()) => status,
-        Err(SinkError::Failed) => Status::WriteFault,
-    }
-}
-
-/// Prints the line of the error, and answers its status: `Action`, `Limit` or `Memory`, or
-/// `WriteFault` where the sink fails.
-pub fn refuse_text<K: Sink>(out: &mut K, error: TextError) -> Status
-    ensures refused { Refused K.written K.faults K.tells (refusal_line error) (refusal_status error)
-        out.old out.new result }
-    ensures answer { (content : List ℕ) → Errs content error → result ≢ Status.WriteFault →
-        (printed : List ℕ) × IsAnswer content printed result
-        × (IsTrue (K.tells out.old) → K.written out.new ≡ K.written out.old ++ printed) }
-{
-    match error {
-        TextError::Memory => refuse(out, b"memory\n", Status::Memory),
-        TextError::BadByte { offset } => refuse_numbered(
-            out,
-            b"action byte ",
-            offset,
-            Status::Action,
-        ),
-        TextError::NotAction { offset } => refuse_numbered(
-            out,
-            b"action text ",
-            offset,
-            Status::Action,
-        ),
-        TextError::Nodes => refuse(out, b"limit nodes 65536\n", Status::Limit),
-        TextError::StrayUnfold { node } => refuse_numbered(
-            out,
-            b"stray unfold ",
-            node,
-            Status::Action,
-        ),
+    match refusal {
+        Refusal::Size => answer(out, b"limit action 1048576\n", Status::Limit),
+        Refusal::Text(TextError::Memory) => answer(out, b"memory\n", Status::Memory),
+        Refusal::Text(TextError::BadByte { offset }) => {
+            answer_numbered(out, b"action byte ", offset, Status::Action)
+        }
+        Refusal::Text(TextError::NotAction { offset }) => {
+            answer_numbered(out, b"action text ", offset, Status::Action)
+        }
+        Refusal::Text(TextError::Nodes) => answer(out, b"limit nodes 65536\n", Status::Limit),
+        Refusal::Text(TextError::StrayUnfold { node }) => {
+            answer_numbered(out, b"stray unfold ", node, Status::Action)
+        }
     }
 }

@@ -11,14 +11,14 @@ use Rattle.acg_driver.proofs.RightRuns.{right-sends, right-fits}
 use Rattle.acg_driver.proofs.Speaking.{spoken-behind}
 use Rattle.acg_driver.proofs.running.run.Goals as goal
 
-pub perform-requires-clause-messages : goal.perform-requires-clause-messages
-perform-requires-clause-messages g c =
+pub run_machine-requires-clause-messages : goal.run_machine-requires-clause-messages
+run_machine-requires-clause-messages g c =
     let graph = c.args.graph.now in
     let start = c.requires.start in
     λ m. subst (λ machine. SendsMessages (run m (state_of machine [] []))) (sym start.2) (right-sends start.0 (node_count graph) (subject_of graph default_stack default_units) start.1 m)
 
-pub perform-requires-clause-room : goal.perform-requires-clause-room
-perform-requires-clause-room g c =
+pub run_machine-requires-clause-room : goal.run_machine-requires-clause-room
+run_machine-requires-clause-room g c =
     let graph = c.args.graph.now in
     let start = c.requires.start in
     subst (λ machine. FitsOutbox machine.segments) (sym start.2) (right-fits start.0 (node_count graph) (subject_of graph default_stack default_units) start.1 refl refl)
@@ -32,11 +32,11 @@ returns-in-Ok g c =
     subst (λ f. Printed g.K.Sink.written g.K.Sink.faults g.K.Sink.tells (header_line default_stack default_units f) c.args.out.now c.print_header.new.out (Ok c.in-Ok.field-0)) c.instructions_per_step.ensures
     (subst (λ r. Printed g.K.Sink.written g.K.Sink.faults g.K.Sink.tells (header_line default_stack default_units c.instructions_per_step.result) c.args.out.now c.print_header.new.out r) c.in-Ok.is c.print_header.ensures) in
     spoken-behind {P = λ rest result. IsRunOf (run default_budget (state_of c.args.loaded.now.machine [] [])) rest result} printed
-    (λ rest runs. (start.0, start.1, (rest, refl, subst (λ machine. IsRunOf (run default_budget (state_of machine [] [])) rest c.perform.result) start.2 runs)))
+    (λ rest runs. (start.0, start.1, (rest, refl, subst (λ machine. IsRunOf (run default_budget (state_of machine [] [])) rest c.run_machine.result) start.2 runs)))
     (record {
-      said = c.perform.ensures.ran;
-      failed = c.perform.ensures.fault;
-      grew = c.perform.ensures.grew;
-      counts = c.perform.ensures.counts;
-      tells_still = c.perform.ensures.tells_still;
+      said = c.run_machine.ensures.ran;
+      failed = c.run_machine.ensures.fault;
+      grew = c.run_machine.ensures.grew;
+      counts = c.run_machine.ensures.counts;
+      tells_still = c.run_machine.ensures.tells_still;
     })

@@ -1,0 +1,14 @@
+-- What was read of the bytes of a file.
+use Rattle.std.proofs.Common.{◌≡◌, ℕ, ◌+◌, ◌<◌, ◌≤◌, List, length, arith}
+use Rattle.std.proofs.lemmas.List.{take_all, length-take}
+use Rattle.acg_base.specs.Outside.{front}
+
+-- a front within the limit is all bytes
+pub short-front : (limit : ℕ) (bytes : List ℕ) → length (front limit bytes) ≤ limit → front limit bytes ≡ bytes
+unfolding front
+short-front limit bytes short = take_all (limit + 1) bytes (omega (arith, length-take (limit + 1) bytes))
+
+-- a front past the limit is one of bytes past it
+pub long-front : (limit : ℕ) (bytes : List ℕ) → limit < length (front limit bytes) → limit < length bytes
+unfolding front
+long-front limit bytes long = omega (arith, length-take (limit + 1) bytes)
