@@ -1,5 +1,14 @@
 pub mod Contexts
 pub mod Parts
+pub mod AllLaws
+pub mod NamedNodes
+pub mod SoundBindings
+pub mod SoundYielding
+pub mod SoundPrimitives
+pub mod SoundEnds
+pub mod SoundStates
+pub mod NeverStuck
+pub mod SoundExample
 pub mod PlacesLemmas
 pub mod Whole
 pub mod BuilderLemmas

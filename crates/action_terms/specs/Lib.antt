@@ -5,6 +5,7 @@ pub mod Yielding
 pub mod Acting
 pub mod Steps
 pub mod Performances
+pub mod Sound
 pub mod Need
 pub mod Labels
 pub mod Trees
