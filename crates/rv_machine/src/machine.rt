@@ -44,6 +44,7 @@ impl Machine {
     ghost use Rattle.rv_code.specs.declared.cause.Cause.{Cause as CauseValue};
     ghost use Rattle.rv_machine.specs.Machines.{left, state_of, loaded_machine, sent, sent_in, Steps, StepExits, StepTraps, StepSends, Runs, RunsBelow, IsCounted, RunExits, RunTraps};
     ghost use Rattle.rv_machine.specs.Effects.{Does, Fetches, AtCall, AtReceive, AtSend, AmountFits};
+    ghost use Rattle.rv_machine.specs.Performing.{Performs};
 
     /// The machine before the first instruction of an image. Takes all memory of the run.
     pub fn load(alloc: Global, image: Image) -> Result<Machine, Memory>
@@ -268,28 +269,7 @@ impl Machine {
     // Does the call 64.
     fn send<K: Sink>(&mut self, address: u64, size: u64, input: &mut Input<'_>, out: &mut K) -> Step
         requires { AtSend self.old address size }
-        ensures ran { result ≡ Step.Ran → Steps self.old (left input.old) self.new (left input.new) }
-        ensures exited { (code : ℕ) → result ≡ Step.Exited code → StepExits self.old (left input.old) code }
-        ensures trapped { (cause : CauseValue) (pc : ℕ) → result ≡ Step.Trapped cause pc →
-            StepTraps self.old (left input.old) cause × (pc ≡ self.old.pc) }
-        ensures stays { result ≢ Step.Ran → (self.new ≡ self.old) × (input.new ≡ input.old) }
-        ensures taken { self.new.taken ≡ self.old.taken }
-        ensures bytes { input.new.bytes ≡ input.old.bytes }
-
-        // A fault of the sink comes only at an instruction that runs by the definition and sends bytes.
-        ensures fault { result ≡ Step.SinkFault → (sent self.old ≢ []) × StepSends self.old (left input.old) }
-        ensures rose { result ≡ Step.SinkFault → Rose (K.faults out.old) (K.faults out.new) }
-        ensures still { result ≢ Step.SinkFault → K.faults out.new ≡ K.faults out.old }
-        ensures counts { K.faults out.old ≤ K.faults out.new }
-
-        // What the sink gets is what the instruction sends. No other instruction writes to it.
-        ensures untouched { sent self.old ≡ [] → out.new ≡ out.old }
-        ensures idle { result ≢ Step.Ran → result ≢ Step.SinkFault → out.new ≡ out.old }
-        ensures told { result ≡ Step.Ran → IsTrue (K.tells out.old) →
-            K.written out.new ≡ K.written out.old ++ sent self.old }
-        ensures part { result ≡ Step.SinkFault → IsTrue (K.tells out.old) →
-            GainsFrontOf (sent self.old) (K.written out.old) (K.written out.new) }
-        ensures tells_still { K.tells out.new ≡ K.tells out.old }
+        ensures { Performs K.written K.faults K.tells result self.old input.old out.old self.new input.new out.new }
     {
         if size == 0 {
             self.set(Reg(10), 0);
@@ -311,28 +291,7 @@ impl Machine {
     // Does a call.
     fn call<K: Sink>(&mut self, input: &mut Input<'_>, out: &mut K) -> Step
         requires { AtCall self.old }
-        ensures ran { result ≡ Step.Ran → Steps self.old (left input.old) self.new (left input.new) }
-        ensures exited { (code : ℕ) → result ≡ Step.Exited code → StepExits self.old (left input.old) code }
-        ensures trapped { (cause : CauseValue) (pc : ℕ) → result ≡ Step.Trapped cause pc →
-            StepTraps self.old (left input.old) cause × (pc ≡ self.old.pc) }
-        ensures stays { result ≢ Step.Ran → (self.new ≡ self.old) × (input.new ≡ input.old) }
-        ensures taken { self.new.taken ≡ self.old.taken }
-        ensures bytes { input.new.bytes ≡ input.old.bytes }
-
-        // A fault of the sink comes only at an instruction that runs by the definition and sends bytes.
-        ensures fault { result ≡ Step.SinkFault → (sent self.old ≢ []) × StepSends self.old (left input.old) }
-        ensures rose { result ≡ Step.SinkFault → Rose (K.faults out.old) (K.faults out.new) }
-        ensures still { result ≢ Step.SinkFault → K.faults out.new ≡ K.faults out.old }
-        ensures counts { K.faults out.old ≤ K.faults out.new }
-
-        // What the sink gets is what the instruction sends. No other instruction writes to it.
-        ensures untouched { sent self.old ≡ [] → out.new ≡ out.old }
-        ensures idle { result ≢ Step.Ran → result ≢ Step.SinkFault → out.new ≡ out.old }
-        ensures told { result ≡ Step.Ran → IsTrue (K.tells out.old) →
-            K.written out.new ≡ K.written out.old ++ sent self.old }
-        ensures part { result ≡ Step.SinkFault → IsTrue (K.tells out.old) →
-            GainsFrontOf (sent self.old) (K.written out.old) (K.written out.new) }
-        ensures tells_still { K.tells out.new ≡ K.tells out.old }
+        ensures { Performs K.written K.faults K.tells result self.old input.old out.old self.new input.new out.new }
     {
         let number = self.registers[17];
         let first = self.registers[10];
@@ -353,28 +312,7 @@ impl Machine {
 
     // Does one instruction, and doesn't count it.
     fn perform<K: Sink>(&mut self, input: &mut Input<'_>, out: &mut K) -> Step
-        ensures ran { result ≡ Step.Ran → Steps self.old (left input.old) self.new (left input.new) }
-        ensures exited { (code : ℕ) → result ≡ Step.Exited code → StepExits self.old (left input.old) code }
-        ensures trapped { (cause : CauseValue) (pc : ℕ) → result ≡ Step.Trapped cause pc →
-            StepTraps self.old (left input.old) cause × (pc ≡ self.old.pc) }
-        ensures stays { result ≢ Step.Ran → (self.new ≡ self.old) × (input.new ≡ input.old) }
-        ensures taken { self.new.taken ≡ self.old.taken }
-        ensures bytes { input.new.bytes ≡ input.old.bytes }
-
-        // A fault of the sink comes only at an instruction that runs by the definition and sends bytes.
-        ensures fault { result ≡ Step.SinkFault → (sent self.old ≢ []) × StepSends self.old (left input.old) }
-        ensures rose { result ≡ Step.SinkFault → Rose (K.faults out.old) (K.faults out.new) }
-        ensures still { result ≢ Step.SinkFault → K.faults out.new ≡ K.faults out.old }
-        ensures counts { K.faults out.old ≤ K.faults out.new }
-
-        // What the sink gets is what the instruction sends. No other instruction writes to it.
-        ensures untouched { sent self.old ≡ [] → out.new ≡ out.old }
-        ensures idle { result ≢ Step.Ran → result ≢ Step.SinkFault → out.new ≡ out.old }
-        ensures told { result ≡ Step.Ran → IsTrue (K.tells out.old) →
-            K.written out.new ≡ K.written out.old ++ sent self.old }
-        ensures part { result ≡ Step.SinkFault → IsTrue (K.tells out.old) →
-            GainsFrontOf (sent self.old) (K.written out.old) (K.written out.new) }
-        ensures tells_still { K.tells out.new ≡ K.tells out.old }
+        ensures { Performs K.written K.faults K.tells result self.old input.old out.old self.new input.new out.new }
     {
         match self.fetch() {
             Err(cause) => self.trap(cause),
