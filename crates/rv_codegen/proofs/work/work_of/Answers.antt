@@ -37,7 +37,7 @@ returns-in_ok-number_of-in-Send-clause-work c =
     rw to_z-of_z (send.number c.in_ok-number_of-in-Send.field-0 c.in_ok-number_of-in-Send.ensures.number)
 
 pub bounds-node-0-in-And : goal.bounds-node-0-in-And
-bounds-node-0-in-And c = omega (arith, (and_parts c).many)
+bounds-node-0-in-And c = omega (arith, (and_parts (goal.at.bounds-node-0-in-And c).In-And).many)
 
 pub bounds-node-1 : goal.bounds-node-1
 bounds-node-1 c = (and_parts (goal.at.bounds-node-1 c).In-And).many
@@ -49,7 +49,7 @@ pub returns-in-And-clause-parts : goal.returns-in-And-clause-parts
 returns-in-And-clause-parts c = (and_parts (goal.at.returns-in-And-clause-parts c).In-And).within
 
 pub bounds-node-0-in-AndThen : goal.bounds-node-0-in-AndThen
-bounds-node-0-in-AndThen c = omega (arith, (and_then_parts c).many)
+bounds-node-0-in-AndThen c = omega (arith, (and_then_parts (goal.at.bounds-node-0-in-AndThen c).In-AndThen).many)
 
 pub bounds-node-1-in-AndThen : goal.bounds-node-1-in-AndThen
 bounds-node-1-in-AndThen c = (and_then_parts (goal.at.bounds-node-1-in-AndThen c).In-AndThen).many
