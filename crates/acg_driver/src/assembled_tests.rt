@@ -104,10 +104,7 @@ fn far_jumps_and_branches_arrive(rt: HostRuntime) -> Result<(), Fail> {
     // 3300, and 65544, behind two instructions.
     assert_eq!(rt;
         sink.bytes(),
-        [
-            0xe4, 0x0c, 0, 0, 0, 0, 0, 0, 0x08, 0, 0x01, 0, 0, 0, 0, 0
-        ]
-        .as_slice()
+        [0xe4, 0x0c, 0, 0, 0, 0, 0, 0, 0x08, 0, 0x01, 0, 0, 0, 0, 0].as_slice()
     );
     Ok(())
 }

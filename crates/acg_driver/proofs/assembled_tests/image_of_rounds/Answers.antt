@@ -1,5 +1,5 @@
 -- The words fit an image.
-use Rattle.std.proofs.Common.{◌≡◌, ◌*◌, length, ap, arith}
+use Rattle.std.proofs.Common.{◌≡◌, length, ap, arith}
 use Rattle.rv_asm.specs.Conventions.{instruction_bytes}
 use Rattle.rv_codegen.proofs.Loading.{compiled-loads}
 use Rattle.acg_driver.specs.Answers.{default_stack, default_units}
