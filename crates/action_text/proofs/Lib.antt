@@ -37,3 +37,4 @@ pub mod DueItems
 pub mod LabelsOfNodes
 pub mod PrintWalk
 pub mod PrintedGraphs
+pub mod ReadableGraphs

@@ -1,17 +1,14 @@
 -- The walk over the nodes of a graph in memory, with the text so far.
-use Rattle.std.proofs.Common.{◌≡◌, ◌≢◌, ℕ, zero, suc, ◌+◌, ◌<◌, List, [], ◌∷◌, ◌++◌, length, map, drop, get_or, Option, None, Some, refl, sym, ap, subst, ◌∙◌, arith}
+use Rattle.std.proofs.Common.{◌≡◌, ℕ, zero, suc, ◌+◌, ◌<◌, List, [], ◌∷◌, ◌++◌, length, map, drop, get_or, Option, None, Some, sym, ap, subst, ◌∙◌, arith}
 use Rattle.std.proofs.Math.ListN.{get_or-map}
-use Rattle.std.proofs.lemmas.List.{length-map, drop_more}
-use Rattle.std.specs.Prelude.{All, IfNone}
-use Rattle.std.proofs.lemmas.List.Elements.{All-head, All-tail}
+use Rattle.std.proofs.lemmas.List.{length-map}
+use Rattle.std.specs.Prelude.{IfNone}
 use Rattle.action_terms.specs.declared.graph.Node.{Node}
 use Rattle.action_terms.specs.declared.graph.YNode.{YNode}
-use Rattle.action_terms.specs.declared.kinds.Kind.{Kind}
-use Rattle.action_terms.specs.declared.kinds.Kind.TheVariants as kind
-use Rattle.action_terms.specs.Labels.{Label, ActionNode, YielderNode, AnAction}
-use Rattle.action_terms.specs.Trees.{Tree, tree, Trees, none, more}
+use Rattle.action_terms.specs.Labels.{Label, AnAction}
+use Rattle.action_terms.specs.Trees.{Tree}
 use Rattle.action_terms.specs.Nodes.{listed_node, listed_yielder}
-use Rattle.action_terms.specs.Numbering.{Listed, ListedNode, IsGraph, IsGraphOf}
+use Rattle.action_terms.specs.Numbering.{Listed, IsGraph, IsGraphOf}
 use Rattle.action_terms.proofs.GraphLaws.{length-nodes_few}
 use Rattle.action_text.specs.declared.print_jobs.Side.{Side}
 use Rattle.action_text.specs.declared.print_jobs.Side.TheVariants.{Whole}
@@ -20,13 +17,11 @@ use Rattle.action_text.specs.declared.print_jobs.Part.TheVariants as part
 use Rattle.action_text.specs.declared.print_jobs.Job.{Job}
 use Rattle.action_text.specs.declared.print_jobs.Job.TheVariants as job
 use Rattle.action_text.specs.declared.unfinished.Text.{Text}
-use Rattle.action_text.specs.Answers.{IsTextOf, IsReadAs}
-use Rattle.action_text.specs.Canonical.{action_tokens, canonical_text, IsReadableLabel, IsReadable, AreReadable, HasNoBranch}
+use Rattle.action_text.specs.Canonical.{action_tokens}
 use Rattle.action_text.specs.Printing as due
 use Rattle.action_text.specs.Printing.{Says, Due, Token, due_on, part_due, action_due, shape_due, items_in, node_label, yielder_label}
-use Rattle.action_text.proofs.LabelsOfNodes.{action_labels, action_labels_all, yielder_labels, yielder_labels_all, node_labels, labels_of_yielders}
+use Rattle.action_text.proofs.LabelsOfNodes.{action_labels, yielder_labels, node_labels, labels_of_yielders}
 use Rattle.action_text.proofs.PrintWalk.{Walk, walk_starts, walk_says, walk_ends, next_action, next_yielder}
-use Rattle.action_text.proofs.PrintableTexts.{canonical_is_text}
 
 -- the labels of nodes in memory
 abbrev pub labels_at : List Node → List Label
@@ -94,19 +89,19 @@ stands_at (y ∷ xs) (suc i) x rest e =
 length_labels : (nodes : List Node) → length (labels_at nodes) ≡ length nodes
 length_labels nodes = length-map (map listed_node nodes) node_label ∙ length-map nodes listed_node
 
-length_yielder_labels : (yielders : List YNode) → length (yielder_labels_at yielders) ≡ length yielders
+pub length_yielder_labels : (yielders : List YNode) → length (yielder_labels_at yielders) ≡ length yielders
 length_yielder_labels yielders = length-map (map listed_yielder yielders) yielder_label ∙ length-map yielders listed_yielder
 
 label_there : (nodes : List Node) (i : ℕ) (d : Node) → get_or (labels_at nodes) i (node_label (listed_node d)) ≡ node_label (listed_node (get_or nodes i d))
 label_there nodes i d = get_or-map node_label (map listed_node nodes) i (listed_node d) ∙ ap node_label (get_or-map listed_node nodes i d)
 
-yielder_label_there : (yielders : List YNode) (i : ℕ) (d : YNode) → get_or (yielder_labels_at yielders) i (yielder_label (listed_yielder d)) ≡ yielder_label (listed_yielder (get_or yielders i d))
+pub yielder_label_there : (yielders : List YNode) (i : ℕ) (d : YNode) → get_or (yielder_labels_at yielders) i (yielder_label (listed_yielder d)) ≡ yielder_label (listed_yielder (get_or yielders i d))
 yielder_label_there yielders i d = get_or-map yielder_label (map listed_yielder yielders) i (listed_yielder d) ∙ ap yielder_label (get_or-map listed_yielder yielders i d)
 
 -- a node of a graph that is due is there
-pub action_found : (nodes : List Node) (yielders : List YNode) (g : Listed) (old new : Text) (before after : List Due) (next : Option Part) (s : Side) (action yielder : ℕ) → map listed_node nodes ≡ g.nodes → IsGraph g → next ≡ Some (part.Action s)
-    → Printed old new before after next → ((t : Tree) → IsGraphOf g t → Prints nodes yielders before old action yielder t) → (action < length nodes) × (action < 65536)
-action_found nodes yielders g old new before after next s action yielder e graph f printed h =
+pub action_found : {nodes : List Node} {yielders : List YNode} {g : Listed} {old new : Text} {before : List Due} {next : Option Part} {s : Side} {action yielder : ℕ}
+    → (after : List Due) → ((t : Tree) → IsGraphOf g t → Prints nodes yielders before old action yielder t) → Printed old new before after next → next ≡ Some (part.Action s) → map listed_node nodes ≡ g.nodes → IsGraph g → (action < length nodes) × (action < 65536)
+action_found {nodes = nodes} {yielders = yielders} {g = g} {old = old} {new = new} {before = before} {next = next} {s = s} {action = action} {yielder = yielder} after h printed f e graph =
     let due_now = node_due nodes yielders old new before after next (part.Action s) action yielder graph.0 f printed (h graph.0 graph.1) in
     let n = next_action (drop action (labels_at nodes)) (drop yielder (yielder_labels_at yielders)) due_now.said s after graph.0 due_now.walk in
     let at = stands_at (labels_at nodes) action n.label n.rest n.first in
@@ -116,9 +111,9 @@ action_found nodes yielders g old new before after next s action yielder e graph
     let few = length-nodes_few g graph in
     (omega (arith, lt, same), omega (arith, lt, same, size, few))
 
-pub yielder_found : (nodes : List Node) (yielders : List YNode) (g : Listed) (old new : Text) (before after : List Due) (next : Option Part) (action yielder : ℕ) → map listed_yielder yielders ≡ g.yielders → IsGraph g → next ≡ Some part.Yielder
-    → Printed old new before after next → ((t : Tree) → IsGraphOf g t → Prints nodes yielders before old action yielder t) → (yielder < length yielders) × (yielder < 65536)
-yielder_found nodes yielders g old new before after next action yielder e graph f printed h =
+pub yielder_found : {nodes : List Node} {yielders : List YNode} {g : Listed} {old new : Text} {before : List Due} {next : Option Part} {action yielder : ℕ}
+    → (after : List Due) → ((t : Tree) → IsGraphOf g t → Prints nodes yielders before old action yielder t) → Printed old new before after next → next ≡ Some part.Yielder → map listed_yielder yielders ≡ g.yielders → IsGraph g → (yielder < length yielders) × (yielder < 65536)
+yielder_found {nodes = nodes} {yielders = yielders} {g = g} {old = old} {new = new} {before = before} {next = next} {action = action} {yielder = yielder} after h printed f e graph =
     let due_now = node_due nodes yielders old new before after next part.Yielder action yielder graph.0 f printed (h graph.0 graph.1) in
     let n = next_yielder (drop action (labels_at nodes)) (drop yielder (yielder_labels_at yielders)) due_now.said after graph.0 due_now.walk in
     let at = stands_at (yielder_labels_at yielders) yielder n.label n.rest n.first in
@@ -168,56 +163,3 @@ all_printed nodes yielders old new before stack next action yielder t is_none do
     let e = walk_ends (drop action (labels_at nodes)) (drop yielder (yielder_labels_at yielders)) over.said t
     (subst (λ ds. Walk (drop action (labels_at nodes)) (drop yielder (yielder_labels_at yielders)) over.said ds t) nothing over.walk) in
     (e.1, subst (λ ts. Says new ts) e.2 over.says)
-
--- labels that a text can give
-abbrev pub AllReadable : List Label → Type 0
-AllReadable [] = Unit {0}
-AllReadable (l ∷ ls) = IsReadableLabel l × AllReadable ls
-
-front_readable : (ls ms : List Label) → AllReadable (ls ++ ms) → AllReadable ls
-front_readable [] ms h = tt
-front_readable (l ∷ ls) ms h = (h.0, front_readable ls ms h.1)
-
-back_readable : (ls ms : List Label) → AllReadable (ls ++ ms) → AllReadable ms
-back_readable [] ms h = h
-back_readable (l ∷ ls) ms h = back_readable ls ms h.1
-
-mutual
-  tree_readable : (t : Tree) → AllReadable (action_labels t) → AllReadable (yielder_labels t) → IsReadable t
-  tree_readable (tree (ActionNode k n q) ts) a y = (a.0, trees_readable ts a.1 y)
-  tree_readable (tree (YielderNode k q) ts) a y = (y.0, trees_readable ts a y.1)
-
-  trees_readable : (ts : Trees) → AllReadable (action_labels_all ts) → AllReadable (yielder_labels_all ts) → AreReadable ts
-  trees_readable none a y = tt
-  trees_readable (more t ts) a y = (
-    tree_readable t (front_readable (action_labels t) (action_labels_all ts) a) (front_readable (yielder_labels t) (yielder_labels_all ts) y),
-    trees_readable ts (back_readable (action_labels t) (action_labels_all ts) a) (back_readable (yielder_labels t) (yielder_labels_all ts) y),
-  )
-
-no_branch : (k : Kind) (n : ℕ) (q : List ℕ) → k ≢ kind.Branch → IsReadableLabel (ActionNode k n q)
-no_branch kind.Branch n q h = h refl
-no_branch _ n q h = tt
-
-actions_readable : (ns : List ListedNode) → All (λ (n : ListedNode). n.kind ≢ kind.Branch) ns → AllReadable (map node_label ns)
-actions_readable [] h = tt
-actions_readable (n ∷ ns) h = (
-  no_branch n.kind (items_in n.kind n.operands) n.token (All-head (λ (m : ListedNode). m.kind ≢ kind.Branch) n ns h),
-  actions_readable ns (All-tail (λ (m : ListedNode). m.kind ≢ kind.Branch) n ns h),
-)
-
--- one label more can be read
-pub readable_more : (yielders : List YNode) (yielder : ℕ) (d : YNode) → yielder < length yielders → IsReadableLabel (yielder_label (listed_yielder (get_or yielders yielder d)))
-    → (AllReadable (drop yielder (yielder_labels_at yielders)) → AllReadable (yielder_labels_at yielders)) → AllReadable (drop (yielder + 1) (yielder_labels_at yielders)) → AllReadable (yielder_labels_at yielders)
-readable_more yielders yielder d h fits so rest =
-    let same = length_yielder_labels yielders in
-    let lt : yielder < length (yielder_labels_at yielders) = omega (arith, same) in
-    let here = subst IsReadableLabel (sym (yielder_label_there yielders yielder d)) fits in
-    so (subst AllReadable (sym (drop_more (yielder_labels_at yielders) yielder (yielder_label (listed_yielder d)) lt)) (here, rest))
-
--- the text of a graph without a branch is read as that graph
-pub text_read : (nodes : List Node) (yielders : List YNode) (g : Listed) (t : Tree) (text : List ℕ) → map listed_node nodes ≡ g.nodes → map listed_yielder yielders ≡ g.yielders → IsGraphOf g t → HasNoBranch g
-    → AllReadable (yielder_labels_at yielders) → text ≡ canonical_text t → IsReadAs text g
-text_read nodes yielders g t text e f is none_branch fits same =
-    let a : AllReadable (action_labels t) = subst AllReadable (ap (map node_label) (ap (λ (l : Listed). l.nodes) is.numbered) ∙ node_labels t AnAction is.action None 0 0) (actions_readable g.nodes none_branch) in
-    let y : AllReadable (yielder_labels t) = subst AllReadable (ap (map yielder_label) (f ∙ ap (λ (l : Listed). l.yielders) is.numbered) ∙ labels_of_yielders t 0 0) fits in
-    (t, subst (λ bytes. IsTextOf bytes t) (sym same) (canonical_is_text t is.action (tree_readable t a y)), is)

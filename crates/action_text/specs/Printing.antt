@@ -22,6 +22,7 @@ pub data Due : Type 0 where
   Token : (token : List ℕ) → Due
   Node : (place : Part) → Due
 
+-- a job is a token, or the place of a node
 abbrev pub due : Job → Due
 due (job.Word w) = Token w.now
 due (job.Number z) = Token (decimal_of z)
@@ -32,6 +33,7 @@ due (job.Part p) = Node p
 abbrev pub due_on : List Job → List Due
 due_on jobs = map due (reverse jobs)
 
+-- an action under a node is an operand
 abbrev pub place_of : Wanted → Part
 place_of AnAction = part.Action Operand
 place_of _ = part.Yielder
@@ -71,6 +73,7 @@ action_due s (YielderNode k t) = []
 abbrev pub operand_length : List (List ℕ) → ℕ → ℕ
 operand_length operands place = length (slice_index_or operands place [])
 
+-- how many items the data of an action has
 abbrev pub items_in : Kind → List (List ℕ) → ℕ
 items_in kind.Give operands = operand_length operands 0
 items_in kind.EscapeWith operands = operand_length operands 0
@@ -111,6 +114,7 @@ pub record Says (text : Text) (tokens : List (List ℕ)) : Type 0 where
   pub bytes_are : text.bytes.items ≡ spaced tokens
   pub last_at : IsLastAt text.bytes.items text.last tokens
 
+-- a node that is due, if there is one
 abbrev pub part_due : Option Part → List Due
 part_due None = []
 part_due (Some p) = Node p ∷ []

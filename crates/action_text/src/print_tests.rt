@@ -10,10 +10,11 @@ use std::process::Abort;
 use std::test::Fail;
 
 // The texts of actions, as a user may write them.
-static TEXTS: [&[u8]; 22] = [
+static TEXTS: [&[u8]; 25] = [
     b"send 42",
     b"(give 1 and give 2) then send sum(the given integer # 1, the given integer # 2)",
     b"send sum(9223372036854775807, 1)",
+    b"send integer-quotient(7, 0)",
     b"send integer-quotient(-9223372036854775808, -1)",
     b"send integer-remainder(-9223372036854775808, -1)",
     b"(send 1 and then fail) or send 2",
@@ -28,9 +29,11 @@ static TEXTS: [&[u8]; 22] = [
     b"(allocate a cell) then (send the integer stored in the given cell)",
     b"unfolding unfold",
     b"send 1 and send 2",
+    b"(send 1 and send 2) and send 3 and (send 4 and send 5)",
     b"furthermore (recursively bind \"f\" to closure abstraction of (\n  ((check is(the given integer, 0)) and then (give 1)) or\n  ((check is less than(0, the given integer)) and then\n    (((give the given integer) and\n      (enact application of the abstraction bound to \"f\"\n        to difference(the given integer, 1)))\n     then (give product(the given integer # 1, the given integer # 2))))))\nhence (receive an integer then\n  ((enact application of the abstraction bound to \"f\" to the given integer)\n   then send the given integer))",
     b"furthermore bind \"x\" to 1 hence (furthermore bind \"f\" to closure abstraction of send the integer bound to \"x\" hence (furthermore bind \"x\" to 2 hence enact the abstraction bound to \"f\"))",
-    b"give (1, 1) then give (them, them) then give (them, them) then complete",
+    b"give (1, 1) then give (them, them) then give (them, them) then give (them, them) then give (them, them) then give (them, them) then complete",
+    b"give (1, 1) then give (them, them) then give (them, them) then give (them, them) then give (them, them) then give (them, them) then give (them, them) then complete",
     b"give () and then (store not(true) in the cell bound to \"!#~\" moreover (rebind before regive))",
     b"(escape with them trap commit) or (enact the given abstraction hence check both(either(false, true), not(is(negation(1), 2))))",
 ];

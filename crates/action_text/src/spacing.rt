@@ -68,7 +68,7 @@ impl Text {
         }
     }
 
-    // Puts a space, where one stands before the token, and answers where the token begins.
+    // Puts a space, where one stands before the token, and notes that the token begins there.
     fn begin(&mut self, token: &[u8]) -> Result<(), AllocError>
         ensures bytes { OnOk result ((tokens : List (List ℕ)) → Says self.old tokens → self.new.bytes.items ≡ spaced tokens ++ gap_behind tokens token.now) }
         ensures last { OnOk result (self.new.last ≡ Some (length self.new.bytes.items)) }

@@ -1,9 +1,10 @@
-use Rattle.std.proofs.Common.{◌∙◌, ◌<◌, ◌++◌, ◌∷◌, [], Some, length, sym, ap, subst, arith}
+use Rattle.std.proofs.Common.{◌∙◌, ◌++◌, ◌∷◌, [], Some, sym, ap, subst, arith}
 use Rattle.action_text.specs.declared.print_jobs.Side.TheVariants.{Whole}
 use Rattle.action_text.specs.declared.print_jobs.Part.TheVariants as part
 use Rattle.action_text.specs.declared.print_jobs.Job.TheVariants as job
 use Rattle.action_text.specs.Canonical.{action_tokens}
-use Rattle.action_text.proofs.PrintedGraphs.{printing_starts, node_due, action_found, yielder_found, action_printed, yielder_printed, all_printed, AllReadable, readable_more, text_read}
+use Rattle.action_text.proofs.PrintedGraphs.{printing_starts, node_due, action_found, yielder_found, action_printed, yielder_printed, all_printed}
+use Rattle.action_text.proofs.ReadableGraphs.{AllReadable, readable_more, text_read}
 use Rattle.action_text.proofs.printing.print_action.Goals as goal
 
 pub loop-text-init : goal.loop-text-init
@@ -14,27 +15,22 @@ loop-text-init c = record {
 }
 
 pub bounds-nodes-action : goal.bounds-nodes-action
-bounds-nodes-action c =
-    (action_found c.nodes-nodes.result.now c.yielders-yielders.result.now c.args.graph.now _ _ _ _ _ c.in-Action.side c.loop-text.action c.loop-text.yielder c.nodes-nodes.ensures.nodes c.nodes-nodes.ensures.of_an_action
-    (c.in-Some.is ∙ ap Some c.in-Action.is) c.in_ok-part.ensures.printed c.loop-text.invariant.prints).0
+bounds-nodes-action c = (action_found _ c.loop-text.invariant.prints c.in_ok-part.ensures.printed (c.in-Some.is ∙ ap Some c.in-Action.is) c.nodes-nodes.ensures.nodes c.nodes-nodes.ensures.of_an_action).0
 
 pub offset_bounds-nodes-action : goal.offset_bounds-nodes-action
 offset_bounds-nodes-action c =
-    let few : c.loop-text.action < 65536 = (action_found c.nodes-nodes.result.now c.yielders-yielders.result.now c.args.graph.now _ _ _ _ _ c.in-Action.side c.loop-text.action c.loop-text.yielder c.nodes-nodes.ensures.nodes c.nodes-nodes.ensures.of_an_action
-    (c.in-Some.is ∙ ap Some c.in-Action.is) c.in_ok-part.ensures.printed c.loop-text.invariant.prints).1 in
-    omega (arith, few)
+    let found = action_found _ c.loop-text.invariant.prints c.in_ok-part.ensures.printed (c.in-Some.is ∙ ap Some c.in-Action.is) c.nodes-nodes.ensures.nodes c.nodes-nodes.ensures.of_an_action in
+    omega (arith, found.1)
 
 pub overflow_add-action : goal.overflow_add-action
 overflow_add-action c =
-    let few : c.loop-text.action < 65536 = (action_found c.nodes-nodes.result.now c.yielders-yielders.result.now c.args.graph.now _ _ _ _ _ c.in-Action.side c.loop-text.action c.loop-text.yielder c.nodes-nodes.ensures.nodes c.nodes-nodes.ensures.of_an_action
-    (c.in-Some.is ∙ ap Some c.in-Action.is) c.in_ok-part.ensures.printed c.loop-text.invariant.prints).1 in
-    omega (arith, few)
+    let found = action_found _ c.loop-text.invariant.prints c.in_ok-part.ensures.printed (c.in-Some.is ∙ ap Some c.in-Action.is) c.nodes-nodes.ensures.nodes c.nodes-nodes.ensures.of_an_action in
+    omega (arith, found.1)
 
 pub loop-text-smaller-in-Action : goal.loop-text-smaller-in-Action
 loop-text-smaller-in-Action c =
-    let inside : c.loop-text.action < length c.nodes-nodes.result.now = (action_found c.nodes-nodes.result.now c.yielders-yielders.result.now c.args.graph.now _ _ _ _ _ c.in-Action.side c.loop-text.action c.loop-text.yielder c.nodes-nodes.ensures.nodes c.nodes-nodes.ensures.of_an_action
-    (c.in-Some.is ∙ ap Some c.in-Action.is) c.in_ok-part.ensures.printed c.loop-text.invariant.prints).0 in
-    omega (arith, inside)
+    let found = action_found _ c.loop-text.invariant.prints c.in_ok-part.ensures.printed (c.in-Some.is ∙ ap Some c.in-Action.is) c.nodes-nodes.ensures.nodes c.nodes-nodes.ensures.of_an_action in
+    omega (arith, found.0)
 
 pub loop-text-preserved-in-Action : goal.loop-text-preserved-in-Action
 loop-text-preserved-in-Action c = record {
@@ -45,37 +41,31 @@ loop-text-preserved-in-Action c = record {
 }
 
 pub bounds-yielders-yielder : goal.bounds-yielders-yielder
-bounds-yielders-yielder c =
-    (yielder_found c.nodes-nodes.result.now c.yielders-yielders.result.now c.args.graph.now _ _ _ _ _ c.loop-text.action c.loop-text.yielder c.yielders-yielders.ensures.yielders c.nodes-nodes.ensures.of_an_action
-    (c.in-Some.is ∙ ap Some c.in-Yielder.is) c.in_ok-part.ensures.printed c.loop-text.invariant.prints).0
+bounds-yielders-yielder c = (yielder_found _ c.loop-text.invariant.prints c.in_ok-part.ensures.printed (c.in-Some.is ∙ ap Some c.in-Yielder.is) c.yielders-yielders.ensures.yielders c.nodes-nodes.ensures.of_an_action).0
 
 pub offset_bounds-yielders-yielder : goal.offset_bounds-yielders-yielder
 offset_bounds-yielders-yielder c =
-    let few : c.loop-text.yielder < 65536 = (yielder_found c.nodes-nodes.result.now c.yielders-yielders.result.now c.args.graph.now _ _ _ _ _ c.loop-text.action c.loop-text.yielder c.yielders-yielders.ensures.yielders c.nodes-nodes.ensures.of_an_action
-    (c.in-Some.is ∙ ap Some c.in-Yielder.is) c.in_ok-part.ensures.printed c.loop-text.invariant.prints).1 in
-    omega (arith, few)
+    let found = yielder_found _ c.loop-text.invariant.prints c.in_ok-part.ensures.printed (c.in-Some.is ∙ ap Some c.in-Yielder.is) c.yielders-yielders.ensures.yielders c.nodes-nodes.ensures.of_an_action in
+    omega (arith, found.1)
 
 pub overflow_add-yielder : goal.overflow_add-yielder
 overflow_add-yielder c =
-    let few : c.loop-text.yielder < 65536 = (yielder_found c.nodes-nodes.result.now c.yielders-yielders.result.now c.args.graph.now _ _ _ _ _ c.loop-text.action c.loop-text.yielder c.yielders-yielders.ensures.yielders c.nodes-nodes.ensures.of_an_action
-    (c.in-Some.is ∙ ap Some c.in-Yielder.is) c.in_ok-part.ensures.printed c.loop-text.invariant.prints).1 in
-    omega (arith, few)
+    let found = yielder_found _ c.loop-text.invariant.prints c.in_ok-part.ensures.printed (c.in-Some.is ∙ ap Some c.in-Yielder.is) c.yielders-yielders.ensures.yielders c.nodes-nodes.ensures.of_an_action in
+    omega (arith, found.1)
 
 pub loop-text-smaller : goal.loop-text-smaller
 loop-text-smaller c =
-    let inside : c.loop-text.yielder < length c.yielders-yielders.result.now = (yielder_found c.nodes-nodes.result.now c.yielders-yielders.result.now c.args.graph.now _ _ _ _ _ c.loop-text.action c.loop-text.yielder c.yielders-yielders.ensures.yielders c.nodes-nodes.ensures.of_an_action
-    (c.in-Some.is ∙ ap Some c.in-Yielder.is) c.in_ok-part.ensures.printed c.loop-text.invariant.prints).0 in
-    omega (arith, inside)
+    let found = yielder_found _ c.loop-text.invariant.prints c.in_ok-part.ensures.printed (c.in-Some.is ∙ ap Some c.in-Yielder.is) c.yielders-yielders.ensures.yielders c.nodes-nodes.ensures.of_an_action in
+    omega (arith, found.0)
 
 pub loop-text-preserved : goal.loop-text-preserved
 loop-text-preserved c =
-    let inside : c.loop-text.yielder < length c.yielders-yielders.result.now = (yielder_found c.nodes-nodes.result.now c.yielders-yielders.result.now c.args.graph.now _ _ _ _ _ c.loop-text.action c.loop-text.yielder c.yielders-yielders.ensures.yielders c.nodes-nodes.ensures.of_an_action
-    (c.in-Some.is ∙ ap Some c.in-Yielder.is) c.in_ok-part.ensures.printed c.loop-text.invariant.prints).0 in
+    let found = yielder_found _ c.loop-text.invariant.prints c.in_ok-part.ensures.printed (c.in-Some.is ∙ ap Some c.in-Yielder.is) c.yielders-yielders.ensures.yielders c.nodes-nodes.ensures.of_an_action in
     record {
       prints = λ t is. yielder_printed c.nodes-nodes.result.now c.yielders-yielders.result.now _ _ _ c.loop-text.action c.loop-text.yielder _ t
           (node_due c.nodes-nodes.result.now c.yielders-yielders.result.now _ _ _ _ _ part.Yielder c.loop-text.action c.loop-text.yielder t (c.in-Some.is ∙ ap Some c.in-Yielder.is) c.in_ok-part.ensures.printed (c.loop-text.invariant.prints t is))
           c.in_ok-push_yielder-in-Yielder.ensures.due;
-      readable = readable_more c.yielders-yielders.result.now c.loop-text.yielder _ inside c.in_ok-push_yielder-in-Yielder.ensures.fits c.loop-text.invariant.readable;
+      readable = readable_more c.yielders-yielders.result.now c.loop-text.yielder _ found.0 c.in_ok-push_yielder-in-Yielder.ensures.fits c.loop-text.invariant.readable;
     }
 
 pub returns-clause-canonical : goal.returns-clause-canonical

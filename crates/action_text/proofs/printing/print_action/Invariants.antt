@@ -2,7 +2,8 @@ use Rattle.std.proofs.Common.{◌+◌, ◌-◌, length, drop}
 use Rattle.action_terms.specs.Trees.{Tree}
 use Rattle.action_terms.specs.Numbering.{IsGraphOf}
 use Rattle.action_text.specs.Printing.{due_on}
-use Rattle.action_text.proofs.PrintedGraphs.{Prints, AllReadable, yielder_labels_at}
+use Rattle.action_text.proofs.PrintedGraphs.{Prints, yielder_labels_at}
+use Rattle.action_text.proofs.ReadableGraphs.{AllReadable}
 use Rattle.action_text.proofs.printing.print_action.Given as goal
 
 abbrev pub invariant-loop-text : goal.invariant-loop-text
