@@ -1,35 +1,48 @@
 //! The program: serves its arguments over the folder and standard output.
 #![tactic(auto)]
 
+ghost use Rattle.std.specs.Prelude.{◌≡◌, drop, IfOk};
+ghost use Rattle.std.specs.Vec.Iter.{into_iter_items};
+ghost use Rattle.acg.specs.Arguments.{words_of};
+
 use acg_base::{FolderStore, OutSink, Status, Words};
 use acg_driver::serve;
-use std::alloc::AllocError;
-use std::env;
+use std::alloc::{AllocError, Global};
+use std::env::Args;
+use std::io::ErrorKind;
 use std::process::ExitCode;
-use std::rt::Env;
+use std::{env, io};
 
-// The words of the command line without the program's name, or one empty word where they aren't text.
-fn words<R: Env + AllocGlobal>(rt: &R) -> Result<Words, AllocError> {
-    let mut list = Vec::new(rt.alloc());
-    match env::args(rt) {
-        Ok(args) => {
-            let mut is_name = true;
-            for word in args {
-                if is_name {
-                    is_name = false;
-                } else {
-                    list.push(word)?;
-                }
-            }
-        }
-        Err(_) => list.push(String::new(rt.alloc()))?,
+// The arguments without the first.
+fn without_first(alloc: Global, args: Args) -> Result<Vec<String>, AllocError>
+    ensures { IfOk result (λ list. list.items ≡ drop 1 (into_iter_items args)) }
+{
+    let mut list = Vec::new(alloc);
+    for argument in args.skip(1) {
+        list.push(argument)?;
     }
-    Ok(Words::new(list))
+    Ok(list)
+}
+
+// The words of the command line: the arguments without the program's name, or one empty word where they aren't text.
+// An `Err` comes for want of memory alone.
+fn words_of(alloc: Global, args: io::Result<Args>) -> Result<Words, AllocError>
+    ensures { IfOk result (λ words. words ≡ words_of args) }
+{
+    match args {
+        Ok(args) => Ok(Words::new(without_first(alloc, args)?)),
+        Err(error) if matches!(error.kind(), ErrorKind::OutOfMemory) => Err(AllocError),
+        Err(_) => {
+            let mut list = Vec::new(alloc);
+            list.push(String::new(alloc))?;
+            Ok(Words::new(list))
+        }
+    }
 }
 
 fn main(rt: HostRuntime) -> ExitCode {
     let memory = ExitCode::from(Status::Memory.code());
-    let Ok(words) = words(&rt) else {
+    let Ok(words) = words_of(rt.alloc(), env::args(&rt)) else {
         return memory;
     };
     let Ok(for_files) = rt.clone() else {

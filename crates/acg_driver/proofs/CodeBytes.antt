@@ -1,8 +1,9 @@
 -- The bytes of the words of code.
-use Rattle.std.proofs.Common.{◌≡◌, ℕ, ◌/◌, ◌%◌, ◌^◌, List, [], ◌∷◌, ◌++◌, sym, ap, ◌∙◌, arith, w32}
+use Rattle.std.proofs.Common.{◌≡◌, ℕ, ◌*◌, ◌/◌, ◌%◌, ◌^◌, List, [], ◌∷◌, ◌++◌, length, sym, ap, ◌∙◌, arith, w32, length-append}
 use Rattle.std.specs.Int.{to_le_bytes}
 use Rattle.std.proofs.lemmas.List.{append-nil, append_assoc}
 use Rattle.rv_code.specs.Bytes.{bytes_of}
+use Rattle.rv_code.proofs.ByteLaws.{length-bytes}
 use Rattle.rv_asm.specs.Conventions.{instruction_bytes}
 
 -- the four bytes of a word
@@ -18,3 +19,9 @@ pub instruction_bytes-push : (ws : List ℕ) (w : ℕ) → instruction_bytes (ws
 unfolding instruction_bytes
 instruction_bytes-push [] w = append-nil (bytes_of 4 w) ∙ bytes-word w
 instruction_bytes-push (v ∷ ws) w = ap (λ bytes. bytes_of 4 v ++ bytes) (instruction_bytes-push ws w) ∙ sym (append_assoc (bytes_of 4 v) (instruction_bytes ws) (to_le_bytes w32 w))
+
+pub length-instruction_bytes : (ws : List ℕ) → length (instruction_bytes ws) ≡ 4 * length ws
+unfolding instruction_bytes
+length-instruction_bytes [] = omega arith
+length-instruction_bytes (w ∷ ws) =
+    omega (arith, length-append (bytes_of 4 w) (instruction_bytes ws), length-bytes 4 w, length-instruction_bytes ws)

@@ -18,6 +18,8 @@ mod words;
 pub use serving::serve;
 
 #[cfg(test)]
+mod assembled_tests;
+#[cfg(test)]
 mod perform_tests;
 #[cfg(test)]
 mod tests;

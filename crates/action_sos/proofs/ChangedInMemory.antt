@@ -1,12 +1,12 @@
 -- The parts in memory before and after a step of one of them.
-use Rattle.std.proofs.Common.{◌≡◌, ℕ, suc, ◌+◌, ◌-◌, ◌<◌, ◌≤◌, List, [], ◌∷◌, ◌++◌, All, take, drop, get_or, map, length, sym, ap, ap₂, subst, ◌∙◌, append-nil, append_assoc, take-append-drop, drop-cons, length-drop, arith}
+use Rattle.std.proofs.Common.{◌≡◌, ℕ, suc, ◌+◌, ◌-◌, ◌<◌, ◌≤◌, List, [], ◌∷◌, ◌++◌, All, take, drop, get_or, length, sym, ap, ap₂, subst, ◌∙◌, append-nil, append_assoc, take-append-drop, drop-cons, length-drop, arith}
 use Rattle.std.specs.Prelude.{Bool, Some}
 use Rattle.std.proofs.Math.ListN.{get_or-map}
 use Rattle.std.proofs.lemmas.Option.{same_Some}
 use Rattle.std.proofs.lemmas.List.{length-map, map-append, take-map, drop-map, drop-drop, drop_all, take_all}
 use Rattle.std.proofs.lemmas.List.Elements.{All-append, All-push, All-take, All-drop}
 use Rattle.action_terms.proofs.Contexts.{Frame}
-use Rattle.action_sos.specs.Parts.{Focus as FocusMeant, Parts, Part as PartMeant, raise, height, IsTree, closed_before, spans}
+use Rattle.action_sos.specs.Parts.{Part as PartMeant, raise, height, IsTree, closed_before, spans}
 use Rattle.action_sos.specs.Views.{focus_of, part_of, parts_of}
 use Rattle.action_sos.specs.Kept.{IsCounted}
 use Rattle.action_sos.specs.Plans.{or_none, next_parts, left_behind}

@@ -3,7 +3,7 @@ use Rattle.std.proofs.Common.{◌≡◌, ℕ, zero, suc, ◌+◌, ◌-◌, ◌<�
 use Rattle.std.specs.Prelude.{Some}
 use Rattle.std.proofs.lemmas.Option.{same_Some}
 use Rattle.std.proofs.lemmas.List.Elements.{All-nil, All-cons, All-tail, All-append, All-drop}
-use Rattle.action_terms.specs.Acting.{End as EndMeant, Ended}
+use Rattle.action_terms.specs.Acting.{Ended}
 use Rattle.action_terms.proofs.Contexts.{Frame}
 use Rattle.action_sos.specs.Parts.{Focus, Leaf, Parts, Part, raise, height, IsGoing, IsKeptFrame, AreKept, IsTree, IsTreeBut, closed_before, ended_part, parent_part, spans}
 use Rattle.action_sos.specs.Views.{end_of, frame_of}
@@ -138,5 +138,13 @@ pub changed-weight : (q : Bool) (before : List Part) (p : Part) (behind : List P
     → weight (closed_before q before ++ (next_parts fs n ++ left_behind p.focus behind)) ≤ weight (before ++ p ∷ behind) + 4
 changed-weight q before p behind fs n fewer =
     let left = left_behind p.focus behind in
-    omega (arith, fewer, weight-append (closed_before q before) (next_parts fs n ++ left), weight-append (next_parts fs n) left, weight-append before (p ∷ behind), weight-closed_before q before,
-    next-weight fs n, left-weight p.focus behind)
+    omega (
+      arith,
+      fewer,
+      weight-append (closed_before q before) (next_parts fs n ++ left),
+      weight-append (next_parts fs n) left,
+      weight-append before (p ∷ behind),
+      weight-closed_before q before,
+      next-weight fs n,
+      left-weight p.focus behind,
+    )

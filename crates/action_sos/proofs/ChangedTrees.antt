@@ -1,5 +1,5 @@
 -- What parts in memory spell after a step of one of them: where the part goes on, and where it has ended as a whole.
-use Rattle.std.proofs.Common.{◌≡◌, ℕ, zero, suc, ◌+◌, ◌<◌, ◌≤◌, Bool, List, [], ◌∷◌, ◌++◌, take, drop, get_or, map, length, sym, ap, ap₂, subst, refl, ◌∙◌, length-take, arith}
+use Rattle.std.proofs.Common.{◌≡◌, ℕ, suc, ◌+◌, ◌<◌, ◌≤◌, Bool, List, [], ◌∷◌, ◌++◌, take, drop, get_or, map, length, sym, ap, ap₂, subst, refl, ◌∙◌, length-take, arith}
 use Rattle.std.proofs.Math.Seq.{take-append_seam, drop-append-add}
 use Rattle.std.proofs.lemmas.List.{length-map}
 use Rattle.action_terms.proofs.Contexts.{Frame, shut_if}
@@ -24,7 +24,7 @@ none-of (x ∷ xs) e = absurd (omega (arith, e))
 -- a step of the part at the place keeps the frames of the part p, and n stands within them
 module _ (ps : List Part) (place : ℕ) (q : Bool) (p : Part) (n : Next) (all : List Part) (within : place < length ps) (tree : IsTree (parts_of ps)) (counted : IsCounted p)
     (stands : (d : Part) → parts_of all ≡ closed_before q (take place (parts_of ps))
-        ++ (next_parts (map (shut_if q) (part_of p).frames) n ++ left_behind (part_of (get_or ps place d)).focus (drop (suc place) (parts_of ps)))) where
+    ++ (next_parts (map (shut_if q) (part_of p).frames) n ++ left_behind (part_of (get_or ps place d)).focus (drop (suc place) (parts_of ps)))) where
   abbrev before : List PartMeant
   before = take place (parts_of ps)
 

@@ -1,5 +1,5 @@
 -- The frames of a part in memory are frames of an acting tree whose parts beside have ended.
-use Rattle.std.proofs.Common.{◌≡◌, ℕ, zero, suc, true, List, [], ◌∷◌, ◌++◌, All, sym, subst}
+use Rattle.std.proofs.Common.{ℕ, zero, suc, true, List, [], ◌∷◌, All, sym, subst}
 use Rattle.std.proofs.lemmas.List.Elements.{All-nil, All-cons, All-head, All-tail, All-append}
 use Rattle.action_terms.proofs.Contexts.{Frame as FrameMeant, InOr, InTail, shut_if}
 use Rattle.action_sos.specs.Parts.{IsKeptFrame, AreKept}

@@ -1,5 +1,5 @@
 -- The frames of a part in memory are frames of an acting tree: each part beside has ended.
-use Rattle.std.proofs.Common.{◌≡◌, ℕ, zero, suc, Bool, true, List, [], ◌∷◌, ◌++◌, All, sym, subst, map}
+use Rattle.std.proofs.Common.{ℕ, zero, suc, Bool, true, List, [], ◌∷◌, All, sym, subst, map}
 use Rattle.std.proofs.lemmas.List.Elements.{All-nil, All-cons, All-head, All-tail, All-append, All-map, All-weaker}
 use Rattle.action_terms.proofs.Contexts.{Frame as FrameMeant, shut_if}
 use Rattle.action_sos.specs.Parts.{IsKeptFrame, AreKept}

@@ -2,7 +2,7 @@
 use Rattle.std.proofs.Common.{◌≡◌, ℕ, zero, suc, ◌+◌, ◌≤◌, Bool, List, [], ◌∷◌, ◌++◌, drop, length, refl, arith}
 use Rattle.std.proofs.lemmas.List.{length-map}
 use Rattle.action_terms.proofs.Contexts.{shut_if}
-use Rattle.action_sos.specs.Parts.{Part, closed_around, between_all, closed_before}
+use Rattle.action_sos.specs.Parts.{Part, between_all, closed_before}
 use Rattle.action_sos.specs.Kept.{weight}
 use Rattle.action_sos.proofs.PartsClosed.{closed_around-cases}
 

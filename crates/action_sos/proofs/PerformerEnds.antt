@@ -1,10 +1,9 @@
 -- A performer at an end has no open step, and else it has one.
-use Rattle.std.proofs.Common.{◌≡◌, ◌≢◌, ◌<◌, ◌↔◌, ◌∙◌, ℕ, zero, suc, List, [], ◌∷◌, All, map, length, get_or, refl, sym, subst, ap, arith}
+use Rattle.std.proofs.Common.{◌≡◌, ◌≢◌, ◌<◌, ◌↔◌, ◌∙◌, ℕ, zero, suc, List, [], ◌∷◌, All, length, get_or, refl, sym, subst, ap, arith}
 use Rattle.std.specs.Prelude.{Some}
-use Rattle.std.proofs.lemmas.List.{length-map}
 use Rattle.std.proofs.lemmas.List.Elements.{All-head}
 use Rattle.std.proofs.lemmas.Option.{same_Some}
-use Rattle.action_terms.specs.Acting.{End, Tree, Ended}
+use Rattle.action_terms.specs.Acting.{Tree, Ended}
 use Rattle.action_terms.specs.Steps.{Step, open_steps}
 use Rattle.action_terms.proofs.NeverStuck.{never-stuck}
 use Rattle.action_sos.specs.Parts.{Focus, Leaf, Parts, Part as PartMeant, inside, push_focus, trees, tree_of, first_tree, raise, IsKeptFrame, AreKept, IsTree}
@@ -28,9 +27,10 @@ none-open (x ∷ xs) e = absurd (omega (arith, e))
 
 pub at-end : (g : Lists) (ps : List Part) (w : World) (bound count : ℕ) → IsPerformer g ps w bound
     → count ≡ length (steps_of (performing_of g ps w)) → count ≡ 0 ↔ IsEnd (performing_of g ps w).state.tree
-at-end g ps w bound count kept counted =
-    (λ e. never-stuck (action_in g) (performing_of g ps w).state kept.proper kept.sound (none-open (steps_of (performing_of g ps w)) (sym counted ∙ e)),
-     λ end. counted ∙ ap (λ t. length (open_steps (action_in g) (world_of w) t)) end.1)
+at-end g ps w bound count kept counted = (
+  λ e. never-stuck (action_in g) (performing_of g ps w).state kept.proper kept.sound (none-open (steps_of (performing_of g ps w)) (sym counted ∙ e)),
+  λ end. counted ∙ ap (λ t. length (open_steps (action_in g) (world_of w) t)) end.1,
+)
 
 -- ---- what is answered of a tree that goes on
 

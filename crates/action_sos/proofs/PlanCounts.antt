@@ -2,9 +2,9 @@
 use Rattle.std.proofs.Common.{◌≡◌, ℕ, ◌+◌, ◌-◌, ◌<◌, ◌≤◌, List, [], ◌∷◌, ◌++◌, map, length, sym, ap, ap₂, subst, ◌∙◌, length-append, arith}
 use Rattle.std.proofs.lemmas.List.{length-map}
 use Rattle.action_terms.specs.Information.{Data, Binds, World}
-use Rattle.action_terms.specs.Actions.{Action, Simple, Enact, Apply, Unfolding, Unfold, Furthermore, Both, Phases, Either, Trapping, Branch, Stray, Node}
-use Rattle.action_terms.specs.Acting.{Run, Ended}
-use Rattle.action_terms.specs.Steps.{Step, run_steps, open_steps}
+use Rattle.action_terms.specs.Actions.{Simple, Enact, Apply, Unfolding, Unfold, Furthermore, Both, Phases, Either, Trapping, Branch, Stray, Node}
+use Rattle.action_terms.specs.Acting.{Ended}
+use Rattle.action_terms.specs.Steps.{Step, run_steps}
 use Rattle.action_terms.specs.Sound.{IsSoundTree}
 use Rattle.action_terms.proofs.Contexts.{wrap}
 use Rattle.action_sos.specs.Parts.{inside, lifted, frames_steps, focus_steps, part_steps}

@@ -2,7 +2,7 @@
 use Rattle.std.proofs.Common.{◌≡◌, ℕ, ◌<◌, List, [], ◌∷◌, ◌++◌, map, length, subst, ◌∙◌}
 use Rattle.std.proofs.lemmas.List.{length-map}
 use Rattle.action_terms.specs.Actions.{Action}
-use Rattle.action_terms.specs.Acting.{End, Tree, Run, Ended}
+use Rattle.action_terms.specs.Acting.{Tree, Run}
 use Rattle.action_terms.specs.Information.{Data, Binds}
 use Rattle.action_terms.specs.Nodes.{listed_node}
 use Rattle.action_terms.specs.Meaning.{node_with, items_from}

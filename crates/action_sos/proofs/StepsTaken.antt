@@ -1,19 +1,19 @@
 -- What becomes of a performer by a step of one of its parts.
-use Rattle.std.proofs.Common.{◌≡◌, ℕ, zero, suc, ◌+◌, ◌<◌, ◌≤◌, ◌^◌, List, [], ◌∷◌, ◌++◌, All, map, length, take, drop, get_or, refl, sym, ap, ap₂, subst, ◌∙◌, take-append-drop, arith}
-use Rattle.std.specs.Prelude.{Option, Some, None, slice_get}
+use Rattle.std.proofs.Common.{◌≡◌, ℕ, zero, suc, ◌+◌, ◌<◌, ◌≤◌, ◌^◌, List, [], ◌∷◌, ◌++◌, All, length, take, drop, get_or, refl, sym, ap, ap₂, subst, ◌∙◌, take-append-drop, arith}
+use Rattle.std.specs.Prelude.{Some, slice_get}
 use Rattle.std.proofs.Math.Seq.{drop-cons}
 use Rattle.std.proofs.lemmas.List.{get_or-map, length-map}
-use Rattle.action_terms.specs.Steps.{Step, commits, open_steps, world_after}
-use Rattle.action_terms.specs.Performances.{State, OneOf, Here, Later, after}
+use Rattle.action_terms.specs.Steps.{commits, open_steps, world_after}
+use Rattle.action_terms.specs.Performances.{OneOf, Here, Later, after}
 use Rattle.action_terms.specs.Sound.{IsSound}
 use Rattle.action_terms.proofs.SoundStates.{sound-after}
 use Rattle.action_terms.proofs.Contexts.{Frame}
-use Rattle.action_sos.specs.Parts.{Focus, Leaf, Parts, Part as PartMeant, inside, trees, tree_of, raise, height, IsTree, part_steps, open_count, closed_before, spans}
+use Rattle.action_sos.specs.Parts.{Focus, Leaf, Parts, Part as PartMeant, inside, trees, tree_of, raise, height, IsTree, part_steps, open_count, closed_before}
 use Rattle.action_sos.specs.Views.{frame_of, part_of, parts_of}
 use Rattle.action_sos.specs.Kept.{IsCounted, weight}
 use Rattle.action_sos.specs.Moves.{listed_of, action_in, running, next_tree, effect_of}
 use Rattle.action_sos.specs.Plans.{IsPlan, kept_frames, next_parts, or_none, left_behind}
-use Rattle.action_sos.specs.Performers.{steps_of, Takes}
+use Rattle.action_sos.specs.Performers.{Takes}
 use Rattle.action_sos.specs.Performed.{world_of, performing_of, IsPerformer}
 use Rattle.action_sos.specs.declared.moves.Lists.{Lists}
 use Rattle.action_sos.specs.declared.moves.Next.{Next}
@@ -83,16 +83,17 @@ taken g ps w bound place index choice d plan new w' bound' old within at planned
     let n = planned.step.0 in
     let after_parts = next_parts (kept_frames plan) plan.next ++ left_behind p.focus behind in
     let spelt : trees after_parts ≡ n.tree ∷ under p.focus (trees behind) =
-        trees-next (kept_frames plan) plan.next (left_behind p.focus behind) ∙ ap₂ ◌∷◌ (sym planned.step.3) (trees-left p.focus behind low.0 high.0 low.1 raised) in
+    trees-next (kept_frames plan) plan.next (left_behind p.focus behind) ∙ ap₂ ◌∷◌ (sym planned.step.3) (trees-left p.focus behind low.0 high.0 low.1 raised) in
     let has = stepped a (world_of w) before p behind index n after_parts tree planned.step.1 spelt in
     let effect : has.step.effect ≡ effect_of plan.change = has.effect_is ∙ planned.step.2 in
     let stands : slice_get (open_steps a (world_of w) (tree_of (parts_of ps))) choice ≡ Some has.step =
-        ap₂ (λ l i. slice_get (open_steps a (world_of w) (tree_of l)) i) split at ∙ has.at in
+    ap₂ (λ l i. slice_get (open_steps a (world_of w) (tree_of l)) i) split at ∙ has.at in
     let tree_after : tree_of (parts_of new) ≡ has.step.tree =
-        changed ∙ ap (λ e. tree_of (closed_before (commits e) before ++ after_parts)) (sym planned.step.2) ∙ sym has.tree_is in
+    changed ∙ ap (λ e. tree_of (closed_before (commits e) before ++ after_parts)) (sym planned.step.2) ∙ sym has.tree_is in
     let world_after_step : world_of w' ≡ world_after has.step.effect (world_of w) = world' ∙ ap (λ e. world_after e (world_of w)) (sym effect) in
     let state : (performing_of g new w').state ≡ after has.step (performing_of g ps w).state = ap₂ (λ t x. record { tree = t; world = x }) tree_after world_after_step in
     let sound : IsSound a (after has.step (performing_of g ps w).state) =
-        sound-after a (performing_of g ps w).state has.step old.proper old.sound (one-of (open_steps a (world_of w) (tree_of (parts_of ps))) choice has.step stands) in
-    ((has.step, stands, ap (λ s. record { graph = listed_of g; state = s }) state),
-     record { proper = old.proper; sound = subst (IsSound a) (sym state) sound; tree = tree'; counted = counted'; bounded = bounded'; small = small' })
+    sound-after a (performing_of g ps w).state has.step old.proper old.sound (one-of (open_steps a (world_of w) (tree_of (parts_of ps))) choice has.step stands) in (
+      (has.step, stands, ap (λ s. record { graph = listed_of g; state = s }) state),
+      record { proper = old.proper; sound = subst (IsSound a) (sym state) sound; tree = tree'; counted = counted'; bounded = bounded'; small = small' },
+    )

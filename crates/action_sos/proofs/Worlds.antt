@@ -1,5 +1,5 @@
 -- The world of a performance after a change in memory.
-use Rattle.std.proofs.Common.{◌≡◌, ℕ, ◌+◌, ◌<◌, ℤ, pos, List, ◌∷◌, Option, Some, length, drop, slice_set, option_map, refl, ap, sym, ◌∙◌, add-one}
+use Rattle.std.proofs.Common.{◌≡◌, ℕ, ◌+◌, ◌<◌, ℤ, pos, List, Option, Some, length, drop, slice_set, option_map, add-one}
 use Rattle.std.proofs.Math.Seq.{drop-cons}
 use Rattle.std.proofs.lemmas.List.{map-set}
 use Rattle.action_terms.specs.Steps.{rest}

@@ -1,7 +1,7 @@
 -- What steps in memory stand for.
-use Rattle.std.specs.Prelude.{◌≡◌, ℕ, ℤ, List, [], map, Option, Some, slice_get}
+use Rattle.std.specs.Prelude.{◌≡◌, ℕ, List, map, Some, slice_get}
 use Rattle.action_terms.specs.Information.{Data, Binds, World}
-use Rattle.action_terms.specs.Actions.{Node, Action, node_at}
+use Rattle.action_terms.specs.Actions.{Action, node_at}
 use Rattle.action_terms.specs.Numbering.{Listed}
 use Rattle.action_terms.specs.Nodes.{listed_node, listed_yielder}
 use Rattle.action_terms.specs.Meaning.{action_of}
@@ -9,7 +9,6 @@ use Rattle.action_terms.specs.Acting.{Tree, Run, Ended, Par}
 use Rattle.action_terms.specs.Steps.{Effect, Silent, Commits, Allocates, Takes, Misses, Puts, Sends, Step, run_steps, open_steps}
 use Rattle.action_terms.proofs.Contexts.{wrap}
 use Rattle.action_sos.specs.Views.{data_of, bindings_of, storage_of, meant, end_of, frame_of}
-use Rattle.action_sos.specs.declared.datum.Datum.{Datum}
 use Rattle.action_sos.specs.declared.datum.End.{End}
 use Rattle.action_sos.specs.declared.part.Frame.{Frame}
 use Rattle.action_sos.specs.declared.moves.Lists.{Lists}
@@ -19,7 +18,6 @@ use Rattle.action_sos.specs.declared.moves.Next.{Next}
 use Rattle.action_sos.specs.declared.moves.Next.TheVariants as next
 use Rattle.action_sos.specs.declared.moves.Change.{Change}
 use Rattle.action_sos.specs.declared.moves.Change.TheVariants as change
-use Rattle.action_sos.specs.declared.moves.Move.{Move}
 
 -- the graph of these lists, and its action
 abbrev pub listed_of : Lists → Listed

@@ -1,10 +1,10 @@
 -- How a performer keeps an acting tree: as parts that run side by side, each within frames.
-use Rattle.std.specs.Prelude.{◌≡◌, ℕ, zero, suc, ◌+◌, ◌<◌, Bool, true, false, List, [], ◌∷◌, ◌++◌, All, Option, Some, None, map, length, option_map}
+use Rattle.std.specs.Prelude.{◌≡◌, ℕ, zero, suc, ◌+◌, ◌<◌, Bool, List, [], ◌∷◌, ◌++◌, All, Option, Some, None, map, length, option_map}
 use Rattle.action_terms.specs.Information.{World}
 use Rattle.action_terms.specs.Actions.{Action}
-use Rattle.action_terms.specs.Acting.{End, Esc, Fail, Done, Tree, Run, Ended, Par}
+use Rattle.action_terms.specs.Acting.{End, Fail, Done, Tree, Ended, Par}
 use Rattle.action_terms.specs.Steps.{TakesLeft, TakesRight, Step, at_letter, after_broken, open_steps}
-use Rattle.action_terms.proofs.Contexts.{Frame, InParLeft, InParRight, InOr, InTail, wrap, shut_if, framed}
+use Rattle.action_terms.proofs.Contexts.{Frame, InParLeft, InParRight, InTail, wrap, shut_if, framed}
 
 -- what stands within the frames of a part: a tree that runs or has ended, or the two parts of node k, which are parts of their own
 pub data Focus : Type 0 where

@@ -1,5 +1,5 @@
 -- What contracts see of a performer, and how its steps are answered.
-use Rattle.std.specs.Prelude.{◌≡◌, Option, Some, slice_get, ℕ, List}
+use Rattle.std.specs.Prelude.{◌≡◌, Some, slice_get, ℕ, List}
 use Rattle.action_terms.specs.Numbering.{Listed}
 use Rattle.action_terms.specs.Meaning.{action_of}
 use Rattle.action_terms.specs.Acting.{End, Done, Esc, Fail, Tree, Ended}

@@ -1,6 +1,5 @@
 -- What a step of a part makes of the parts.
-use Rattle.std.specs.Prelude.{◌≡◌, ℕ, suc, ◌≤◌, List, [], ◌∷◌, ◌++◌, All, Option, Some, None, map, drop, length, slice_get}
-use Rattle.action_terms.specs.Information.{World}
+use Rattle.std.specs.Prelude.{ℕ, ◌≤◌, List, [], ◌∷◌, ◌++◌, Option, Some, None, map, drop, length}
 use Rattle.action_terms.specs.Actions.{Action}
 use Rattle.action_terms.specs.Acting.{Ended}
 use Rattle.action_terms.specs.Steps.{Step, commits}

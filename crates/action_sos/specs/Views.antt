@@ -1,5 +1,5 @@
 -- What data, frames and parts in memory stand for.
-use Rattle.std.specs.Prelude.{ℕ, zero, suc, true, List, [], ◌∷◌, ◌++◌, map, Option, Some, None, option_map, slice_get}
+use Rattle.std.specs.Prelude.{ℕ, zero, suc, true, List, [], ◌∷◌, ◌++◌, map, Option, option_map, slice_get}
 use Rattle.action_terms.specs.Information.{Datum as Meant, Number, Truth, CellOf, Closure, Binds, NoBinds, Bound, Token, Data, Storage}
 use Rattle.action_terms.specs.Actions.{Item}
 use Rattle.action_terms.specs.Numbering.{ListedYielder}

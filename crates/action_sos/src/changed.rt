@@ -112,8 +112,8 @@ fn replaced<'a>(
     requires plan_counted { IsCounted plan.part }
     ensures parts { IfOk result (λ r. (d : Part) → parts_of r.items ≡
         closed_before (commits (effect_of plan.entry.change)) (take place (parts_of parts.now))
-            ++ (next_parts (kept_frames plan.entry) plan.entry.next
-            ++ left_behind (part_of (get_or parts.now place d)).focus (drop (suc place) (parts_of parts.now)))) }
+        ++ (next_parts (kept_frames plan.entry) plan.entry.next
+        ++ left_behind (part_of (get_or parts.now place d)).focus (drop (suc place) (parts_of parts.now)))) }
     ensures counted { IfOk result (λ r. All IsCounted r.items) }
 {
     let mut list = Vec::new(alloc);
@@ -141,8 +141,8 @@ pub fn changed<'a>(
     ensures counted { IfOk result (λ r. All IsCounted r.items) }
     ensures changed { IfOk result (λ r. (d : Part) → tree_of (parts_of r.items) ≡
         tree_of (closed_before (commits (effect_of plan.entry.change)) (take place (parts_of parts.now))
-            ++ (next_parts (kept_frames plan.entry) plan.entry.next
-            ++ left_behind (part_of (get_or parts.now place d)).focus (drop (suc place) (parts_of parts.now))))) }
+        ++ (next_parts (kept_frames plan.entry) plan.entry.next
+        ++ left_behind (part_of (get_or parts.now place d)).focus (drop (suc place) (parts_of parts.now))))) }
     ensures weight { IfOk result (λ r. weight (parts_of r.items) ≤ weight (parts_of parts.now) + 4) }
 {
     let list = replaced(alloc, arena, parts, place, plan)?;

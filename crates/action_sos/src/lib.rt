@@ -4,8 +4,8 @@
 mod answers;
 mod bindings;
 mod changed;
-mod data;
 mod compounds;
+mod data;
 mod datum;
 mod end_steps;
 mod joins;
@@ -16,9 +16,9 @@ mod part;
 mod parts;
 mod performer;
 mod plan;
-mod world;
 mod primitives;
 mod running;
+mod world;
 mod yielding;
 
 pub use answers::{Moved, Outcome};

@@ -19,7 +19,7 @@ use Rattle.action_text.proofs.PreorderWalk.{length-copies}
 use Rattle.action_text.proofs.Words.{same_is}
 
 -- how many parts the pieces have
-abbrev parts_in : List Piece → ℕ
+abbrev pub parts_in : List Piece → ℕ
 parts_in [] = zero
 parts_in (Part ∷ ps) = suc (parts_in ps)
 parts_in (Fixed w ∷ ps) = parts_in ps
@@ -61,26 +61,25 @@ read_items zero = tt
 read_items (suc zero) = tt
 read_items (suc (suc n)) = read_more n
 
--- the places of the parts of a node are those of its spelling
-shape_parts : (l : Label) → is_operator l ≡ false → IsReadableLabel l → length (under l) ≡ parts_in (shape l)
-shape_parts (ActionNode kind.Give n t) o r = length-copies n AnItem ∙ sym (parts_in_items n)
-shape_parts (ActionNode kind.EscapeWith n t) o r = length-copies n AnItem ∙ sym (parts_in_items n)
-shape_parts (ActionNode kind.Apply n t) o r = ap suc (length-copies n AnItem ∙ sym (parts_in_items n))
-shape_parts (ActionNode kind.Branch n t) o r = absurd r
-shape_parts (ActionNode kind.Or n t) o r = absurd (cc)
-shape_parts (ActionNode kind.And n t) o r = absurd (cc)
-shape_parts (ActionNode kind.AndThen n t) o r = absurd (cc)
-shape_parts (ActionNode kind.Then n t) o r = absurd (cc)
-shape_parts (ActionNode kind.Trap n t) o r = absurd (cc)
-shape_parts (ActionNode kind.Hence n t) o r = absurd (cc)
-shape_parts (ActionNode kind.Moreover n t) o r = absurd (cc)
-shape_parts (ActionNode kind.Before n t) o r = absurd (cc)
-shape_parts (ActionNode _ n t) o r = refl
-shape_parts (YielderNode (ykind.Given s zero) t) o r = refl
-shape_parts (YielderNode (ykind.Given s (suc n)) t) o r = refl
-shape_parts (YielderNode (ykind.Truth true) t) o r = refl
-shape_parts (YielderNode (ykind.Truth false) t) o r = refl
-shape_parts (YielderNode _ t) o r = refl
+-- the places of the parts of a node are those of its printed form
+pub printed_parts : (l : Label) → is_operator l ≡ false → length (under l) ≡ parts_in (printed_shape l)
+printed_parts (ActionNode kind.Give n t) o = length-copies n AnItem ∙ sym (parts_in_items n)
+printed_parts (ActionNode kind.EscapeWith n t) o = length-copies n AnItem ∙ sym (parts_in_items n)
+printed_parts (ActionNode kind.Apply n t) o = ap suc (length-copies n AnItem ∙ sym (parts_in_items n))
+printed_parts (ActionNode kind.Or n t) o = absurd (cc)
+printed_parts (ActionNode kind.And n t) o = absurd (cc)
+printed_parts (ActionNode kind.AndThen n t) o = absurd (cc)
+printed_parts (ActionNode kind.Then n t) o = absurd (cc)
+printed_parts (ActionNode kind.Trap n t) o = absurd (cc)
+printed_parts (ActionNode kind.Hence n t) o = absurd (cc)
+printed_parts (ActionNode kind.Moreover n t) o = absurd (cc)
+printed_parts (ActionNode kind.Before n t) o = absurd (cc)
+printed_parts (ActionNode _ n t) o = refl
+printed_parts (YielderNode (ykind.Given s zero) t) o = refl
+printed_parts (YielderNode (ykind.Given s (suc n)) t) o = refl
+printed_parts (YielderNode (ykind.Truth true) t) o = refl
+printed_parts (YielderNode (ykind.Truth false) t) o = refl
+printed_parts (YielderNode _ t) o = refl
 
 -- a place is a number of 64 signed bits
 place_fits : (n : ℕ) → nat_le n 64 ≡ true → FitsSigned w64 (pos n)
@@ -121,7 +120,7 @@ printed_is_shape (ActionNode _ n t) r = refl
 printed_is_shape (YielderNode k t) r = refl
 
 -- the operator of a label, and the label of an operator
-operator_kind : List (List ℕ) → Kind
+pub operator_kind : List (List ℕ) → Kind
 operator_kind ws =
     if same_words ws (operator kind.Or) then kind.Or
     else if same_words ws (operator kind.And) then kind.And
@@ -137,16 +136,16 @@ no_token [] h = refl
 no_token (b ∷ q) h = absurd (cc)
 
 -- an action with an operator has neither items nor a token
-record HasOperator (l : Label) : Type 0 where
-  kind : Kind
-  label_is : l ≡ ActionNode kind 0 []
-  back : operator_kind (operator kind) ≡ kind
-  sides : under l ≡ AnAction ∷ AnAction ∷ []
+pub record HasOperator (l : Label) : Type 0 where
+  pub kind : Kind
+  pub label_is : l ≡ ActionNode kind 0 []
+  pub back : operator_kind (operator kind) ≡ kind
+  pub sides : under l ≡ AnAction ∷ AnAction ∷ []
 
 zero_label : (k : Kind) (n : ℕ) (q : List ℕ) → nat_eq n 0 ≡ true → has_no_token q ≡ true → ActionNode k n q ≡ ActionNode k 0 []
 zero_label k n q a b = ap (λ m. ActionNode k m q) (eqb-true n 0 a) ∙ ap (λ r. ActionNode k 0 r) (no_token q b)
 
-operator_served : (l : Label) → serves AnAction l ≡ true → is_operator l ≡ true → HasOperator l
+pub operator_served : (l : Label) → serves AnAction l ≡ true → is_operator l ≡ true → HasOperator l
 unfolding operator_kind
 operator_served (YielderNode k t) h o = absurd (cc)
 operator_served (ActionNode kind.Or n q) h o = record { kind = kind.Or; label_is = zero_label kind.Or n q (and_left (nat_eq n 0) (has_no_token q) h) (and_right (nat_eq n 0) (has_no_token q) h); back = refl; sides = refl }
@@ -218,7 +217,7 @@ length-operands (more t ts) (x ∷ xs) are = ap suc (length-operands ts xs are.1
 plain_spelled : (l : Label) (ts : Trees) → TreesSpelled ts → (x : Wanted) → Is x (tree l ts) → IsReadable (tree l ts) → is_operator l ≡ false → IsPlain (tree l ts) (plain_tokens (tree l ts))
 plain_spelled l ts s x is r o =
     let same : woven (shape l) (operand_tokens ts) ≡ plain_tokens (tree l ts) = ap (λ ps. woven ps (operand_tokens ts)) (sym (printed_is_shape l r.0)) in
-    let weave = weaves_woven (shape l) (operand_tokens ts) (length-operands ts (under l) is.1 ∙ shape_parts l o r.0) (shape_reads l (served_fits x l is.0) r.0) in
+    let weave = weaves_woven (shape l) (operand_tokens ts) (length-operands ts (under l) is.1 ∙ printed_parts l o ∙ ap parts_in (printed_is_shape l r.0)) (shape_reads l (served_fits x l is.0) r.0) in
     (operand_tokens ts, parts_spelled ts s (under l) is.1 r.1, subst (λ y. Weaves (shape l) (operand_tokens ts) y) same weave)
 
 -- the left side of an operator

@@ -32,3 +32,9 @@ pub mod CanonicalTokens
 pub mod PrintedTokens
 pub mod PrintedTexts
 pub mod PrintableTexts
+pub mod SpacedTokens
+pub mod DueItems
+pub mod LabelsOfNodes
+pub mod PrintWalk
+pub mod PrintedGraphs
+pub mod ReadableGraphs

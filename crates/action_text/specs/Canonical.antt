@@ -1,10 +1,11 @@
 -- The canonical text of an action: its tokens, and the spaces between them.
-use Rattle.std.specs.Prelude.{ℕ, Bool, true, false, ◌||◌, ◌&&◌, List, [], ◌∷◌, ◌++◌, codes, if◌then◌else◌, FitsSigned}
+use Rattle.std.specs.Prelude.{◌≢◌, All, ℕ, Bool, true, false, ◌||◌, ◌&&◌, List, [], ◌∷◌, ◌++◌, codes, if◌then◌else◌, FitsSigned}
 use Rattle.std.specs.Int.{w64}
 use Rattle.std.specs.List.{list_any}
 use Rattle.acg_base.specs.Decimals.{decimal_of}
 use Rattle.action_terms.specs.Labels.{Label, ActionNode, YielderNode}
 use Rattle.action_terms.specs.Trees.{Tree, tree, Trees, none, more}
+use Rattle.action_terms.specs.Numbering.{Listed, ListedNode}
 use Rattle.action_terms.specs.declared.kinds.Kind.TheVariants as kind
 use Rattle.action_terms.specs.declared.kinds.YKind.TheVariants as ykind
 use Rattle.action_text.specs.Shapes.{Piece, Fixed, Numeral, Quoted, Part, shape, operator_of, open_paren, close_paren, comma}
@@ -109,3 +110,7 @@ abbrev mutual
   pub AreReadable : Trees → Type 0
   AreReadable none = Unit {0}
   AreReadable (more t ts) = IsReadable t × AreReadable ts
+
+-- no node of the graph is a branch
+abbrev pub HasNoBranch : Listed → Type 0
+HasNoBranch g = All (λ (n : ListedNode). n.kind ≢ kind.Branch) g.nodes

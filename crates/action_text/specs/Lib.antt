@@ -12,3 +12,4 @@ pub mod Reading
 pub mod Sizes
 pub mod Answers
 pub mod Canonical
+pub mod Printing

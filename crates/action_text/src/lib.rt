@@ -1,6 +1,7 @@
-//! Action texts: reading them as graphs of actions.
+//! Action texts: reading them as graphs of actions, and printing graphs as such texts.
 #![tactic(auto)]
 
+mod action_jobs;
 pub mod action_reader;
 mod classes;
 pub mod errors;
@@ -8,8 +9,15 @@ mod lookup;
 mod names;
 mod notes;
 mod preorder;
+mod print_jobs;
+#[cfg(test)]
+mod print_tests;
+pub mod printing;
 mod reading;
+mod spacing;
 mod table;
 #[cfg(test)]
 mod tests;
 mod token_class;
+mod unfinished;
+mod yielder_jobs;

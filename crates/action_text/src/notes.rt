@@ -4,6 +4,7 @@ ghost use Rattle.action_terms.specs.Labels.{ActionNode, YielderNode};
 ghost use Rattle.action_terms.specs.Pushed.{label_of};
 ghost use Rattle.action_text.specs.Notes.{KeptToken, Count, kept, counted, noted_sort, unquoted, value_of, place_of, marked};
 ghost use Rattle.action_text.specs.Views.{plain_note, noting_of};
+ghost use Rattle.action_text.specs.declared.table.Mark.TheVariants as mark;
 
 use crate::table::Mark;
 use acg_base::read_decimal;
@@ -143,6 +144,65 @@ pub fn keep_if<'t>(
     }
 }
 
+// Writes an action node with the items that were counted last.
+fn write_with_items<'t>(
+    kind: Kind,
+    notes: &mut Vec<Note<'t>>,
+    labels: &mut Vec<Pushed<'t>>,
+) -> Result<(), AllocError>
+    ensures { OnOk result (noting_of notes.new.items labels.new.items ≡ marked (mark.ActionWithItems kind) (noting_of notes.old.items labels.old.items)) }
+{
+    let items = take_items(notes);
+    write_action(labels, kind, items, &[])
+}
+
+// Writes an action node with the token that was kept last.
+fn write_with_token<'t>(
+    kind: Kind,
+    notes: &mut Vec<Note<'t>>,
+    labels: &mut Vec<Pushed<'t>>,
+) -> Result<(), AllocError>
+    ensures { OnOk result (noting_of notes.new.items labels.new.items ≡ marked (mark.ActionWithToken kind) (noting_of notes.old.items labels.old.items)) }
+{
+    let token = unquoted(take_token(notes));
+    write_action(labels, kind, 0, token)
+}
+
+// Writes the number that was kept last.
+fn write_number<'t>(
+    notes: &mut Vec<Note<'t>>,
+    labels: &mut Vec<Pushed<'t>>,
+) -> Result<(), AllocError>
+    ensures { OnOk result (noting_of notes.new.items labels.new.items ≡ marked mark.Number (noting_of notes.old.items labels.old.items)) }
+{
+    let value = value_of(take_token(notes));
+    write_yielder(labels, YKind::Number(value), &[])
+}
+
+// Writes `the given S # n`.
+fn write_given_at<'t>(
+    notes: &mut Vec<Note<'t>>,
+    labels: &mut Vec<Pushed<'t>>,
+) -> Result<(), AllocError>
+    ensures { OnOk result (noting_of notes.new.items labels.new.items ≡ marked mark.GivenAt (noting_of notes.old.items labels.old.items)) }
+{
+    let place = place_of(value_of(take_token(notes)));
+    let sort = take_sort(notes);
+    write_yielder(labels, YKind::Given { sort, place }, &[])
+}
+
+// Writes `the S bound to T`.
+fn write_bound<'t>(
+    notes: &mut Vec<Note<'t>>,
+    labels: &mut Vec<Pushed<'t>>,
+) -> Result<(), AllocError>
+    ensures { OnOk result (noting_of notes.new.items labels.new.items ≡ marked mark.Bound (noting_of notes.old.items labels.old.items)) }
+{
+    let token = unquoted(take_token(notes));
+    let sort = take_sort(notes);
+    write_yielder(labels, YKind::Bound { sort }, token)
+}
+
 /// Does what the mark says: notes something, or takes notes and writes the label of a node.
 pub fn follow<'t>(
     mark: Mark,
@@ -153,33 +213,16 @@ pub fn follow<'t>(
 {
     match mark {
         Mark::Action(kind) => write_action(labels, kind, 0, &[]),
-        Mark::ActionWithItems(kind) => {
-            let items = take_items(notes);
-            write_action(labels, kind, items, &[])
-        }
-        Mark::ActionWithToken(kind) => {
-            let token = unquoted(take_token(notes));
-            write_action(labels, kind, 0, token)
-        }
+        Mark::ActionWithItems(kind) => write_with_items(kind, notes, labels),
+        Mark::ActionWithToken(kind) => write_with_token(kind, notes, labels),
         Mark::Yielder(kind) => write_yielder(labels, kind, &[]),
-        Mark::Number => {
-            let value = value_of(take_token(notes));
-            write_yielder(labels, YKind::Number(value), &[])
-        }
+        Mark::Number => write_number(notes, labels),
         Mark::Given => {
             let sort = take_sort(notes);
             write_yielder(labels, YKind::Given { sort, place: 0 }, &[])
         }
-        Mark::GivenAt => {
-            let place = place_of(value_of(take_token(notes)));
-            let sort = take_sort(notes);
-            write_yielder(labels, YKind::Given { sort, place }, &[])
-        }
-        Mark::Bound => {
-            let token = unquoted(take_token(notes));
-            let sort = take_sort(notes);
-            write_yielder(labels, YKind::Bound { sort }, token)
-        }
+        Mark::GivenAt => write_given_at(notes, labels),
+        Mark::Bound => write_bound(notes, labels),
         Mark::Stored => {
             let sort = take_sort(notes);
             write_yielder(labels, YKind::Stored { sort }, &[])

@@ -1,9 +1,9 @@
 //! Reading tokens as an action text: one loop over a stack of what is still expected.
-ghost use Rattle.std.specs.Prelude.{◌≡◌, ◌<◌, ◌↔◌, length, slice_index, map, IsTrue, MatchResult};
+ghost use Rattle.std.specs.Prelude.{◌≡◌, ◌<◌, ◌↔◌, length, slice_index, map, IsTrue, OnOk, OnErr, IfErr, MatchResult};
 ghost use Rattle.action_terms.specs.Pushed.{label_of};
 ghost use Rattle.action_text.specs.Reading.{AreLabelsOf, FailsAt};
 ghost use Rattle.action_text.specs.Texts.{texts};
-ghost use Rattle.action_text.specs.declared.reading.PlaceError.TheVariants.{Memory};
+ghost use Rattle.action_text.specs.declared.reading.PlaceError.TheVariants.{Memory, At};
 
 use crate::lookup::{find_other, push_reversed, row_at};
 use crate::names;
@@ -40,11 +40,24 @@ impl<T: Drop> From<AllocFailed<T>> for PlaceError {
     }
 }
 
-// Tells whether a token of the class stands at the place.
+// Whether a token of the class stands at the place.
 fn is_at(classes: &[u32], at: usize, class: u32) -> bool
     ensures { IsTrue result ↔ ((at < length classes.now) × (slice_index classes.now at ≡ class)) }
 {
     at < classes.len() && classes[at] == class
+}
+
+// Refuses the place where no token of the class stands there.
+fn expect(classes: &[u32], at: usize, class: u32) -> Result<(), PlaceError>
+    ensures there { OnOk result ((at < length classes.now) × (slice_index classes.now at ≡ class)) }
+    ensures missing { OnErr result (¬ ((at < length classes.now) × (slice_index classes.now at ≡ class))) }
+    ensures place { IfErr result (λ e. e ≡ At at) }
+{
+    if is_at(classes, at, class) {
+        Ok(())
+    } else {
+        Err(PlaceError::At(at))
+    }
 }
 
 /// The labels, in postorder, of the action that the tokens spell.
@@ -62,15 +75,11 @@ pub fn read_labels<'t>(alloc: Global, tokens: &[Token<'t>]) -> Result<Vec<Pushed
         match top {
             Symbol::Emit(mark) => follow(mark, &mut notes, &mut labels)?,
             Symbol::Read(class) => {
-                if !is_at(classes, at, class) {
-                    return Err(PlaceError::At(at));
-                }
+                expect(classes, at, class)?;
                 at += 1;
             }
             Symbol::Keep(class) => {
-                if !is_at(classes, at, class) {
-                    return Err(PlaceError::At(at));
-                }
+                expect(classes, at, class)?;
                 keep_if(&mut notes, true, tokens[at].bytes)?;
                 at += 1;
             }

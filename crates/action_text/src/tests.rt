@@ -1,6 +1,7 @@
 //! Texts and their graphs, as the rules of the notation give them.
 use crate::action_reader::read_action;
 use crate::errors::TextError;
+use crate::printing::print_action;
 use action_terms::kinds::{Kind, Sort, YKind};
 use bumpalo::Bump;
 use std::test::Fail;
@@ -68,7 +69,7 @@ fn refuses_bytes_and_stray_nodes(rt: HostRuntime) {
 }
 
 #[test]
-fn counts_the_nodes(rt: HostRuntime) -> Result<(), Fail> {
+fn reads_and_prints_deep_nesting(rt: HostRuntime) -> Result<(), Fail> {
     let mut text = Vec::new(rt.alloc());
     for _ in 0..65535 {
         text.extend_from_slice(b"furthermore ")?;
@@ -78,5 +79,7 @@ fn counts_the_nodes(rt: HostRuntime) -> Result<(), Fail> {
     let arena = Bump::new(rt.alloc());
     let graph = read_action(rt.alloc(), &arena, text.as_slice())?;
     assert_eq!(rt; graph.nodes().len(), 65536);
+    let printed = print_action(rt.alloc(), &graph)?;
+    assert_eq!(rt; printed.as_slice(), text.as_slice());
     Ok(())
 }

@@ -4,9 +4,9 @@ use Rattle.std.proofs.lemmas.List.{length-replicate, get_or-replicate}
 use Rattle.rv_code.specs.Encode.{is_encodable}
 use Rattle.rv_code.specs.Machine.{State, Ran, Exited, step, run, after, loaded}
 use Rattle.rv_code.specs.declared.instruction.Inst.{Inst}
-use Rattle.rv_asm.specs.Conventions.{IsImage, code_address, region_address, region_size, region_words, compiled_segments}
+use Rattle.rv_asm.specs.Conventions.{IsLayout, code_address, region_address, region_size, region_words, compiled_segments}
 use Rattle.rv_asm.specs.WordMachine.{WordState, WordStep, Goes, Exits, Stuck, IsBounded, instruction_at, act, act_at, go_on, run_words, register_list, word_bytes, machine_state, start_state}
-use Rattle.rv_asm.proofs.Regions.{region_words-size, IsImage-compiled}
+use Rattle.rv_asm.proofs.Regions.{region_words-size, IsLayout-compiled}
 use Rattle.rv_asm.proofs.WordBytes.{word_bytes-replicate}
 use Rattle.rv_asm.proofs.BridgeSteps.{encodable-at, pc-below, step-execute}
 use Rattle.rv_asm.proofs.BridgeInstructions.{execute-does}
@@ -26,20 +26,20 @@ go-cases (Goes e) go y p h = inl (e, refl, p)
 go-cases (Exits k o) go y p h = inr (k, o, refl, sym p)
 go-cases Stuck go y p h = absurd (h (sym p))
 
-module _ (base : ℕ) (code : List Inst) (n : ℕ) (image : IsImage base code n) where
+module _ (base : ℕ) (code : List Inst) (n : ℕ) (layout : IsLayout base code n) where
   abbrev state : WordState → State
   state c = machine_state base code c
 
   one-goes : (c e : WordState) → IsBounded n c → act_at base (instruction_at code c.pc) c ≡ Goes e → (step (state c) ≡ Ran (state e)) × IsBounded n e
   one-goes c e s p =
       let a = act-some base (instruction_at code c.pc) c (Goes e) p (λ q. cc) in
-      let d = execute-does base code n image c a.0 s (encodable-at base code n image c a.0 a.1) (pc-below base code n image c a.0 a.1) e a.2 in
-      (step-execute base code n image c a.0 a.1 ∙ d.0, d.1)
+      let d = execute-does base code n layout c a.0 s (encodable-at base code n layout c a.0 a.1) (pc-below base code n layout c a.0 a.1) e a.2 in
+      (step-execute base code n layout c a.0 a.1 ∙ d.0, d.1)
 
   one-exits : (c : WordState) (k : ℕ) (o : List ℕ) → act_at base (instruction_at code c.pc) c ≡ Exits k o → step (state c) ≡ Exited k o
   one-exits c k o p =
       let a = act-some base (instruction_at code c.pc) c (Exits k o) p (λ q. cc) in
-      step-execute base code n image c a.0 a.1 ∙ execute-exits base code c a.0 k o a.2
+      step-execute base code n layout c a.0 a.1 ∙ execute-exits base code c a.0 k o a.2
 
   -- a run that goes on, and the bounds are kept
   pub run-goes : (m : ℕ) (c d : WordState) → IsBounded n c → run_words base code m c ≡ Goes d → (run m (state c) ≡ Ran (state d)) × IsBounded n d
@@ -110,7 +110,7 @@ module _
       run m (loaded code_address (compiled_segments code stack units) input) ≡ Ran (machine_state base code d)
   run-compiled_goes m d e =
       subst (λ s. run m s ≡ Ran (machine_state base code d)) (machine_state-start code stack units input)
-      (run-goes base code count (IsImage-compiled code stack units encodable below) m (start_state count input) d (IsBounded-start count input bytes) e).0
+      (run-goes base code count (IsLayout-compiled code stack units encodable below) m (start_state count input) d (IsBounded-start count input bytes) e).0
 
   pub run-compiled_exits :
       (m k : ℕ) (o : List ℕ) →
@@ -118,4 +118,4 @@ module _
       run m (loaded code_address (compiled_segments code stack units) input) ≡ Exited k o
   run-compiled_exits m k o e =
       subst (λ s. run m s ≡ Exited k o) (machine_state-start code stack units input)
-      (run-exits base code count (IsImage-compiled code stack units encodable below) m (start_state count input) k o (IsBounded-start count input bytes) e)
+      (run-exits base code count (IsLayout-compiled code stack units encodable below) m (start_state count input) k o (IsBounded-start count input bytes) e)

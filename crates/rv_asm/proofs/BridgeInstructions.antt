@@ -8,7 +8,7 @@ use Rattle.rv_code.specs.declared.instruction.Inst.TheVariants.{Op, OpImm, Shift
 use Rattle.rv_code.specs.declared.instruction.LoadOp.TheVariants.{Lb, Lh, Lw, Ld, Lbu, Lhu, Lwu}
 use Rattle.rv_code.specs.declared.instruction.StoreOp.TheVariants.{Sb, Sh, Sw, Sd}
 use Rattle.rv_code.proofs.Bounds.{operation-below, immediate_operation-below, shift_operation-below, upper_value-below}
-use Rattle.rv_asm.specs.Conventions.{IsImage}
+use Rattle.rv_asm.specs.Conventions.{IsLayout}
 use Rattle.rv_asm.specs.WordMachine.{WordState, Goes, IsBounded, get, act, jumps, machine_state}
 use Rattle.rv_asm.proofs.Registers.{get-below, register-register_list}
 use Rattle.rv_asm.proofs.Places.{and-true}
@@ -30,7 +30,7 @@ below-two a b e = let q = and-true (ltb a 32) (ltb b 32) e in (ltb-true a 32 q.0
 below-three : (d a b : ℕ) → ltb d 32 && (ltb a 32 && ltb b 32) ≡ true → (a < 32) × (b < 32)
 below-three d a b e = below-two a b (and-true (ltb d 32) (ltb a 32 && ltb b 32) e).1
 
-module _ (base : ℕ) (code : List Inst) (n : ℕ) (image : IsImage base code n) where
+module _ (base : ℕ) (code : List Inst) (n : ℕ) (layout : IsLayout base code n) where
   abbrev state : WordState → State
   state c = machine_state base code c
 
@@ -44,24 +44,24 @@ module _ (base : ℕ) (code : List Inst) (n : ℕ) (image : IsImage base code n)
   execute-does c (Op o rd a b) s en p d e =
       let q = below-three rd a b (parts (Op o rd a b) en).0 in
       rw (register-register_list c.registers a q.0, register-register_list c.registers b q.1)
-      (sets-does base code n image c rd _ s p (operation-below o (get c.registers a) (get c.registers b) (get-below c.registers a s.registers) (get-below c.registers b s.registers)) d e)
+      (sets-does base code n layout c rd _ s p (operation-below o (get c.registers a) (get c.registers b) (get-below c.registers a s.registers) (get-below c.registers b s.registers)) d e)
   execute-does c (OpImm o rd a z) s en p d e =
       let t = parts (OpImm o rd a z) en in
       let q = below-two rd a t.0 in
       rw (register-register_list c.registers a q.1)
-      (sets-does base code n image c rd _ s p (immediate_operation-below o (get c.registers a) z (get-below c.registers a s.registers) (unsigned-below 12 z t.1 (omega arith))) d e)
+      (sets-does base code n layout c rd _ s p (immediate_operation-below o (get c.registers a) z (get-below c.registers a s.registers) (unsigned-below 12 z t.1 (omega arith))) d e)
   execute-does c (Shift o rd a k) s en p d e =
       let q = below-two rd a (parts (Shift o rd a k) en).0 in
       rw (register-register_list c.registers a q.1)
-      (sets-does base code n image c rd _ s p (shift_operation-below o (get c.registers a) k (get-below c.registers a s.registers)) d e)
+      (sets-does base code n layout c rd _ s p (shift_operation-below o (get c.registers a) k (get-below c.registers a s.registers)) d e)
   execute-does c (Load Ld rd a z) s en p d e =
       let q = below-two rd a (parts (Load Ld rd a z) en).0 in
       rw (register-register_list c.registers a q.1)
-      (loads-does base code n image c rd (wrap (get c.registers a + unsigned z)) _ refl s p d e)
+      (loads-does base code n layout c rd (wrap (get c.registers a + unsigned z)) _ refl s p d e)
   execute-does c (Store Sd a b z) s en p d e =
       let q = below-two a b (parts (Store Sd a b z) en).0 in
       rw (register-register_list c.registers a q.0, register-register_list c.registers b q.1)
-      (stores-does base code n image c (get c.registers b) (wrap (get c.registers a + unsigned z)) _ refl s p (get-below c.registers b s.registers) d e)
+      (stores-does base code n layout c (get c.registers b) (wrap (get c.registers a + unsigned z)) _ refl s p (get-below c.registers b s.registers) d e)
   execute-does c (Branch o a b z) s en p d e =
       let q = below-two a b (parts (Branch o a b z) en).0 in
       rw (register-register_list c.registers a q.0, register-register_list c.registers b q.1) (branch (is_taken o (get c.registers a) (get c.registers b)) e)
@@ -75,16 +75,16 @@ module _ (base : ℕ) (code : List Inst) (n : ℕ) (image : IsImage base code n)
       branch :
           (t : Bool) → (if t then jumps c 0 (wrap (c.pc + unsigned z)) else Goes (record c { pc = c.pc + 4 })) ≡ Goes d →
           IsDone (if t then state_jumps (state c) 0 (wrap (c.pc + unsigned z)) else Ran (goes_on (state c))) d
-      branch true x = jumps-does base code n image c 0 (wrap (c.pc + unsigned z)) s p d x
+      branch true x = jumps-does base code n layout c 0 (wrap (c.pc + unsigned z)) s p d x
       branch false x = goes-does x
   execute-does c (Upper o rd z) s en p d e =
       let t = and-true (has_bits 32 z) (is_multiple 4096 z) (parts (Upper o rd z) en).1 in
-      sets-does base code n image c rd _ s p (upper_value-below o c.pc z (unsigned-below 32 z t.0 (omega arith))) d e
-  execute-does c (Jal rd z) s en p d e = jumps-does base code n image c rd (wrap (c.pc + unsigned z)) s p d e
+      sets-does base code n layout c rd _ s p (upper_value-below o c.pc z (unsigned-below 32 z t.0 (omega arith))) d e
+  execute-does c (Jal rd z) s en p d e = jumps-does base code n layout c rd (wrap (c.pc + unsigned z)) s p d e
   execute-does c (Jalr rd a z) s en p d e =
       let q = below-two rd a (parts (Jalr rd a z) en).0 in
-      rw (register-register_list c.registers a q.1) (jumps-does base code n image c rd _ s p d e)
-  execute-does c Ecall s en p d e = calls-does base code n image c s p d e
+      rw (register-register_list c.registers a q.1) (jumps-does base code n layout c rd _ s p d e)
+  execute-does c Ecall s en p d e = calls-does base code n layout c s p d e
   execute-does c Ebreak s en p d e = absurd (cc)
   execute-does c (Fence rd a z) s en p d e = absurd (cc)
   execute-does c (Load Lb rd a z) s en p d e = absurd (cc)

@@ -10,7 +10,7 @@ use Rattle.rv_code.specs.declared.cause.Cause.TheVariants.{Load as CauseLoad, St
 use Rattle.rv_code.specs.declared.instruction.Inst.{Inst}
 use Rattle.rv_code.proofs.Words.{word_of-below, decode-word_of}
 use Rattle.rv_code.proofs.ByteLaws.{number-bytes, length-bytes}
-use Rattle.rv_asm.specs.Conventions.{IsImage, code_bytes, code_segment, region_segment}
+use Rattle.rv_asm.specs.Conventions.{IsLayout, code_bytes, code_segment, region_segment}
 use Rattle.rv_asm.specs.WordMachine.{WordState, WordStep, Goes, Exits, Stuck, IsBounded, put, register_list, word_bytes, instruction_at, word_index, received_word, sets, jumps, loads, stores, sends, receives, calls, machine_state}
 use Rattle.rv_asm.proofs.Registers.{put-below, register-register_list, with_register-register_list}
 use Rattle.rv_asm.proofs.WordBytes.{length-word_bytes, take-word_bytes, put_at-word_bytes, put_at-received, received_word-below}
@@ -30,7 +30,7 @@ pick-call false true r k o x y d e = inl (refl, refl, e)
 pick-call false false true k o x y d e = inr (refl, refl, e)
 pick-call false false false k o x y d e = absurd (cc)
 
-module _ (base : ℕ) (code : List Inst) (n : ℕ) (image : IsImage base code n) where
+module _ (base : ℕ) (code : List Inst) (n : ℕ) (layout : IsLayout base code n) where
   abbrev pub state : WordState → State
   state c = machine_state base code c
 
@@ -41,12 +41,12 @@ module _ (base : ℕ) (code : List Inst) (n : ℕ) (image : IsImage base code n)
   encodable-at c i e =
       let a = instruction_at-is code c.pc i e in
       let k = (c.pc - 65536) / 4 in
-      subst (λ i. is_encodable i ≡ true) (get_or_from_slice_get code k i i a.is) (All-get_or (λ i. is_encodable i ≡ true) code k i a.inside image.encodable)
+      subst (λ i. is_encodable i ≡ true) (get_or_from_slice_get code k i i a.is) (All-get_or (λ i. is_encodable i ≡ true) code k i a.inside layout.encodable)
 
   pub pc-below : (c : WordState) (i : Inst) → instruction_at code c.pc ≡ Some i → c.pc + 4 < 2 ^ 64
   pc-below c i e =
       let a = instruction_at-is code c.pc i e in
-      omega (arith, image.behind, image.below, a.behind, a.inside)
+      omega (arith, layout.behind, layout.below, a.behind, a.inside)
 
   -- the step executes the instruction that stands at the pc
   pub step-execute : (c : WordState) (i : Inst) → instruction_at code c.pc ≡ Some i → step (state c) ≡ execute i (state c)
@@ -116,7 +116,7 @@ module _ (base : ℕ) (code : List Inst) (n : ℕ) (image : IsImage base code n)
       IsDone (if eqb (a % 8) 0 then state_loads (state c) rd (λ w. w) (read_bytes (segments_of c.words) 4 a 8) else Trapped CauseLoad) d
   loads-does c rd a None q s p d e = absurd (cc)
   loads-does c rd a (Some i) q s p d e =
-      let pl = word_index-is base (length c.words) a i image.aligned q in
+      let pl = word_index-is base (length c.words) a i layout.aligned q in
       let x : eqb (a % 8) 0 ≡ true = eq-eqb _ _ pl.even in
       let b : get_or c.words i 0 < 2 ^ 64 = s.words i 0 pl.inside in
       let m : number_of (bytes_of 8 (get_or c.words i 0)) ≡ get_or c.words i 0 = number-bytes 8 (get_or c.words i 0) ∙ omega arith in
@@ -128,7 +128,7 @@ module _ (base : ℕ) (code : List Inst) (n : ℕ) (image : IsImage base code n)
       IsDone (if eqb (a % 8) 0 then state_stores (state c) (write_bytes (segments_of c.words) a (bytes_of 8 v)) else Trapped CauseStore) d
   stores-does c v a None q s p b d e = absurd (cc)
   stores-does c v a (Some i) q s p b d e =
-      let pl = word_index-is base (length c.words) a i image.aligned q in
+      let pl = word_index-is base (length c.words) a i layout.aligned q in
       let x : eqb (a % 8) 0 ≡ true = eq-eqb _ _ pl.even in
       let w : wrap (c.pc + 4) ≡ c.pc + 4 = omega arith in
       let y : record c { pc = c.pc + 4; words = set c.words i v } ≡ d = cc in
@@ -141,7 +141,7 @@ module _ (base : ℕ) (code : List Inst) (n : ℕ) (image : IsImage base code n)
       IsDone (send_call (state c) (c.registers 11) 8) d
   sends-does c None q s p d e = absurd (cc)
   sends-does c (Some i) q s p d e =
-      let pl = word_index-is base (length c.words) (c.registers 11) i image.aligned q in
+      let pl = word_index-is base (length c.words) (c.registers 11) i layout.aligned q in
       let w : wrap (c.pc + 4) ≡ c.pc + 4 = omega arith in
       let y : record c { pc = c.pc + 4; registers = put c.registers 10 8; output = c.output ++ bytes_of 8 (get_or c.words i 0) } ≡ d = cc in
       subst (IsDone _) y
@@ -153,7 +153,7 @@ module _ (base : ℕ) (code : List Inst) (n : ℕ) (image : IsImage base code n)
       IsDone (receive_call (state c) (c.registers 11) 8) d
   receives-does c None q s p d e = absurd (cc)
   receives-does c (Some i) q s p d e =
-      let pl = word_index-is base (length c.words) (c.registers 11) i image.aligned q in
+      let pl = word_index-is base (length c.words) (c.registers 11) i layout.aligned q in
       let m = min 8 (length c.input) in
       let w : wrap (c.pc + 4) ≡ c.pc + 4 = omega arith in
       let v = received_word (get_or c.words i 0) c.input in

@@ -15,14 +15,14 @@ pub record IsCopied (n a b : ℕ) (old new : List ℕ) : Type 0 where
   pub kept : (j : ℕ) → (j < b) ⊎ (b + n ≤ j) → get_or new j 0 ≡ get_or old j 0
 
 -- two ranges of n words have none in common
-abbrev pub AreApart : ℕ → ℕ → ℕ → Type 0
-AreApart n a b = (a + n ≤ b) ⊎ (b + n ≤ a)
+abbrev pub AreDisjoint : ℕ → ℕ → ℕ → Type 0
+AreDisjoint n a b = (a + n ≤ b) ⊎ (b + n ≤ a)
 
 copied-none : (a b : ℕ) (ws : List ℕ) → IsCopied 0 a b ws ws
 copied-none a b ws = record { size = refl; moved = λ k h. absurd (omega arith); kept = λ j h. refl }
 
 copied-more :
-    (n a b : ℕ) (ws new : List ℕ) → b < length ws → AreApart (suc n) a b →
+    (n a b : ℕ) (ws new : List ℕ) → b < length ws → AreDisjoint (suc n) a b →
     IsCopied n (a + 1) (b + 1) (set ws b (get_or ws a 0)) new →
     IsCopied (suc n) a b ws new
 copied-more n a b ws new h apart c = record { size = c.size ∙ length-set ws b (get_or ws a 0); moved = moved; kept = kept }
@@ -53,7 +53,7 @@ pub record CanCopy (base : ℕ) (n scratch source from target to i j : ℕ) (c :
   pub target_is : get c.registers target ≡ base + 8 * j
   pub source_inside : i + from + n ≤ length c.words
   pub target_inside : j + to + n ≤ length c.words
-  pub apart : AreApart n (i + from) (j + to)
+  pub apart : AreDisjoint n (i + from) (j + to)
 
 -- what a piece that copies leaves: the words copied, the scratch register changed at most, and its instructions done
 pub record HasCopied (base : ℕ) (code : List Inst) (n scratch a b : ℕ) (c : WordState) : Type 0 where

@@ -111,7 +111,7 @@ leads :
     (code : List Inst) (n : ℕ) (c d : WordState) → ((base : ℕ) → run_words base code n c ≡ Goes d) → Leads code n c d
 leads code n c d runs = record {
   words = runs;
-  table = λ base count image bounded. (run-goes base code count image n c d bounded (runs base)).0;
+  table = λ base count layout bounded. (run-goes base code count layout n c d bounded (runs base)).0;
 }
 
 module _ (items : List Item) (room : 4 * total items < 1073741824) where

@@ -5,7 +5,7 @@ use Rattle.rv_code.specs.Machine.{run, Ran, State}
 use Rattle.rv_code.specs.declared.instruction.BranchOp.TheVariants.{Beq, Bne}
 use Rattle.rv_asm.specs.declared.item.Item.{Item}
 use Rattle.rv_asm.specs.declared.item.Item.TheVariants.{Mark, Jump, BranchTo, Address}
-use Rattle.rv_asm.specs.Conventions.{IsImage}
+use Rattle.rv_asm.specs.Conventions.{IsLayout}
 use Rattle.rv_asm.specs.WordMachine.{WordState, IsBounded, machine_state, start_state}
 use Rattle.rv_asm.specs.Assembly.{total, code_of}
 use Rattle.rv_asm.specs.Arrivals.{IsAt, moved, moved_with}
@@ -20,8 +20,8 @@ looping = Mark 0 ∷ BranchTo Beq 0 0 0 ∷ BranchTo Bne 0 0 0 ∷ Jump 0 ∷ Ad
 few : 4 * total looping < 1073741824
 few = omega arith
 
-image : IsImage 69632 (code_of looping) 512
-image = record {
+layout : IsLayout 69632 (code_of looping) 512
+layout = record {
   encodable = All-each_encodes (code_of looping) (refl, (refl, (refl, (refl, (refl, (refl, (refl, (refl, (refl, (refl, tt))))))))));
   aligned = omega arith;
   behind = omega arith;
@@ -43,23 +43,23 @@ taken : (value : ℕ) × (run 3 (table_state (moved start 0)) ≡ Ran (table_sta
 taken =
     let at : IsAt looping (Mark 0 ∷ []) (BranchTo Beq 0 0 0) _ (moved start 0) = record { emitted = refl; pc = refl } in
     let arrives = taken-arrive looping few (Mark 0 ∷ []) _ Beq 0 0 0 (moved start 0) at refl in
-    (arrives.0, arrives.1.table 69632 512 image (bounded 0))
+    (arrives.0, arrives.1.table 69632 512 layout (bounded 0))
 
 passed : run 1 (table_state (moved start 3)) ≡ Ran (table_state (moved start 6))
 passed =
     let before = Mark 0 ∷ BranchTo Beq 0 0 0 ∷ [] in
     let at : IsAt looping before (BranchTo Bne 0 0 0) _ (moved start 3) = record { emitted = refl; pc = refl } in
-    (others-pass looping few before _ Bne 0 0 0 (moved start 3) at refl).table 69632 512 image (bounded 3)
+    (others-pass looping few before _ Bne 0 0 0 (moved start 3) at refl).table 69632 512 layout (bounded 3)
 
 jumped : (value : ℕ) × (run 2 (table_state (moved start 6)) ≡ Ran (table_state (moved_with start 0 31 value)))
 jumped =
     let before = Mark 0 ∷ BranchTo Beq 0 0 0 ∷ BranchTo Bne 0 0 0 ∷ [] in
     let at : IsAt looping before (Jump 0) _ (moved start 6) = record { emitted = refl; pc = refl } in
     let arrives = jumps-arrive looping few before _ 0 (moved start 6) at in
-    (arrives.0, arrives.1.table 69632 512 image (bounded 6))
+    (arrives.0, arrives.1.table 69632 512 layout (bounded 6))
 
 loaded : run 2 (table_state (moved start 8)) ≡ Ran (table_state (moved_with start 10 5 65536))
 loaded =
     let before = Mark 0 ∷ BranchTo Beq 0 0 0 ∷ BranchTo Bne 0 0 0 ∷ Jump 0 ∷ [] in
     let at : IsAt looping before (Address 5 0) _ (moved start 8) = record { emitted = refl; pc = refl } in
-    (addresses-load looping few before _ 5 0 (moved start 8) at (λ e. cc)).table 69632 512 image (bounded 8)
+    (addresses-load looping few before _ 5 0 (moved start 8) at (λ e. cc)).table 69632 512 layout (bounded 8)

@@ -22,5 +22,6 @@ pub mod LabelsKept
 pub mod LabelsArrive
 mod Examples
 pub mod Appended
+pub mod Fronts
 pub mod Sending
 mod LabelsExample

@@ -2,7 +2,7 @@
 use Rattle.std.proofs.Common.{◌≡◌, ℕ, ◌+◌, ◌*◌, ◌%◌, ◌^◌, ◌<◌, ◌≤◌, true, List, length, Some, arith, All}
 use Rattle.rv_code.specs.Encode.{is_encodable}
 use Rattle.rv_code.specs.declared.instruction.Inst.{Inst}
-use Rattle.rv_asm.specs.Conventions.{IsImage, region_address, region_size, region_words, stack_address, unit_address}
+use Rattle.rv_asm.specs.Conventions.{IsLayout, region_address, region_size, region_words, stack_address, unit_address}
 use Rattle.rv_asm.specs.WordMachine.{word_index}
 use Rattle.rv_asm.proofs.Places.{word_index-inside}
 
@@ -19,13 +19,13 @@ region_address-least code_size k e h = omega arith
 pub region_words-size : (stack units : ℕ) → 8 * region_words stack units ≡ region_size stack units
 region_words-size stack units = omega arith
 
--- encodable code and a region that ends below 2^32 can stand in one image
-pub IsImage-compiled :
+-- encodable code and a region that ends below 2^32 are a layout
+pub IsLayout-compiled :
     (code : List Inst) (stack units : ℕ) →
     All (λ i. is_encodable i ≡ true) code →
     region_address (4 * length code) + region_size stack units ≤ 2 ^ 32 →
-    IsImage (region_address (4 * length code)) code (region_words stack units)
-IsImage-compiled code stack units h below = record { encodable = h; aligned = omega arith; behind = omega arith; below = omega arith }
+    IsLayout (region_address (4 * length code)) code (region_words stack units)
+IsLayout-compiled code stack units h below = record { encodable = h; aligned = omega arith; behind = omega arith; below = omega arith }
 
 -- code below 2^30 bytes and a capacity in its ranges end below 2000000000
 pub compiled-below :

@@ -6,16 +6,16 @@ use Rattle.rv_code.specs.declared.instruction.BranchOp.{BranchOp}
 use Rattle.rv_code.specs.declared.instruction.Inst.{Inst}
 use Rattle.rv_asm.specs.declared.item.Item.{Item}
 use Rattle.rv_asm.specs.declared.item.Item.TheVariants.{Mark, Jump, BranchTo, Address}
-use Rattle.rv_asm.specs.Conventions.{IsImage}
+use Rattle.rv_asm.specs.Conventions.{IsLayout}
 use Rattle.rv_asm.specs.WordMachine.{WordState, Goes, IsBounded, get, put, run_words, machine_state}
 use Rattle.rv_asm.specs.Assembly.{total, spot, address_of, code_of}
 
 -- so many instructions of the code lead from one state to another: on the machine of words, and on the machine of the
--- table where the code stands in an image with a region of `count` words
+-- table where the code stands in a layout with a region of `count` words
 pub record Leads (code : List Inst) (instructions : ℕ) (from to : WordState) : Type 0 where
   pub words : (base : ℕ) → run_words base code instructions from ≡ Goes to
   pub table :
-      (base count : ℕ) → IsImage base code count → IsBounded count from →
+      (base count : ℕ) → IsLayout base code count → IsBounded count from →
       run instructions (machine_state base code from) ≡ Ran (machine_state base code to)
 
 -- an item was emitted, and it is the turn of its first instruction

@@ -68,9 +68,9 @@ unfoldable pub instruction_bytes : List ℕ → List ℕ
 instruction_bytes [] = []
 instruction_bytes (w ∷ ws) = bytes_of 4 w ++ instruction_bytes ws
 
--- code and a region of `count` words at `base` can stand in one image: each instruction encodes, and the region is
--- aligned, behind the code, and below 2^32
-pub record IsImage (base : ℕ) (code : List Inst) (count : ℕ) : Type 0 where
+-- a layout of code and a region of `count` words at `base`, which can stand in one image: each instruction encodes, and the
+-- region is aligned, behind the code, and below 2^32
+pub record IsLayout (base : ℕ) (code : List Inst) (count : ℕ) : Type 0 where
   pub encodable : All (λ i. is_encodable i ≡ true) code
   pub aligned : base % 8 ≡ 0
   pub behind : code_address + 4 * length code ≤ base

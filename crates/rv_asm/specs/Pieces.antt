@@ -1,5 +1,5 @@
 -- Short pieces of code that generated code is made of.
-use Rattle.std.specs.Prelude.{ℕ, zero, suc, ◌+◌, ◌-◌, ◌*◌, ◌/◌, ◌%◌, ◌^◌, nat_lt, nat_le, if◌then◌else◌, List, [], ◌∷◌, ◌++◌, ℤ, pos, negsuc, IsTrue, map}
+use Rattle.std.specs.Prelude.{◌≡◌, ℕ, zero, suc, ◌+◌, ◌-◌, ◌*◌, ◌/◌, ◌%◌, ◌^◌, nat_lt, nat_le, if◌then◌else◌, List, [], ◌∷◌, ◌++◌, ℤ, pos, negsuc, IsTrue, map, take}
 use Rattle.rv_code.specs.Table.{integer_of_bits}
 use Rattle.rv_code.specs.Encode.{has_bits}
 use Rattle.rv_code.specs.declared.instruction.Inst.{Inst}
@@ -69,6 +69,10 @@ exit_with code = OpImm Addi 10 0 (pos code) ∷ OpImm Addi 17 0 (pos 93) ∷ Eca
 -- an assembler's listing with a piece behind it
 abbrev pub appended : Listing → List Inst → Listing
 appended listing piece = record listing { items = listing.items ++ map Plain piece }
+
+-- the new listing is the old one with a front of the piece behind it
+abbrev pub AppendsFrontOf : List Inst → (old new : Listing) → Type 0
+AppendsFrontOf piece old new = (count : ℕ) × (new ≡ appended old (take count piece))
 
 -- an immediate of 12 bits
 abbrev pub fits_immediate : ℤ → Type 0

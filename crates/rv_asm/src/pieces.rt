@@ -1,11 +1,11 @@
 //! Short pieces of code that generated code is made of: constants, copies of words, messages and exits. An `Err` comes
-//! for want of memory alone, and some of the instructions of the piece may then stand in the assembler.
+//! for want of memory alone, and the assembler then holds a front of the piece.
 
-ghost use Rattle.std.specs.Prelude.{◌≡◌, ℕ, ◌+◌, ◌-◌, ◌*◌, ◌^◌, ◌<◌, ◌≤◌, ◌++◌, ◌∷◌, [], List, OnOk, pos};
+ghost use Rattle.std.specs.Prelude.{◌≡◌, ℕ, ◌+◌, ◌-◌, ◌*◌, ◌^◌, ◌<◌, ◌≤◌, ◌++◌, ◌∷◌, [], List, OnOk, OnErr, pos};
 ghost use Rattle.rv_code.specs.declared.instruction.Inst.TheVariants.{OpImm, Upper, Shift, Load, Store, Ecall};
 ghost use Rattle.rv_code.specs.declared.instruction.OpImmOp.TheVariants.{Addi};
 ghost use Rattle.rv_asm.specs.Assembly.{Listing};
-ghost use Rattle.rv_asm.specs.Pieces.{appended, fits_immediate, low_part, high_part, parts_of, load_parts, load_constant, copy_words, send_word, exit_with};
+ghost use Rattle.rv_asm.specs.Pieces.{appended, AppendsFrontOf, fits_immediate, low_part, high_part, parts_of, load_parts, load_constant, copy_words, send_word, exit_with};
 
 use crate::asm::Asm;
 use acg_base::Memory;
@@ -15,6 +15,7 @@ use rv_code::{Inst, LoadOp, OpImmOp, Reg, ShiftOp, StoreOp, UpperOp};
 fn add(asm: &mut Asm, rd: Reg, rs1: Reg, imm: i32) -> Result<(), Memory>
     requires { fits_immediate imm }
     ensures ok { OnOk result (asm.new ≡ appended asm.old (OpImm Addi rd rs1 imm ∷ [])) }
+    ensures err { OnErr result (asm.new ≡ asm.old) }
 {
     asm.emit(Inst::OpImm {
         op: OpImmOp::Addi,
@@ -53,6 +54,7 @@ fn parts_into(asm: &mut Asm, rd: Reg, value: u64, parts: u8) -> Result<(), Memor
     requires below { value ≤ 2 ^ (28 + 12 * parts) }
     requires room { value < 2 ^ 64 - 2048 }
     ensures ok { OnOk result (asm.new ≡ appended asm.old (load_parts parts rd value)) }
+    ensures err { OnErr result (AppendsFrontOf (load_parts parts rd value) asm.old asm.new) }
 {
     let high = (value + 2048) / 4096;
     if parts == 0 {
@@ -76,6 +78,7 @@ fn parts_into(asm: &mut Asm, rd: Reg, value: u64, parts: u8) -> Result<(), Memor
 /// Appends at most 8 instructions that put a number into a register, and change no other.
 pub fn load_constant(asm: &mut Asm, rd: Reg, value: u64) -> Result<(), Memory>
     ensures ok { OnOk result (asm.new ≡ appended asm.old (load_constant rd value)) }
+    ensures err { OnErr result (AppendsFrontOf (load_constant rd value) asm.old asm.new) }
 {
     if value < 2048 {
         add(asm, rd, Reg(0), value as i32)
@@ -107,6 +110,7 @@ pub fn copy_words(
     requires from { from + n ≤ 256 }
     requires to { to + n ≤ 256 }
     ensures ok { OnOk result (asm.new ≡ appended asm.old (copy_words n scratch source from target to)) }
+    ensures err { OnErr result (AppendsFrontOf (copy_words n scratch source from target to) asm.old asm.new) }
 {
     for i in 0..n {
         asm.emit(Inst::Load {
@@ -129,6 +133,7 @@ pub fn copy_words(
 /// change registers 10, 11, 12 and 17, and that word.
 pub fn send_word(asm: &mut Asm, register: Reg, place: u8) -> Result<(), Memory>
     ensures ok { OnOk result (asm.new ≡ appended asm.old (send_word register place)) }
+    ensures err { OnErr result (AppendsFrontOf (send_word register place) asm.old asm.new) }
 {
     let offset = 8 * place as i32;
     asm.emit(Inst::Store {
@@ -147,6 +152,7 @@ pub fn send_word(asm: &mut Asm, register: Reg, place: u8) -> Result<(), Memory>
 /// Appends 3 instructions that exit with a code.
 pub fn exit_with(asm: &mut Asm, code: u8) -> Result<(), Memory>
     ensures ok { OnOk result (asm.new ≡ appended asm.old (exit_with code)) }
+    ensures err { OnErr result (AppendsFrontOf (exit_with code) asm.old asm.new) }
 {
     add(asm, Reg(10), Reg(0), code as i32)?;
     add(asm, Reg(17), Reg(0), 93)?;

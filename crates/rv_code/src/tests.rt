@@ -30,73 +30,16 @@ fn register(number: u8) -> Reg {
 #[rattlefmt::skip]
 fn instruction(row: Row) -> Inst {
     match row {
-        Row::Op(op, rd, rs1, rs2) => {
-            Inst::Op {
-                op,
-                rd: register(rd),
-                rs1: register(rs1),
-                rs2: register(rs2),
-            }
-        }
-        Row::OpImm(op, rd, rs1, imm) => {
-            Inst::OpImm {
-                op,
-                rd: register(rd),
-                rs1: register(rs1),
-                imm,
-            }
-        }
-        Row::Shift(op, rd, rs1, amount) => {
-            Inst::Shift {
-                op,
-                rd: register(rd),
-                rs1: register(rs1),
-                amount,
-            }
-        }
-        Row::Load(op, rd, rs1, imm) => {
-            Inst::Load {
-                op,
-                rd: register(rd),
-                rs1: register(rs1),
-                imm,
-            }
-        }
-        Row::Store(op, rs1, rs2, imm) => {
-            Inst::Store {
-                op,
-                rs1: register(rs1),
-                rs2: register(rs2),
-                imm,
-            }
-        }
-        Row::Branch(op, rs1, rs2, imm) => {
-            Inst::Branch {
-                op,
-                rs1: register(rs1),
-                rs2: register(rs2),
-                imm,
-            }
-        }
-        Row::Upper(op, rd, imm) => Inst::Upper {
-            op,
-            rd: register(rd),
-            imm,
-        },
-        Row::Jal(rd, imm) => Inst::Jal {
-            rd: register(rd),
-            imm,
-        },
-        Row::Jalr(rd, rs1, imm) => Inst::Jalr {
-            rd: register(rd),
-            rs1: register(rs1),
-            imm,
-        },
-        Row::Fence(rd, rs1, imm) => Inst::Fence {
-            rd: register(rd),
-            rs1: register(rs1),
-            imm,
-        },
+        Row::Op(op, rd, rs1, rs2) => Inst::Op { op, rd: register(rd), rs1: register(rs1), rs2: register(rs2) },
+        Row::OpImm(op, rd, rs1, imm) => Inst::OpImm { op, rd: register(rd), rs1: register(rs1), imm },
+        Row::Shift(op, rd, rs1, amount) => Inst::Shift { op, rd: register(rd), rs1: register(rs1), amount },
+        Row::Load(op, rd, rs1, imm) => Inst::Load { op, rd: register(rd), rs1: register(rs1), imm },
+        Row::Store(op, rs1, rs2, imm) => Inst::Store { op, rs1: register(rs1), rs2: register(rs2), imm },
+        Row::Branch(op, rs1, rs2, imm) => Inst::Branch { op, rs1: register(rs1), rs2: register(rs2), imm },
+        Row::Upper(op, rd, imm) => Inst::Upper { op, rd: register(rd), imm },
+        Row::Jal(rd, imm) => Inst::Jal { rd: register(rd), imm },
+        Row::Jalr(rd, rs1, imm) => Inst::Jalr { rd: register(rd), rs1: register(rs1), imm },
+        Row::Fence(rd, rs1, imm) => Inst::Fence { rd: register(rd), rs1: register(rs1), imm },
         Row::Ecall => Inst::Ecall,
         Row::Ebreak => Inst::Ebreak,
     }

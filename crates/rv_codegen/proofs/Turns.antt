@@ -259,13 +259,18 @@ module _ (a : Action) (input : List ℤ) (factor : ℕ) (ample : 400 ≤ factor)
           (subst (λ n'. OneOf (silent t) (map silent (second_part n' n d0 b0 d NoBinds))) (sym h.1) Here) reached refl
           (frame, jumped-stands state frame (p.exit k) (p.start h.0) stands, refl, (k, h.1, refl, h.2), part-of n h.0 (Phases AndThen k h.0) h.1 (inr refl)) (omega arith)
 
+      -- the last part of a node has completed: the node completes, at its exit
+      both-done : (f : Frame) (n first : ℕ) (l : List Letter) (e : Data) → InOrder code p n first k → OneOf (quiet l (Ended (Done e NoBinds))) (open_steps a w (wrap f (Ended (Done d NoBinds)))) → Around a code p base fs frame n → Reaches a input steps (plug fs (wrap f (Ended (Done d NoBinds)))) w → Goes_on state (record { steps = steps; frames = f ∷ fs; focus = Ended (Done d NoBinds); world = w })
+      both-done f n first l e x here around reached =
+          let t = Ended (Done e NoBinds) in
+          leave f l t (p.exit n) fs t (laid.near.exit n) (jumps-from (p.stop n) (p.exit n) x.second_exit x.leave) here reached refl
+          (frame, jumped-stands state frame (p.exit k) (p.exit n) stands, n, refl, around, refl) (omega arith)
+
       second-done : (n : ℕ) (d1 : Data) (b1 : Binds) → Around a code p base (InSecond n d1 b1 ∷ fs) frame k → Reaches a input steps (plug fs (Second n d1 b1 (Ended (Done d NoBinds)))) w → Goes_on state (record { steps = steps; frames = InSecond n d1 b1 ∷ fs; focus = Ended (Done d NoBinds); world = w })
       second-done n d1 b1 h reached =
-          let x = piece-of n (Phases AndThen h.0 k) tt h.1 in
           let t = Ended (Done (d1 ++ d) NoBinds) in
-          leave (InSecond n d1 b1) [] t (p.exit n) fs t (laid.near.exit n) (jumps-from (p.stop n) (p.exit n) x.second_exit x.leave)
-          (subst₂ (λ n' b'. OneOf (silent t) (map silent (chained_parts n' d1 b' d NoBinds))) (sym h.1) (sym h.2) Here) reached refl
-          (frame, jumped-stands state frame (p.exit k) (p.exit n) stands, n, refl, h.3, refl) (omega arith)
+          both-done (InSecond n d1 b1) n h.0 [] (d1 ++ d) (piece-of n (Phases AndThen h.0 k) tt h.1)
+          (subst₂ (λ n' b'. OneOf (silent t) (map silent (chained_parts n' d1 b' d NoBinds))) (sym h.1) (sym h.2) Here) h.3 reached
 
       -- the other part of `and` is still to be performed: the frame turns round, without a step
       other-part : (f f' : Frame) (n o : ℕ) (d0 : Data) (b0 : Binds) → InOrder code p n k o → wrap f (Ended (Done d NoBinds)) ≡ wrap f' (Run o d0 b0) → pending (f' ∷ fs) + leaving ≤ pending (f ∷ fs) → Around a code p base (f' ∷ fs) frame o → IsNode (node_at a o) → Reaches a input steps (plug fs (wrap f (Ended (Done d NoBinds)))) w → Goes_on state (record { steps = steps; frames = f ∷ fs; focus = Ended (Done d NoBinds); world = w })
@@ -284,11 +289,7 @@ module _ (a : Action) (input : List ℤ) (factor : ℕ) (ample : 400 ≤ factor)
           let x = subst (λ r. InOrder code p n k r) (sym h.2.0) h.2.1 in
           other-part (InParLeft n (Run o d0 b0)) (InParRight n (Ended (Done d NoBinds))) n o d0 b0 x refl (omega arith) (k, e, (refl, x), h.3) (part-of n o (Both And k o) e (inr refl)) reached
       left-done n (Ended (Done d1 b1)) h reached =
-          let x = h.2.1 in
-          let t = Ended (Done (d ++ d1) NoBinds) in
-          leave (InParLeft n (Ended (Done d1 b1))) (Joins ∷ []) t (p.exit n) fs t (laid.near.exit n) (jumps-from (p.stop n) (p.exit n) x.second_exit x.leave)
-          (joined-here n k h.0 d d1 NoBinds b1 h.1 refl h.2.0) reached refl
-          (frame, jumped-stands state frame (p.exit k) (p.exit n) stands, n, refl, h.3, refl) (omega arith)
+          both-done (InParLeft n (Ended (Done d1 b1))) n h.0 (Joins ∷ []) (d ++ d1) h.2.1 (joined-here n k h.0 d d1 NoBinds b1 h.1 refl h.2.0) h.3 reached
       left-done n _ h reached = absurd h.2
 
       right-done : (n : ℕ) (x : Tree) → Around a code p base (InParRight n x ∷ fs) frame k → Reaches a input steps (plug fs (Par n x (Ended (Done d NoBinds)))) w → Goes_on state (record { steps = steps; frames = InParRight n x ∷ fs; focus = Ended (Done d NoBinds); world = w })
@@ -297,11 +298,7 @@ module _ (a : Action) (input : List ℤ) (factor : ℕ) (ample : 400 ≤ factor)
           let x = subst (λ l. InOrder code p n k l) (sym h.2.0) h.2.1 in
           other-part (InParRight n (Run o d0 b0)) (InParLeft n (Ended (Done d NoBinds))) n o d0 b0 x refl (omega arith) (k, e, (refl, x), h.3) (part-of n o (Both And o k) e (inl refl)) reached
       right-done n (Ended (Done d1 b1)) h reached =
-          let x = h.2.1 in
-          let t = Ended (Done (d1 ++ d) NoBinds) in
-          leave (InParRight n (Ended (Done d1 b1))) (Joins ∷ []) t (p.exit n) fs t (laid.near.exit n) (jumps-from (p.stop n) (p.exit n) x.second_exit x.leave)
-          (joined-here n h.0 k d1 d b1 NoBinds h.1 h.2.0 refl) reached refl
-          (frame, jumped-stands state frame (p.exit k) (p.exit n) stands, n, refl, h.3, refl) (omega arith)
+          both-done (InParRight n (Ended (Done d1 b1))) n h.0 (Joins ∷ []) (d1 ++ d) h.2.1 (joined-here n h.0 k d1 d b1 NoBinds h.1 h.2.0 refl) h.3 reached
       right-done n _ h reached = absurd h.2
 
     -- the whole action has completed: the run ends with code 0

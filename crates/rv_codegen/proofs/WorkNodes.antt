@@ -14,8 +14,7 @@ use Rattle.rv_codegen.proofs.BuiltKinds.{listed_at, is_built_node-other}
 -- node number k of a graph has two parts, which are nodes
 pub record HasTwoParts (g : Listed) (k : ℕ) (children : List ℕ) (form : ℕ → ℕ → Node) : Type 0 where
   pub many : 1 < length children
-  pub first_within : get_or children 0 0 < length g.nodes
-  pub second_within : get_or children 1 0 < length g.nodes
+  pub within : (get_or children 0 0 < length g.nodes) × (get_or children 1 0 < length g.nodes)
   pub node : node_at (action_of g) k ≡ form (get_or children 0 0) (get_or children 1 0)
 
 two_parts : (g : Listed) → IsGraph g → (k : ℕ) (n : ListedNode) (form : ℕ → ℕ → Node) → slice_get g.nodes k ≡ Some n
@@ -27,8 +26,7 @@ two_parts g w k n form at parts =
     let r : get_or n.children 1 0 ≡ parts.1 = ap (λ l. get_or l 1 0) parts.2 in
     record {
       many = rw parts.2 (omega arith);
-      first_within = omega (arith, l, child_within g w k 0 parts.0 n at first);
-      second_within = omega (arith, r, child_within g w k 1 parts.1 n at second);
+      within = (omega (arith, l, child_within g w k 0 parts.0 n at first), omega (arith, r, child_within g w k 1 parts.1 n at second));
       node = parts.3 ∙ cc;
     }
 
@@ -63,28 +61,35 @@ sends_one g w k n operands d same at is =
       other = λ none. ap is_built_node send.5 ∙ is_built_node-send send.1 (λ z e. none z (item ∙ ap Single e));
     }
 
+-- what reads behind the ends of lists would give
+abbrev pub nothing : Bor (List ℕ)
+nothing = record { ref_ptr = (0, 0); now = [] }
+
+abbrev pub no_node : memory.Node
+no_node = record { kind = kind.Complete; token = nothing; children = nothing; operands = record { ref_ptr = (0, 0); now = [] }; body = 0 }
+
 -- what code learns of node number k, once it has read its kind in the list of nodes
-module _ (g : Listed) (nodes : List memory.Node) (k : ℕ) (d : memory.Node) (same : map listed_node nodes ≡ g.nodes) (w : IsGraph g) (within : k < length g.nodes) where
-  at : slice_get g.nodes k ≡ Some (listed_node (get_or nodes k d))
-  at = listed_at listed_node nodes g.nodes k d same within
+module _ (g : Listed) (nodes : List memory.Node) (k : ℕ) (same : map listed_node nodes ≡ g.nodes) (w : IsGraph g) (within : k < length g.nodes) where
+  at : slice_get g.nodes k ≡ Some (listed_node (get_or nodes k no_node))
+  at = listed_at listed_node nodes g.nodes k no_node same within
 
-  pub read-complete : (get_or nodes k d).kind ≡ kind.Complete → node_at (action_of g) k ≡ Simple Complete
-  read-complete is = node_at-complete g k (listed_node (get_or nodes k d)) at is
+  pub read-complete : (get_or nodes k no_node).kind ≡ kind.Complete → node_at (action_of g) k ≡ Simple Complete
+  read-complete is = node_at-complete g k (listed_node (get_or nodes k no_node)) at is
 
-  pub read-fail : (get_or nodes k d).kind ≡ kind.Fail → node_at (action_of g) k ≡ Simple Failing
-  read-fail is = node_at-fail g k (listed_node (get_or nodes k d)) at is
+  pub read-fail : (get_or nodes k no_node).kind ≡ kind.Fail → node_at (action_of g) k ≡ Simple Failing
+  read-fail is = node_at-fail g k (listed_node (get_or nodes k no_node)) at is
 
-  pub read-send : (get_or nodes k d).kind ≡ kind.Send → (o : Bor (List ℕ)) → SendsOne g k (get_or nodes k d).operands.now o
-  read-send is o = sends_one g w k (listed_node (get_or nodes k d)) (get_or nodes k d).operands.now o refl at is
+  pub read-send : (get_or nodes k no_node).kind ≡ kind.Send → SendsOne g k (get_or nodes k no_node).operands.now nothing
+  read-send is = sends_one g w k (listed_node (get_or nodes k no_node)) (get_or nodes k no_node).operands.now nothing refl at is
 
-  pub read-and : (get_or nodes k d).kind ≡ kind.And → HasTwoParts g k (get_or nodes k d).children.now (Both And)
-  read-and is = two_parts g w k (listed_node (get_or nodes k d)) (Both And) at (node_at-and g w k (listed_node (get_or nodes k d)) at is)
+  pub read-and : (get_or nodes k no_node).kind ≡ kind.And → HasTwoParts g k (get_or nodes k no_node).children.now (Both And)
+  read-and is = two_parts g w k (listed_node (get_or nodes k no_node)) (Both And) at (node_at-and g w k (listed_node (get_or nodes k no_node)) at is)
 
-  pub read-and_then : (get_or nodes k d).kind ≡ kind.AndThen → HasTwoParts g k (get_or nodes k d).children.now (Phases AndThen)
-  read-and_then is = two_parts g w k (listed_node (get_or nodes k d)) (Phases AndThen) at (node_at-and_then g w k (listed_node (get_or nodes k d)) at is)
+  pub read-and_then : (get_or nodes k no_node).kind ≡ kind.AndThen → HasTwoParts g k (get_or nodes k no_node).children.now (Phases AndThen)
+  read-and_then is = two_parts g w k (listed_node (get_or nodes k no_node)) (Phases AndThen) at (node_at-and_then g w k (listed_node (get_or nodes k no_node)) at is)
 
-  pub read-other : ((get_or nodes k d).kind ≡ kind.Complete → ⊥) → ((get_or nodes k d).kind ≡ kind.Fail → ⊥) → ((get_or nodes k d).kind ≡ kind.Send → ⊥) → ((get_or nodes k d).kind ≡ kind.And → ⊥) → ((get_or nodes k d).kind ≡ kind.AndThen → ⊥)
+  pub read-other : ((get_or nodes k no_node).kind ≡ kind.Complete → ⊥) → ((get_or nodes k no_node).kind ≡ kind.Fail → ⊥) → ((get_or nodes k no_node).kind ≡ kind.Send → ⊥) → ((get_or nodes k no_node).kind ≡ kind.And → ⊥) → ((get_or nodes k no_node).kind ≡ kind.AndThen → ⊥)
       → is_built_node (node_at (action_of g) k) ≡ false
   read-other complete fail send and chain =
-      let n = listed_node (get_or nodes k d) in
+      let n = listed_node (get_or nodes k no_node) in
       ap is_built_node (node_at-action_of g k n at) ∙ is_built_node-other n.kind n.token n.body n.children (map (picked 0 (items_from 0 g.yielders)) n.operands) complete fail send and chain

@@ -1,6 +1,6 @@
 //! The prelude: the first instructions, and the entries that the code of every action calls.
 
-ghost use Rattle.std.specs.Prelude.{◌≡◌, ◌<◌, ◌≤◌, [], ◌++◌, IfOk, OnOk, map};
+ghost use Rattle.std.specs.Prelude.{◌≡◌, ◌<◌, ◌≤◌, [], ◌++◌, OnOk, map};
 ghost use Rattle.rv_code.specs.declared.instruction.Inst.TheVariants.{OpImm};
 ghost use Rattle.rv_code.specs.declared.instruction.OpImmOp.TheVariants.{Addi};
 ghost use Rattle.rv_asm.specs.declared.item.Item.TheVariants.{Plain};
@@ -34,18 +34,18 @@ pub(crate) struct Entries {
     pub(crate) send: Label,
     pub(crate) start: Label,
     pub(crate) end: Label,
+    ghost completed_is: { completed ≡ completed_label },
+    ghost failed_is: { failed ≡ failed_label },
+    ghost fail_is: { fail ≡ fail_label },
+    ghost send_is: { send ≡ send_label },
+    ghost start_is: { start ≡ start_label },
+    ghost end_is: { end ≡ end_label },
 }
 
 /// The labels of the entries, as the first of an assembler.
 pub(crate) fn make_entries(asm: &mut Asm) -> Result<Entries, Memory>
     requires { asm.old.labels ≡ 0 }
-    ensures completed { IfOk result (λ e. e.completed ≡ completed_label) }
-    ensures failed { IfOk result (λ e. e.failed ≡ failed_label) }
-    ensures fail { IfOk result (λ e. e.fail ≡ fail_label) }
-    ensures send { IfOk result (λ e. e.send ≡ send_label) }
-    ensures start { IfOk result (λ e. e.start ≡ start_label) }
-    ensures end { IfOk result (λ e. e.end ≡ end_label) }
-    ensures asm { OnOk result (asm.new ≡ record asm.old { labels = 6 }) }
+    ensures { OnOk result (asm.new ≡ record asm.old { labels = 6 }) }
 {
     Ok(Entries {
         completed: asm.label()?,
@@ -121,12 +121,6 @@ fn append_send(asm: &mut Asm) -> Result<(), Memory>
 pub(crate) fn append_prelude(asm: &mut Asm, entries: &Entries) -> Result<(), Memory>
     requires empty { asm.old.items ≡ [] }
     requires made { 6 ≤ asm.old.labels }
-    requires completed { entries.now.completed ≡ completed_label }
-    requires failed { entries.now.failed ≡ failed_label }
-    requires fail { entries.now.fail ≡ fail_label }
-    requires send { entries.now.send ≡ send_label }
-    requires start { entries.now.start ≡ start_label }
-    requires end { entries.now.end ≡ end_label }
     ensures { OnOk result (asm.new ≡ record asm.old { items = prelude }) }
 {
     append_registers(asm, entries.start, entries.end)?;

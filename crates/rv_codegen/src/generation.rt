@@ -3,7 +3,7 @@
 ghost use Rattle.std.specs.Prelude.{◌≡◌, ℕ, ◌+◌, ◌*◌, ◌<◌, ◌≤◌, [], ◌++◌, OnOk, IfOk, false, length, slice_index, All, Some, map};
 ghost use Rattle.rv_code.specs.Encode.{encode};
 ghost use Rattle.rv_asm.specs.Assembly.{is_placed, code_of};
-ghost use Rattle.rv_codegen.specs.Blocks.{start_label, end_label, fail_label, send_label, prelude, blocks_from, exits_of, action_items};
+ghost use Rattle.rv_codegen.specs.Blocks.{end_label, prelude, blocks_from, exits_of, action_items};
 ghost use Rattle.rv_asm.specs.Conventions.{instruction_bytes};
 ghost use Rattle.action_terms.specs.Meaning.{action_of};
 ghost use Rattle.rv_codegen.specs.Works.{action_of_works, HasPartsBelow, FitsWord, unbuilt};
@@ -34,8 +34,6 @@ fn append_nodes(
     requires parts { All (HasPartsBelow (length works.now)) works.now }
     requires exits { length exits.now ≡ length works.now }
     requires exits_made { All (λ l. l < asm.old.labels) exits.now }
-    requires fail { entries.now.fail ≡ fail_label }
-    requires send { entries.now.send ≡ send_label }
     requires fresh { (l : ℕ) → 5 ≤ l → is_placed asm.old.items l ≡ false }
     ensures items { OnOk result (asm.new ≡ record asm.old { items = asm.old.items ++ blocks_from 0 exits.now (action_of_works works.now) }) }
     ensures fits { OnOk result (All FitsWord works.now) }
@@ -64,10 +62,6 @@ fn append_action(
     requires exits { exits.now ≡ exits_of (action_of_works works.now) }
     requires exits_len { length exits.now ≡ length works.now }
     requires exits_made { All (λ l. l < 6 + 3 * length works.now) exits.now }
-    requires fail { entries.now.fail ≡ fail_label }
-    requires send { entries.now.send ≡ send_label }
-    requires start { entries.now.start ≡ start_label }
-    requires end { entries.now.end ≡ end_label }
     requires prelude { asm.old.items ≡ prelude }
     ensures items { OnOk result (asm.new.items ≡ action_items (action_of_works works.now)) }
     ensures fits { OnOk result (All FitsWord works.now) }

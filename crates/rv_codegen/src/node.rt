@@ -2,7 +2,7 @@
 
 ghost use Rattle.std.specs.Prelude.{◌≡◌, ℕ, ◌+◌, ◌*◌, ◌/◌, ◌<◌, ◌≤◌, ◌++◌, OnOk, false, length, slice_index};
 ghost use Rattle.rv_asm.specs.Assembly.{is_placed};
-ghost use Rattle.rv_codegen.specs.Blocks.{start_of, middle_of, stop_of, fail_label, send_label, one_jump, one_send, two_parts, block};
+ghost use Rattle.rv_codegen.specs.Blocks.{start_of, middle_of, stop_of, send_label, one_jump, one_send, two_parts, block};
 ghost use Rattle.rv_codegen.specs.Works.{node_of_work, HasPartsBelow, FitsWord};
 
 use crate::entries::{ARGUMENT, Entries, RETURN};
@@ -121,8 +121,6 @@ pub(crate) fn append_node(
     requires numbers { (i : ℕ) → i < length labels.now → slice_index labels.now i ≡ 6 + i }
     requires parts { HasPartsBelow (length labels.now / 3) work }
     requires exit { exit < asm.old.labels }
-    requires fail { entries.now.fail ≡ fail_label }
-    requires send { entries.now.send ≡ send_label }
     requires fresh { (l : ℕ) → start_of k ≤ l → is_placed asm.old.items l ≡ false }
     ensures items { OnOk result (asm.new ≡ record asm.old { items = asm.old.items ++ block k exit (node_of_work work) }) }
     ensures fits { OnOk result (FitsWord work) }

@@ -1,6 +1,6 @@
 //! The code of an action with a node of each built kind, and the first node of another.
 
-use crate::{first_unbuilt, generate};
+use crate::{first_unbuilt, generate, instructions_per_step};
 use action_terms::pushed::Pushed;
 use action_terms::{Graph, GraphBuilder, Kind, NewAction, NewYielder, YKind};
 use bumpalo::Bump;
@@ -86,5 +86,19 @@ fn first_of_two_unbuilt_nodes(rt: HostRuntime) -> Result<(), Fail> {
     ];
     let graph = graph_of(&rt, rt.alloc(), &arena, &nodes)?;
     assert_eq!(rt; first_unbuilt(&graph), Some(3));
+    Ok(())
+}
+
+#[test]
+fn factors_with_and_without_a_yielder(rt: HostRuntime) -> Result<(), Fail> {
+    let arena = Bump::new(rt.alloc());
+    let nodes = [action(Kind::Send), yielder(YKind::Number(7))];
+    let sends = graph_of(&rt, rt.alloc(), &arena, &nodes)?;
+    assert!(rt; first_unbuilt(&sends).is_none());
+    assert_eq!(rt; instructions_per_step(&sends), 448);
+
+    let completes = graph_of(&rt, rt.alloc(), &arena, &[action(Kind::Complete)])?;
+    assert!(rt; first_unbuilt(&completes).is_none());
+    assert_eq!(rt; instructions_per_step(&completes), 424);
     Ok(())
 }

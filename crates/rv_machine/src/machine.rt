@@ -6,7 +6,7 @@ use crate::image::Image;
 use crate::input::Input;
 use crate::{arithmetic, block, registers};
 use acg_base::{Memory, Sink};
-use rv_code::{Cause, Inst, LoadOp, Reg, StoreOp, decode};
+use rv_code::{BranchOp, Cause, Inst, LoadOp, Reg, StoreOp, decode};
 use std::alloc::Global;
 use std::marker::Model;
 
@@ -37,13 +37,14 @@ impl Model for Machine {
 impl Machine {
     ghost use Rattle.std.specs.Prelude.{◌≡◌, ◌≢◌, ℕ, ◌+◌, ◌-◌, ◌%◌, ◌≤◌, min, nat_eq, if◌then◌else◌, IsTrue, IfSome, IfNone, option_map, take, length, IfOk, IfErr, OnOk, OnErr, List, [], ◌++◌, Some, None};
     ghost use Rattle.acg_base.specs.Outside.{Rose, counted, GainsFrontOf};
-    ghost use Rattle.rv_code.specs.Arithmetic.{wrap, load_size, extended, store_size};
+    ghost use Rattle.rv_code.specs.Arithmetic.{wrap, unsigned, load_size, extended, store_size};
     ghost use Rattle.rv_code.specs.Bytes.{bytes_of};
     ghost use Rattle.rv_code.specs.Machine.{register, with_register, read_bytes, write_bytes, written_in, holder, jumps, loads, stores, execute, step, Ran, Trapped};
     ghost use Rattle.rv_code.specs.Images.{started};
     ghost use Rattle.rv_code.specs.declared.cause.Cause.{Cause as CauseValue};
     ghost use Rattle.rv_machine.specs.Machines.{left, state_of, loaded_machine, sent, sent_in, Steps, StepExits, StepTraps, StepSends, Runs, RunsBelow, IsCounted, RunExits, RunTraps};
     ghost use Rattle.rv_machine.specs.Effects.{Does, Fetches, AtCall, AtReceive, AtSend, AmountFits};
+    ghost use Rattle.rv_machine.specs.Performing.{Performs};
 
     /// The machine before the first instruction of an image. Takes all memory of the run.
     pub fn load(alloc: Global, image: Image) -> Result<Machine, Memory>
@@ -70,6 +71,13 @@ impl Machine {
         ensures { result ≡ register self.now.registers number }
     {
         registers::register(&self.registers, number)
+    }
+
+    // The address at an offset from what a register holds.
+    fn address(&self, base: Reg, imm: i32) -> u64
+        ensures { result ≡ wrap (register self.now.registers base + unsigned imm) }
+    {
+        arithmetic::offset(self.register(base), imm)
     }
 
     // Goes on behind the instruction.
@@ -153,6 +161,19 @@ impl Machine {
         }
     }
 
+    // Does a branch.
+    fn branch(&mut self, op: BranchOp, rs1: Reg, rs2: Reg, imm: i32) -> Result<(), Cause>
+        ensures { Does result self.old self.new (λ s. execute (Inst.Branch op rs1 rs2 imm) s) }
+    {
+        if arithmetic::is_taken(op, self.register(rs1), self.register(rs2)) {
+            let target = arithmetic::offset(self.pc, imm);
+            self.jump(Reg(0), target)
+        } else {
+            self.go_on();
+            Ok(())
+        }
+    }
+
     // Does an instruction that isn't a call: `call` does those.
     fn execute(&mut self, inst: Inst) -> Result<(), Cause>
         requires plain { inst ≢ Inst.Ecall }
@@ -163,12 +184,10 @@ impl Machine {
             Inst::Op { op, rd, rs1, rs2 } => {
                 let value = arithmetic::operation(op, self.register(rs1), self.register(rs2));
                 self.set(rd, value);
-                Ok(())
             }
             Inst::OpImm { op, rd, rs1, imm } => {
                 let value = arithmetic::immediate_operation(op, self.register(rs1), imm);
                 self.set(rd, value);
-                Ok(())
             }
             Inst::Shift {
                 op,
@@ -178,45 +197,22 @@ impl Machine {
             } => {
                 let value = arithmetic::shift_operation(op, self.register(rs1), amount);
                 self.set(rd, value);
-                Ok(())
             }
-            Inst::Upper { op, rd, imm } => {
-                let value = arithmetic::upper_value(op, self.pc, imm);
-                self.set(rd, value);
-                Ok(())
-            }
-            Inst::Load { op, rd, rs1, imm } => {
-                let address = arithmetic::offset(self.register(rs1), imm);
-                self.load_at(op, rd, address)
-            }
+            Inst::Upper { op, rd, imm } => self.set(rd, arithmetic::upper_value(op, self.pc, imm)),
+            Inst::Load { op, rd, rs1, imm } => return self.load_at(op, rd, self.address(rs1, imm)),
             Inst::Store { op, rs1, rs2, imm } => {
-                let address = arithmetic::offset(self.register(rs1), imm);
-                let value = self.register(rs2);
-                self.store_at(op, address, value)
+                return self.store_at(op, self.address(rs1, imm), self.register(rs2));
             }
-            Inst::Branch { op, rs1, rs2, imm } => {
-                if arithmetic::is_taken(op, self.register(rs1), self.register(rs2)) {
-                    let target = arithmetic::offset(self.pc, imm);
-                    self.jump(Reg(0), target)
-                } else {
-                    self.go_on();
-                    Ok(())
-                }
-            }
-            Inst::Jal { rd, imm } => {
-                let target = arithmetic::offset(self.pc, imm);
-                self.jump(rd, target)
-            }
+            Inst::Branch { op, rs1, rs2, imm } => return self.branch(op, rs1, rs2, imm),
+            Inst::Jal { rd, imm } => return self.jump(rd, arithmetic::offset(self.pc, imm)),
             Inst::Jalr { rd, rs1, imm } => {
-                let target = arithmetic::offset(self.register(rs1), imm);
-                self.jump(rd, target - target % 2)
+                let target = self.address(rs1, imm);
+                return self.jump(rd, target - target % 2);
             }
-            Inst::Fence { .. } => {
-                self.go_on();
-                Ok(())
-            }
-            Inst::Ecall | Inst::Ebreak => Err(Cause::Ebreak),
+            Inst::Fence { .. } => self.go_on(),
+            Inst::Ecall | Inst::Ebreak => return Err(Cause::Ebreak),
         }
+        Ok(())
     }
 
     // What a step answers where it traps.
@@ -273,28 +269,7 @@ impl Machine {
     // Does the call 64.
     fn send<K: Sink>(&mut self, address: u64, size: u64, input: &mut Input<'_>, out: &mut K) -> Step
         requires { AtSend self.old address size }
-        ensures ran { result ≡ Step.Ran → Steps self.old (left input.old) self.new (left input.new) }
-        ensures exited { (code : ℕ) → result ≡ Step.Exited code → StepExits self.old (left input.old) code }
-        ensures trapped { (cause : CauseValue) (pc : ℕ) → result ≡ Step.Trapped cause pc →
-            StepTraps self.old (left input.old) cause × (pc ≡ self.old.pc) }
-        ensures stays { result ≢ Step.Ran → (self.new ≡ self.old) × (input.new ≡ input.old) }
-        ensures taken { self.new.taken ≡ self.old.taken }
-        ensures bytes { input.new.bytes ≡ input.old.bytes }
-
-        // A fault of the sink comes only at an instruction that runs by the definition and sends bytes.
-        ensures fault { result ≡ Step.SinkFault → (sent self.old ≢ []) × StepSends self.old (left input.old) }
-        ensures rose { result ≡ Step.SinkFault → Rose (K.faults out.old) (K.faults out.new) }
-        ensures still { result ≢ Step.SinkFault → K.faults out.new ≡ K.faults out.old }
-        ensures counts { K.faults out.old ≤ K.faults out.new }
-
-        // What the sink gets is what the instruction sends. No other instruction writes to it.
-        ensures untouched { sent self.old ≡ [] → out.new ≡ out.old }
-        ensures idle { result ≢ Step.Ran → result ≢ Step.SinkFault → out.new ≡ out.old }
-        ensures told { result ≡ Step.Ran → IsTrue (K.tells out.old) →
-            K.written out.new ≡ K.written out.old ++ sent self.old }
-        ensures part { result ≡ Step.SinkFault → IsTrue (K.tells out.old) →
-            GainsFrontOf (sent self.old) (K.written out.old) (K.written out.new) }
-        ensures tells_still { K.tells out.new ≡ K.tells out.old }
+        ensures { Performs K.written K.faults K.tells result self.old input.old out.old self.new input.new out.new }
     {
         if size == 0 {
             self.set(Reg(10), 0);
@@ -316,28 +291,7 @@ impl Machine {
     // Does a call.
     fn call<K: Sink>(&mut self, input: &mut Input<'_>, out: &mut K) -> Step
         requires { AtCall self.old }
-        ensures ran { result ≡ Step.Ran → Steps self.old (left input.old) self.new (left input.new) }
-        ensures exited { (code : ℕ) → result ≡ Step.Exited code → StepExits self.old (left input.old) code }
-        ensures trapped { (cause : CauseValue) (pc : ℕ) → result ≡ Step.Trapped cause pc →
-            StepTraps self.old (left input.old) cause × (pc ≡ self.old.pc) }
-        ensures stays { result ≢ Step.Ran → (self.new ≡ self.old) × (input.new ≡ input.old) }
-        ensures taken { self.new.taken ≡ self.old.taken }
-        ensures bytes { input.new.bytes ≡ input.old.bytes }
-
-        // A fault of the sink comes only at an instruction that runs by the definition and sends bytes.
-        ensures fault { result ≡ Step.SinkFault → (sent self.old ≢ []) × StepSends self.old (left input.old) }
-        ensures rose { result ≡ Step.SinkFault → Rose (K.faults out.old) (K.faults out.new) }
-        ensures still { result ≢ Step.SinkFault → K.faults out.new ≡ K.faults out.old }
-        ensures counts { K.faults out.old ≤ K.faults out.new }
-
-        // What the sink gets is what the instruction sends. No other instruction writes to it.
-        ensures untouched { sent self.old ≡ [] → out.new ≡ out.old }
-        ensures idle { result ≢ Step.Ran → result ≢ Step.SinkFault → out.new ≡ out.old }
-        ensures told { result ≡ Step.Ran → IsTrue (K.tells out.old) →
-            K.written out.new ≡ K.written out.old ++ sent self.old }
-        ensures part { result ≡ Step.SinkFault → IsTrue (K.tells out.old) →
-            GainsFrontOf (sent self.old) (K.written out.old) (K.written out.new) }
-        ensures tells_still { K.tells out.new ≡ K.tells out.old }
+        ensures { Performs K.written K.faults K.tells result self.old input.old out.old self.new input.new out.new }
     {
         let number = self.registers[17];
         let first = self.registers[10];
@@ -358,28 +312,7 @@ impl Machine {
 
     // Does one instruction, and doesn't count it.
     fn perform<K: Sink>(&mut self, input: &mut Input<'_>, out: &mut K) -> Step
-        ensures ran { result ≡ Step.Ran → Steps self.old (left input.old) self.new (left input.new) }
-        ensures exited { (code : ℕ) → result ≡ Step.Exited code → StepExits self.old (left input.old) code }
-        ensures trapped { (cause : CauseValue) (pc : ℕ) → result ≡ Step.Trapped cause pc →
-            StepTraps self.old (left input.old) cause × (pc ≡ self.old.pc) }
-        ensures stays { result ≢ Step.Ran → (self.new ≡ self.old) × (input.new ≡ input.old) }
-        ensures taken { self.new.taken ≡ self.old.taken }
-        ensures bytes { input.new.bytes ≡ input.old.bytes }
-
-        // A fault of the sink comes only at an instruction that runs by the definition and sends bytes.
-        ensures fault { result ≡ Step.SinkFault → (sent self.old ≢ []) × StepSends self.old (left input.old) }
-        ensures rose { result ≡ Step.SinkFault → Rose (K.faults out.old) (K.faults out.new) }
-        ensures still { result ≢ Step.SinkFault → K.faults out.new ≡ K.faults out.old }
-        ensures counts { K.faults out.old ≤ K.faults out.new }
-
-        // What the sink gets is what the instruction sends. No other instruction writes to it.
-        ensures untouched { sent self.old ≡ [] → out.new ≡ out.old }
-        ensures idle { result ≢ Step.Ran → result ≢ Step.SinkFault → out.new ≡ out.old }
-        ensures told { result ≡ Step.Ran → IsTrue (K.tells out.old) →
-            K.written out.new ≡ K.written out.old ++ sent self.old }
-        ensures part { result ≡ Step.SinkFault → IsTrue (K.tells out.old) →
-            GainsFrontOf (sent self.old) (K.written out.old) (K.written out.new) }
-        ensures tells_still { K.tells out.new ≡ K.tells out.old }
+        ensures { Performs K.written K.faults K.tells result self.old input.old out.old self.new input.new out.new }
     {
         match self.fetch() {
             Err(cause) => self.trap(cause),

@@ -22,16 +22,16 @@ settle-requires-clause-tree c =
 pub returns-in-Ended-clause-weight : goal.returns-in-Ended-clause-weight
 returns-in-Ended-clause-weight c =
     let bound = stands-weight c.args.parts.now c.args.place (commits (effect_of c.args.plan.change)) c.args.plan.part c.args.plan.next c.in_ok-list.list.items
-        c.requires.place c.requires.tree c.requires.plan_counted c.in_ok-list.ensures.parts (c.requires.fewer c.args.plan.part) in
+    c.requires.place c.requires.tree c.requires.plan_counted c.in_ok-list.ensures.parts (c.requires.fewer c.args.plan.part) in
     IfOk-weaker _ _ _ (λ r less. le_trans less bound) c.settle.ensures.weight
 
 pub returns-in_default-clause-tree : goal.returns-in_default-clause-tree
 returns-in_default-clause-tree c =
     let goes_on : (z : End) → c.args.plan.next ≡ next.Ended z → 0 < c.args.plan.part.depth = λ z e.
-        elim c.in_default.branch [
-          | in_default-via-in-Ended+else-plan-eq0 w ↦ omega (arith, w.if-plan-eq0.false)
-          | in_default-via-in_default w ↦ absurd (w.in_default.not-Ended z e)
-        ] in
+    elim c.in_default.branch [
+      | in_default-via-in-Ended+else-plan-eq0 w ↦ omega (arith, w.if-plan-eq0.false)
+      | in_default-via-in_default w ↦ absurd (w.in_default.not-Ended z e)
+    ] in
     goes_on-tree c.args.parts.now c.args.place (commits (effect_of c.args.plan.change)) c.args.plan.part c.args.plan.next c.in_ok-list.list.items
     c.requires.place c.requires.tree c.requires.plan_counted c.in_ok-list.ensures.parts goes_on
 

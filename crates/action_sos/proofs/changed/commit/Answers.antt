@@ -1,4 +1,4 @@
-use Rattle.std.proofs.Common.{◌≡◌, false, sym, ap, ◌∙◌, arith}
+use Rattle.std.proofs.Common.{◌≡◌, false, sym, ap, ◌∙◌}
 use Rattle.action_terms.specs.Steps.{commits}
 use Rattle.action_sos.specs.Parts.{closed_before, closes}
 use Rattle.action_sos.specs.Views.{part_of, parts_of}

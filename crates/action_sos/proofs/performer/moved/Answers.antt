@@ -1,4 +1,4 @@
-use Rattle.std.proofs.Common.{◌≡◌, ◌≢◌, ◌∙◌, length, sym, subst}
+use Rattle.std.proofs.Common.{◌∙◌, sym}
 use Rattle.std.proofs.lemmas.List.{length-map}
 use Rattle.action_sos.specs.Views.{part_of, parts_of}
 use Rattle.action_sos.proofs.PerformerEnds.{moved-several, moved-framed}

@@ -1,4 +1,4 @@
-use Rattle.std.proofs.Common.{◌≤◌, ◌+◌, length, arith}
+use Rattle.std.proofs.Common.{◌≤◌, length, arith}
 use Rattle.action_sos.specs.Views.{part_of}
 use Rattle.action_sos.specs.declared.moves.Received.{Received}
 use Rattle.action_sos.proofs.PlanCounts.{run-count, run-bound, run-within, parent-count, broken-at_most}

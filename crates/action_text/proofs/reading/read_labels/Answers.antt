@@ -1,4 +1,5 @@
-use Rattle.std.proofs.Common.{◌∙◌, ◌<◌, ◌+◌, sym, ap, arith, reverse, map, List, ℕ, ◌++◌, ◌∷◌, [], slice_range, rules, length, get_or, true, refl}
+use Rattle.std.proofs.Common.{◌∙◌, ◌<◌, ◌+◌, sym, ap, arith, reverse, map, List, ℕ, ◌++◌, ◌∷◌, [], slice_range, rules, length, get_or, true, false, refl}
+use Rattle.std.proofs.lemmas.Result.{err_from_is_err_and}
 use Rattle.action_text.specs.declared.table.Symbol.{Symbol}
 use Rattle.action_text.specs.declared.table.Symbol.TheVariants.{Name}
 use Rattle.action_text.specs.declared.table.TheConstants.{SYMBOLS}
@@ -22,35 +23,39 @@ loop-top-preserved-in-Continue-branch-3 c = record {
       (with_top (texts c.args.tokens.now) c.loop-top.at c.loop-top.stack.items c.pop.new.self.items c.in-Some.top _ (noting_of c.loop-top.notes.items c.loop-top.labels.items) c.in-Some.ensures.items c.in-Emit.is c.loop-top.invariant.state);
 }
 
-pub returns-then-not-is_at : goal.returns-then-not-is_at
-returns-then-not-is_at c =
+pub returns-in_err-expect-in-Read : goal.returns-in_err-expect-in-Read
+returns-in_err-expect-in-Read c =
     let classes = c.as_slice-classes.ensures.value ∙ c.in_ok-list.ensures in
-    stops_read (texts c.args.tokens.now) c.loop-top.at c.in-Read.class (reverse c.pop.new.self.items) (noting_of c.loop-top.notes.items c.loop-top.labels.items) c.loop-top.invariant.within
-    (not_at (texts c.args.tokens.now) c.as_slice-classes.result.now c.loop-top.at c.in-Read.class c.is_at.result classes c.loop-top.invariant.within c.is_at.ensures.1 c.if-not-is_at.true)
-    (with_top (texts c.args.tokens.now) c.loop-top.at c.loop-top.stack.items c.pop.new.self.items c.in-Some.top _ (noting_of c.loop-top.notes.items c.loop-top.labels.items) c.in-Some.ensures.items c.in-Read.is c.loop-top.invariant.state)
+    let error = err_from_is_err_and c.from_residual-in_err-expect-in-Read.result c.from_residual-in_err-expect-in-Read.ensures.1 in
+    rw (error.1, error.2, c.in_err-expect-in-Read.ensures.place)
+    (stops_read (texts c.args.tokens.now) c.loop-top.at c.in-Read.class (reverse c.pop.new.self.items) (noting_of c.loop-top.notes.items c.loop-top.labels.items) c.loop-top.invariant.within
+    (not_at (texts c.args.tokens.now) c.as_slice-classes.result.now c.loop-top.at c.in-Read.class false classes c.loop-top.invariant.within (λ there. absurd (c.in_err-expect-in-Read.ensures.missing there)) refl)
+    (with_top (texts c.args.tokens.now) c.loop-top.at c.loop-top.stack.items c.pop.new.self.items c.in-Some.top _ (noting_of c.loop-top.notes.items c.loop-top.labels.items) c.in-Some.ensures.items c.in-Read.is c.loop-top.invariant.state))
 
 pub loop-top-preserved-in-Read : goal.loop-top-preserved-in-Read
 loop-top-preserved-in-Read c =
     let classes = c.as_slice-classes.ensures.value ∙ c.in_ok-list.ensures in
-    let there = is_there (texts c.args.tokens.now) c.as_slice-classes.result.now c.loop-top.at c.in-Read.class classes (c.is_at.ensures.0 c.if-not-is_at.false) in
+    let there = is_there (texts c.args.tokens.now) c.as_slice-classes.result.now c.loop-top.at c.in-Read.class classes c.in_ok-expect-in-Read.ensures.there in
     record {
       within = omega (arith, there.0);
       state = after_read (texts c.args.tokens.now) c.loop-top.at c.in-Read.class (reverse c.pop.new.self.items) (noting_of c.loop-top.notes.items c.loop-top.labels.items) there.0 there.1
           (with_top (texts c.args.tokens.now) c.loop-top.at c.loop-top.stack.items c.pop.new.self.items c.in-Some.top _ (noting_of c.loop-top.notes.items c.loop-top.labels.items) c.in-Some.ensures.items c.in-Read.is c.loop-top.invariant.state);
     }
 
-pub returns-then-not-is_at-2 : goal.returns-then-not-is_at-2
-returns-then-not-is_at-2 c =
+pub returns-in_err-expect-in-Keep : goal.returns-in_err-expect-in-Keep
+returns-in_err-expect-in-Keep c =
     let classes = c.as_slice-classes.ensures.value ∙ c.in_ok-list.ensures in
-    stops_keep (texts c.args.tokens.now) c.loop-top.at c.in-Keep.class (reverse c.pop.new.self.items) (noting_of c.loop-top.notes.items c.loop-top.labels.items) c.loop-top.invariant.within
-    (not_at (texts c.args.tokens.now) c.as_slice-classes.result.now c.loop-top.at c.in-Keep.class c.is_at-in-Keep.result classes c.loop-top.invariant.within c.is_at-in-Keep.ensures.1 c.if-not-is_at-2.true)
-    (with_top (texts c.args.tokens.now) c.loop-top.at c.loop-top.stack.items c.pop.new.self.items c.in-Some.top _ (noting_of c.loop-top.notes.items c.loop-top.labels.items) c.in-Some.ensures.items c.in-Keep.is c.loop-top.invariant.state)
+    let error = err_from_is_err_and c.from_residual-in_err-expect-in-Keep.result c.from_residual-in_err-expect-in-Keep.ensures.1 in
+    rw (error.1, error.2, c.in_err-expect-in-Keep.ensures.place)
+    (stops_keep (texts c.args.tokens.now) c.loop-top.at c.in-Keep.class (reverse c.pop.new.self.items) (noting_of c.loop-top.notes.items c.loop-top.labels.items) c.loop-top.invariant.within
+    (not_at (texts c.args.tokens.now) c.as_slice-classes.result.now c.loop-top.at c.in-Keep.class false classes c.loop-top.invariant.within (λ there. absurd (c.in_err-expect-in-Keep.ensures.missing there)) refl)
+    (with_top (texts c.args.tokens.now) c.loop-top.at c.loop-top.stack.items c.pop.new.self.items c.in-Some.top _ (noting_of c.loop-top.notes.items c.loop-top.labels.items) c.in-Some.ensures.items c.in-Keep.is c.loop-top.invariant.state))
 
 pub loop-top-preserved-in-Keep : goal.loop-top-preserved-in-Keep
 loop-top-preserved-in-Keep c =
     let all : List (List ℕ) = texts c.args.tokens.now in
     let classes = c.as_slice-classes.ensures.value ∙ c.in_ok-list.ensures in
-    let there = is_there (texts c.args.tokens.now) c.as_slice-classes.result.now c.loop-top.at c.in-Keep.class classes (c.is_at-in-Keep.ensures.0 c.if-not-is_at-2.false) in
+    let there = is_there (texts c.args.tokens.now) c.as_slice-classes.result.now c.loop-top.at c.in-Keep.class classes c.in_ok-expect-in-Keep.ensures.there in
     let lt : c.loop-top.at < length c.args.tokens.now = omega (arith, there.0, length_texts c.args.tokens.now) in
     record {
       within = omega (arith, there.0);
@@ -60,16 +65,16 @@ loop-top-preserved-in-Keep c =
           (with_top (texts c.args.tokens.now) c.loop-top.at c.loop-top.stack.items c.pop.new.self.items c.in-Some.top _ (noting_of c.loop-top.notes.items c.loop-top.labels.items) c.in-Some.ensures.items c.in-Keep.is c.loop-top.invariant.state);
     }
 
-pub loop-top-smaller-in-Continue-branch-6 : goal.loop-top-smaller-in-Continue-branch-6
-loop-top-smaller-in-Continue-branch-6 c =
+pub loop-top-smaller-in-Continue-branch-8 : goal.loop-top-smaller-in-Continue-branch-8
+loop-top-smaller-in-Continue-branch-8 c =
     let classes = c.as_slice-classes.ensures.value ∙ c.in_ok-list.ensures in
     let line = c.in-Some-row_at.ensures.line in
     let lt : c.loop-top.at < length (texts c.args.tokens.now) = omega (arith, line.0, length_classes (texts c.args.tokens.now) c.as_slice-classes.result.now classes) in
     lighter_line (length (texts c.args.tokens.now)) c.loop-top.at c.in-Name.name _ (line_at c.in-Some-row_at.row) c.loop-top.stack.items c.pop.new.self.items c.push_reversed.new.stack.items c.in-Some.top
     lt line.1 c.in-Some.ensures.items c.in-Name.is c.in_ok-push_reversed-in-Name.ensures
 
-pub loop-top-preserved-in-Continue-branch-6 : goal.loop-top-preserved-in-Continue-branch-6
-loop-top-preserved-in-Continue-branch-6 c =
+pub loop-top-preserved-in-Continue-branch-8 : goal.loop-top-preserved-in-Continue-branch-8
+loop-top-preserved-in-Continue-branch-8 c =
     let classes = c.as_slice-classes.ensures.value ∙ c.in_ok-list.ensures in
     let line = c.in-Some-row_at.ensures.line in
     let there = is_there (texts c.args.tokens.now) c.as_slice-classes.result.now c.loop-top.at _ classes (line.0, refl) in

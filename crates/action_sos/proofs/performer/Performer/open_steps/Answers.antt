@@ -1,4 +1,4 @@
-use Rattle.std.proofs.Common.{◌≡◌, ◌<◌, ◌≤◌, ◌^◌, ◌∙◌, ◌↔◌, All, length, sym, subst, ap, arith}
+use Rattle.std.proofs.Common.{◌≡◌, ◌<◌, ◌^◌, ◌∙◌, ◌↔◌, All, length, sym, subst, ap, arith}
 use Rattle.action_sos.specs.Parts.{open_count}
 use Rattle.action_sos.specs.Views.{parts_of}
 use Rattle.action_sos.specs.Kept.{weight}
@@ -20,7 +20,6 @@ count_of_parts-requires-clause-sound c =
 pub count_of_parts-requires-clause-small : goal.count_of_parts-requires-clause-small
 count_of_parts-requires-clause-small c = subst (λ l. weight (parts_of l) < 2 ^ 64) (sym c.deref.ensures.value) (omega (arith, c.self.invariant.bounded, c.self.invariant.small))
 
-
 -- the sum over the parts is the number of the open steps
 counted : (c : goal.After-count_of_parts) → c.count_of_parts.result ≡ length (steps_of c.args.self.now)
 counted c =
@@ -35,6 +34,6 @@ returns-clause-count c = counted c
 pub returns-clause-at_end : goal.returns-clause-at_end
 returns-clause-at_end c =
     let count : c.count_of_parts.result ≡ length (steps_of (performing_of c.self.inside.graph c.self.inside.parts.items c.self.inside.world)) =
-        subst (λ p. c.count_of_parts.result ≡ length (steps_of p)) (sym c.self.view_is) (counted c) in
+    subst (λ p. c.count_of_parts.result ≡ length (steps_of p)) (sym c.self.view_is) (counted c) in
     subst (λ p. c.count_of_parts.result ≡ 0 ↔ IsEnd p.state.tree) c.self.view_is
     (at-end c.self.inside.graph c.self.inside.parts.items c.self.inside.world c.self.inside.bound c.count_of_parts.result c.self.invariant count)
