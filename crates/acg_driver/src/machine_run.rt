@@ -8,7 +8,7 @@ ghost use Rattle.acg_driver.specs.Lines.{output_lines};
 ghost use Rattle.acg_driver.specs.Answers.{IsExit, IsRunOf};
 ghost use Rattle.acg_driver.specs.Outboxes.{SendsMessages, FitsOutbox};
 
-use crate::lines::print_message;
+use crate::lines::{answer, print_message};
 use crate::messages::split_message;
 use crate::outbox::Outbox;
 use acg_base::{Sink, SinkError, Status};
@@ -31,23 +31,6 @@ fn print_messages<K: Sink>(bytes: &[u8], out: &mut K) -> Result<(), SinkError>
     Ok(())
 }
 
-// Prints how a run ended, or that it didn't.
-fn print_outcome<K: Sink>(out: &mut K, line: &[u8], status: Status) -> Status
-    requires { status ≢ Status.WriteFault }
-    ensures answer { result ≢ Status.WriteFault → result ≡ status }
-    ensures printed { result ≢ Status.WriteFault → IsTrue (K.tells out.old) →
-        K.written out.new ≡ K.written out.old ++ line.now }
-    ensures fault { result ≡ Status.WriteFault → Rose (K.faults out.old) (K.faults out.new) }
-    ensures grew { Grew (K.faults out.old) (K.faults out.new) → result ≡ Status.WriteFault }
-    ensures counts { K.faults out.old ≤ K.faults out.new }
-    ensures tells_still { K.tells out.new ≡ K.tells out.old }
-{
-    match out.write(line) {
-        Ok(()) => status,
-        Err(_) => Status::WriteFault,
-    }
-}
-
 // Prints the outcome of an exit.
 fn print_exit<K: Sink>(out: &mut K, code: u8) -> Status
     requires { code ≤ 3 }
@@ -59,10 +42,10 @@ fn print_exit<K: Sink>(out: &mut K, code: u8) -> Status
     ensures tells_still { K.tells out.new ≡ K.tells out.old }
 {
     match code {
-        0 => print_outcome(out, b"completed\n", Status::Done),
-        1 => print_outcome(out, b"failed\n", Status::Failed),
-        2 => print_outcome(out, b"escaped\n", Status::Escaped),
-        _ => print_outcome(out, b"full\n", Status::Full),
+        0 => answer(out, b"completed\n", Status::Done),
+        1 => answer(out, b"failed\n", Status::Failed),
+        2 => answer(out, b"escaped\n", Status::Escaped),
+        _ => answer(out, b"full\n", Status::Full),
     }
 }
 
@@ -105,5 +88,5 @@ pub(crate) fn run_machine<K: Sink>(
             Err(_) => return Status::WriteFault,
         }
     }
-    print_outcome(out, b"running\n", Status::Running)
+    answer(out, b"running\n", Status::Running)
 }

@@ -86,9 +86,9 @@ returns-clause-ran g c = λ printed.
     let RunsSo : ℕ → Type 0 = λ n. Runs n start [] c.loop-turn.machine (left c.loop-turn.input) in
     let WroteSo : ℕ → Type 0 = λ n. g.K.Sink.written c.loop-turn.out ≡ g.K.Sink.written c.args.out.now ++ output_lines (sent_in n start []) in (
       output_lines (sent_in c.args.budget start []) ++ running_line,
-      running-answer c.args.budget start c.loop-turn.machine (left c.loop-turn.input) c.print_outcome.result (subst RunsSo all before.runs)
-          (c.print_outcome.ensures.answer printed),
-      λ tells. both-written (g.K.Sink.written c.args.out.now) (g.K.Sink.written c.loop-turn.out) (g.K.Sink.written c.print_outcome.new.out)
+      running-answer c.args.budget start c.loop-turn.machine (left c.loop-turn.input) c.answer.result (subst RunsSo all before.runs)
+          (c.answer.ensures.answer printed),
+      λ tells. both-written (g.K.Sink.written c.args.out.now) (g.K.Sink.written c.loop-turn.out) (g.K.Sink.written c.answer.new.out)
           (output_lines (sent_in c.args.budget start [])) running_line (subst WroteSo all (before.wrote tells))
-          (c.print_outcome.ensures.printed printed (rw before.telling tells)),
+          (c.answer.ensures.done printed (rw before.telling tells)),
     )
