@@ -23,3 +23,6 @@ mod yielding;
 
 pub use answers::{Moved, Outcome};
 pub use performer::Performer;
+
+#[cfg(test)]
+mod tests;
