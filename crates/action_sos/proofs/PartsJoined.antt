@@ -13,6 +13,7 @@ use Rattle.action_sos.specs.declared.part.Frame.TheVariants as frame
 use Rattle.action_sos.proofs.PartsPushed.{height-behind}
 use Rattle.action_sos.proofs.PartsParents.{height-positive}
 use Rattle.action_sos.proofs.TreesMerged.{IsTree-merged_right, IsTree-merged_left, tree_of-merged_right, tree_of-merged_left}
+use Rattle.action_sos.proofs.PartsWeights.{weight-append}
 
 -- what stands between the parent and the part that has ended, and what stands behind that
 pub data Joined : Side → List Part → List Part → Type 0 where
@@ -55,10 +56,6 @@ module _ (before : List Part) (fs : List Frame) (k : ℕ) (z : End) where
       → tree_of ((before ++ parent_part fs k ∷ mid) ++ ended_part (end_of z) ∷ rest) ≡ tree_of (before ++ merge fs (frame_of (frame.Beside k s z)) (mid ++ rest))
   joined-same _ _ _ (RightEnded p rest) = tree_of-merged_right before fs k (end_of z) p rest
   joined-same _ _ _ (LeftEnded p middle rest high) = tree_of-merged_left before fs k (end_of z) p middle rest high
-
-weight-append : (ps qs : List Part) → weight (ps ++ qs) ≡ weight ps + weight qs
-weight-append [] qs = omega arith
-weight-append (p ∷ ps) qs = omega (arith, weight-append ps qs)
 
 weight-merge : (fs : List Frame) (f : Frame) (ps : List Part) → weight (merge fs f ps) ≤ length fs + 1 + weight ps
 weight-merge fs f [] = omega arith

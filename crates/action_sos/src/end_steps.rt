@@ -10,7 +10,8 @@ ghost use Rattle.action_terms.proofs.Contexts.{wrap};
 ghost use Rattle.action_sos.specs.Views.{bindings_of, frame_of, end_of};
 ghost use Rattle.action_sos.specs.Moves.{action_in, given_of, bound_of, next_tree, IsStepAt, ended_steps};
 ghost use Rattle.action_sos.specs.Made.{IsMadeOf};
-ghost use Rattle.action_sos.specs.Ends.{IsBroken, both_trees};
+ghost use Rattle.action_sos.specs.Ends.{both_trees};
+ghost use Rattle.action_sos.specs.Parts.{IsBroken};
 ghost use Rattle.action_sos.specs.declared.moves.Lists.{Lists};
 
 use crate::bindings::overlay;
