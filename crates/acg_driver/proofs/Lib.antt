@@ -14,3 +14,4 @@ pub mod PerformReplies
 pub mod TextFronts
 pub mod Looking
 pub mod Performed
+pub mod FaultNames

@@ -59,7 +59,7 @@ lacks-action contents n name None gone = gone
 lacks-action contents n name (Some input) gone = inl gone
 
 -- no refusal of a text is a read fault
-refused-other : (r : Refusal) → refusal_status r ≡ status.ReadFault → ⊥
+pub refused-other : (r : Refusal) → refusal_status r ≡ status.ReadFault → ⊥
 refused-other refusal.Size h = cc
 refused-other (refusal.Text error.Memory) h = cc
 refused-other (refusal.Text error.Nodes) h = cc

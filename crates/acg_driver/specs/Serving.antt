@@ -74,6 +74,21 @@ pub record FaultsWhere (IsLacking : Type 0) (result : Status) : Type 0 where
 abbrev pub FaultsSurely : Contents → Command → Status → Type 0
 FaultsSurely contents command result = FaultsWhere (Lacks contents command) result
 
+-- of the two files of a command, the first one that isn't there
+abbrev pub first_missing : Option (List ℕ) → (name input : List ℕ) → List ℕ
+first_missing None name input = name
+first_missing (Some content) name input = input
+
+-- the file of a command that a read fault names over such a store
+abbrev pub missing_file : Contents → Command → List ℕ
+missing_file contents (Act name) = name
+missing_file contents (Perform n name None) = name
+missing_file contents (Perform n name (Some input)) = first_missing (contents name) name input
+
+-- where a read fault is answered, a sink with these members gets its line with this name
+abbrev pub Names : {K : Type 0} (written : K → List ℕ) (tells : K → Bool) (name : List ℕ) (old new : K) → Status → Type 0
+Names written tells name old new result = result ≡ status.ReadFault → IsTrue (tells old) → written new ≡ written old ++ read_fault_line name
+
 -- the statuses of a performance that isn't refused
 abbrev pub IsOfPerformance : Status → Type 0
 IsOfPerformance status.Done = Unit {0}

@@ -3,7 +3,7 @@
 ghost use Rattle.std.specs.Prelude.{◌≡◌, option_map, IsTrue};
 ghost use Rattle.acg_driver.specs.Commands.{Perform};
 ghost use Rattle.acg_driver.specs.Performed.{IsInputAnswer, IsInputReply, IsPerformReply};
-ghost use Rattle.acg_driver.specs.Serving.{Spoken, Looked, LacksInput, FaultsWhere, FaultsSurely};
+ghost use Rattle.acg_driver.specs.Serving.{Spoken, Looked, LacksInput, FaultsWhere, FaultsSurely, missing_file, Names};
 
 use crate::files::{answer_unread, read_file};
 use crate::lines::answer;
@@ -71,6 +71,7 @@ pub fn perform_file<S: Store, K: Sink>(
     ensures spoken { Spoken K.written K.faults K.tells (IsPerformReply (S.tells store.old) (S.contents store.old) number name.now (option_map (λ file. file.now) input.entry)) out.old out.new result }
     ensures looked { Looked S.contents S.failed_reads S.failed_writes S.tells store.old store.new result }
     ensures surely { IsTrue (S.sure store.old) → FaultsSurely (S.contents store.old) (Perform number name.now (option_map (λ file. file.now) input.entry)) result }
+    ensures named { IsTrue (S.sure store.old) → Names K.written K.tells (missing_file (S.contents store.old) (Perform number name.now (option_map (λ file. file.now) input.entry))) out.old out.new result }
     ensures sure_still { S.sure store.new ≡ S.sure store.old }
 {
     let content = match read_file(alloc, name, LIMIT_ACTION, store) {

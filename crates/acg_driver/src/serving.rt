@@ -3,7 +3,7 @@
 ghost use Rattle.std.specs.Prelude.{◌≡◌, ◌⊎◌, Some, None, IsTrue};
 ghost use Rattle.acg_base.specs.Outside.{Rose};
 ghost use Rattle.acg_driver.specs.Commands.{Command as Asked, command_of};
-ghost use Rattle.acg_driver.specs.Serving.{IsReply, Spoken, Looked, FaultsSurely, Performs};
+ghost use Rattle.acg_driver.specs.Serving.{IsReply, Spoken, Looked, FaultsSurely, missing_file, Names, Performs};
 
 use crate::act_command::act;
 use crate::lines::answer;
@@ -28,6 +28,10 @@ pub fn serve<S: Store, K: Sink>(alloc: Global, words: &Words, store: &mut S, out
     // Over a sure store a read fault comes exactly where a file isn't there.
     ensures surely { IsTrue (S.sure store.old) → (asked : Asked) → command_of words.now ≡ Some asked →
         FaultsSurely (S.contents store.old) asked result }
+
+    // Its line names the first file that isn't there.
+    ensures named { IsTrue (S.sure store.old) → (asked : Asked) → command_of words.now ≡ Some asked →
+        Names K.written K.tells (missing_file (S.contents store.old) asked) out.old out.new result }
 
     // An action that reads is performed: only want of memory and faults are free to come.
     ensures performs { (asked : Asked) → command_of words.now ≡ Some asked → IsTrue (S.tells store.old) →

@@ -1,8 +1,9 @@
 use Rattle.std.proofs.Common.{◌≡◌, ◌≢◌, inl, inr, ℕ, List, Option, Some, option_map, true, sym, ap, ◌∙◌, subst, Bor}
 use Rattle.acg_base.specs.declared.status.Status.TheVariants as status
-use Rattle.acg_driver.specs.Commands.{Command, Perform, asked}
+use Rattle.acg_driver.specs.Commands.{Command, Act, Perform, asked}
 use Rattle.acg_driver.specs.Performed.{IsPerformReply}
-use Rattle.acg_driver.specs.Serving.{IsCommandReply, Spoken, Lacks, Performs}
+use Rattle.acg_driver.specs.Serving.{IsCommandReply, Spoken, Lacks, missing_file, Names, Performs}
+use Rattle.acg_driver.proofs.FaultNames.{act-named}
 use Rattle.acg_driver.proofs.Performed.{command-performs}
 use Rattle.acg_driver.proofs.serving.serve.Goals as goal
 
@@ -34,3 +35,23 @@ returns-in-Some-Perform-clause-performs g c = λ other is_other told quiet free.
     ]
     in
     subst (λ command. Performs contents command result) (sym same) (command-performs contents (Perform number name input) said.0 result lacks reply)
+
+pub returns-in-Some-Act-clause-named : goal.returns-in-Some-Act-clause-named
+returns-in-Some-Act-clause-named g c = λ sure other is_other.
+    let contents = g.S.Store.contents c.args.store.now in
+    let name = c.in-Some-Act.name.now in
+    let is = c.in-Some-Act.ensures ∙ ap (λ r. Some (asked r)) c.in-Some-Act.field-0-is in
+    let both = sym is_other ∙ is in
+    let same : other ≡ Act name = cc in
+    subst (λ command. Names g.K.Sink.written g.K.Sink.tells (missing_file contents command) c.args.out.now c.act.new.out c.act.result) (sym same)
+    (act-named (g.S.Store.tells c.args.store.now) contents name c.args.out.now c.act.new.out c.act.result c.act.ensures.spoken)
+
+pub returns-in-Some-Perform-clause-named : goal.returns-in-Some-Perform-clause-named
+returns-in-Some-Perform-clause-named g c = λ sure other is_other.
+    let contents = g.S.Store.contents c.args.store.now in
+    let input = option_map {T = Bor (List ℕ)} (λ file. file.now) c.in-Some-Perform.input in
+    let is = c.in-Some-Perform.ensures ∙ ap (λ r. Some (asked r)) c.in-Some-Perform.field-0-is in
+    let both = sym is_other ∙ is in
+    let same : other ≡ Perform c.in-Some-Perform.number c.in-Some-Perform.name.now input = cc in
+    subst (λ command. Names g.K.Sink.written g.K.Sink.tells (missing_file contents command) c.args.out.now c.perform_file.new.out c.perform_file.result) (sym same)
+    (c.perform_file.ensures.named sure)
