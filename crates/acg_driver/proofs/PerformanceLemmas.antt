@@ -150,6 +150,6 @@ pub running-performed : (n : ℕ) (g : Listed) (input : List ℤ) (count : ℕ) 
     → IsPerformed n g input (message_lines s.world.output ++ running_line) status.Running
 running-performed n g input count s reached all going = (reached.steps, s, reached.scheduled, reached.counted ∙ all, λ z ended. going (z, ended), refl)
 
-pub broken-performed : (n : ℕ) (g : Listed) (input : List ℤ) (count : ℕ) (s : State) → IsReached n g input count s
+pub broken-performed : (n : ℕ) (g : Listed) (input : List ℤ) (count : ℕ) (s : State) → IsReached n g input count s → count < step_limit
     → IsPerformed n g input (message_lines s.world.output ++ memory_line) status.Memory
-broken-performed n g input count s reached = (reached.steps, s, reached.scheduled, refl)
+broken-performed n g input count s reached within = (reached.steps, s, reached.scheduled, omega (arith, reached.counted, within), refl)

@@ -47,11 +47,11 @@ IsRunning n g input printed =
     × IsScheduled n (action_of g) input steps s × (length steps ≡ step_limit) × ((z : End) → s.tree ≡ Ended z → ⊥)
     × (printed ≡ message_lines s.world.output ++ running_line)
 
--- memory ran out behind the messages of some of its steps
+-- memory ran out behind the messages of some of its steps, before the limit
 abbrev pub IsBrokenOff : ℕ → Listed → (input : List ℤ) (printed : List ℕ) → Type 0
 IsBrokenOff n g input printed =
     (steps : List Step) × (s : State)
-    × IsScheduled n (action_of g) input steps s × (printed ≡ message_lines s.world.output ++ memory_line)
+    × IsScheduled n (action_of g) input steps s × (length steps < step_limit) × (printed ≡ message_lines s.world.output ++ memory_line)
 
 abbrev pub IsPerformed : ℕ → Listed → (input : List ℤ) (printed : List ℕ) → Status → Type 0
 IsPerformed n g input printed status.Done = HasOutcome n g input printed status.Done

@@ -12,7 +12,7 @@ returns-in-Err g c =
     let input = records c.args.input.now in
     let within : length c.args.input.now ≤ input_limit = omega arith in
     answered-spoken {IsSaid = IsInputAnswer c.args.number graph c.args.input.now} c.answer-in-Err.ensures
-    (within, broken-performed c.args.number graph input 0 (start input) (reached-start c.args.number graph input (start input) refl))
+    (within, broken-performed c.args.number graph input 0 (start input) (reached-start c.args.number graph input (start input) refl) (omega arith))
 
 pub returns-in-Ok : goal.returns-in-Ok
 returns-in-Ok g c =

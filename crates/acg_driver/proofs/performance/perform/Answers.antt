@@ -1,4 +1,4 @@
-use Rattle.std.proofs.Common.{◌≡◌, refl, sym, subst}
+use Rattle.std.proofs.Common.{arith, ◌≡◌, refl, sym, subst}
 use Rattle.action_terms.specs.Performances.{start}
 use Rattle.action_sos.specs.Performers.{Performing}
 use Rattle.acg_driver.specs.Performed.{IsPerformed}
@@ -12,7 +12,7 @@ returns-in-Err g c =
     let graph = c.args.graph.now in
     let input = c.args.input.now in
     answered-spoken {IsSaid = IsPerformed c.args.number graph input} c.answer.ensures
-    (broken-performed c.args.number graph input 0 (start input) (reached-start c.args.number graph input (start input) refl))
+    (broken-performed c.args.number graph input 0 (start input) (reached-start c.args.number graph input (start input) refl) (omega arith))
 
 pub returns-in-Ok : goal.returns-in-Ok
 returns-in-Ok g c =

@@ -26,7 +26,7 @@ returns-in_default g c =
     let start = c.args.performer.now in
     let before = c.loop-turn.invariant in
     answered-behind {IsSaid = IsPerformed c.args.number start.graph start.state.world.input} (message_lines c.loop-turn.performer.state.world.output) before.telling before.still before.wrote c.answer.ensures
-    (broken-performed c.args.number start.graph start.state.world.input c.loop-turn._turn c.loop-turn.performer.state before.reached)
+    (broken-performed c.args.number start.graph start.state.world.input c.loop-turn._turn c.loop-turn.performer.state before.reached (omega arith))
 
 pub returns-in-Ended : goal.returns-in-Ended
 returns-in-Ended g c =
