@@ -1,8 +1,11 @@
 //! Programs whose ends are known from outside, and calls at concrete types.
 
+mod operations;
+
 use crate::{Cause, Image, Input, Machine, Run, Segment, Step};
 use acg_base::ListSink;
-use rv_code::{Inst, OpOp, Reg, encode};
+use operations::{IMMEDIATES, OPERATIONS, SHIFTS};
+use rv_code::{Inst, Reg, encode};
 use std::alloc::Global;
 use std::process::Abort;
 use std::test::Fail;
@@ -126,15 +129,9 @@ fn bytes_are_read_and_sent(rt: HostRuntime) -> Result<(), Fail> {
     Ok(())
 }
 
-// Loads two numbers from 131072, does an operation on them, and sends the 8 bytes of its result.
-fn operation_words(op: OpOp) -> Result<[u32; 11], Fail> {
-    let operation = encode(Inst::Op {
-        op,
-        rd: Reg(28),
-        rs1: Reg(5),
-        rs2: Reg(6),
-    })
-    .ok_or("no word")?;
+// Loads two numbers from 131072 into x5 and x6, does an operation on them, and sends the 8 bytes that it leaves in x28.
+fn operation_words(operation: Inst) -> Result<[u32; 11], Fail> {
+    let operation = encode(operation).ok_or("no word")?;
     Ok([
         0x0002_03b7, // lui x7, 32
         0x0003_b283, // ld x5, 0(x7)
@@ -150,49 +147,17 @@ fn operation_words(op: OpOp) -> Result<[u32; 11], Fail> {
     ])
 }
 
-// Operations, the two numbers that they take, and their results as qemu-riscv64 leaves them.
-#[rattlefmt::skip]
-const OPERATIONS: [(OpOp, u64, u64, u64); 28] = [
-    (OpOp::Sub, 9223372041149743103, 8069, 9223372041149735034),
-    (OpOp::Sll, 18446744073709551615, 2670587, 17870283321406128128),
-    (OpOp::Slt, 18446744073709551615, 2147483647, 1),
-    (OpOp::Sltu, 11498632633525439217, 18446744073709551614, 1),
-    (OpOp::Srl, 4611058488313333545, 18446744073709541458, 17589792207005),
-    (OpOp::Sra, 9223372036854775807, 18446744073709526769, 16383),
-    (OpOp::Sra, 15734635853428636406, 14622402977227876325, 18446744073689818431),
-    (OpOp::Addw, 7459225349264336819, 9223372036854775807, 981297074),
-    (OpOp::Sllw, 9223372036854775807, 18446744073709551615, 18446744071562067968),
-    (OpOp::Srlw, 14660242986905331, 4252120373264779847, 27204701),
-    (OpOp::Sraw, 7326554193, 386546773634966, 18446744073709551314),
-    (OpOp::Mul, 18446744073709551615, 245632045105187057, 18201112028604364559),
-    (OpOp::Mulh, 2147483648, 9223372036854775808, 18446744072635809792),
-    (OpOp::Mulh, 18446744073709538023, 9223372039002259456, 6796),
-    (OpOp::Mulhsu, 9223372036854775808, 8651082635469187601, 14121202755974957815),
-    (OpOp::Mulhu, 18446744073709551615, 18446744073709551615, 18446744073709551614),
-    (OpOp::Div, 4294967295, 18446744073709551615, 18446744069414584321),
-    (OpOp::Div, 9223372036854775807, 0, 18446744073709551615),
-    (OpOp::Divu, 4584946797315431044, 268331427709818, 17086),
-    (OpOp::Divu, 9223372036854775808, 0, 18446744073709551615),
-    (OpOp::Rem, 11528186684967730995, 19584, 18446744073709540275),
-    (OpOp::Remu, 4492087967901459862, 180005613, 132969661),
-    (OpOp::Mulw, 18446744073709551615, 16167, 18446744073709535449),
-    (OpOp::Divw, 18446744073709551615, 18446744073709551615, 1),
-    (OpOp::Divuw, 4165193545211, 18446744071562067968, 1),
-    (OpOp::Remw, 2147483648, 9223372036854775808, 18446744071562067968),
-    (OpOp::Remw, 9223372036854775808, 0, 0),
-    (OpOp::Remuw, 18446744073709551614, 9355799227830434938, 441981998),
-];
-
-// Checks that a machine that does the operation sends the 8 bytes of its result.
+// Checks that a machine that does the operation on the two numbers sends the 8 bytes of its result.
 fn check_operation(
     rt: &impl Abort,
     alloc: Global,
-    operation: (OpOp, u64, u64, u64),
+    operation: Inst,
+    numbers: (u64, u64),
+    left: u64,
 ) -> Result<(), Fail> {
-    let (op, a, b, result) = operation;
-    let mut data = Vec::from_slice(alloc, &u64::to_le_bytes(a))?;
-    data.extend_from_slice(&u64::to_le_bytes(b))?;
-    let image = data_image(rt, alloc, &operation_words(op)?, data.as_slice())?;
+    let mut data = Vec::from_slice(alloc, &u64::to_le_bytes(numbers.0))?;
+    data.extend_from_slice(&u64::to_le_bytes(numbers.1))?;
+    let image = data_image(rt, alloc, &operation_words(operation)?, data.as_slice())?;
     let mut machine = Machine::load(alloc, image).ok().ok_or("memory")?;
     let mut input = Input { bytes: b"", at: 0 };
     let mut sink = ListSink::new(alloc, 8, Vec::new(alloc))
@@ -203,14 +168,48 @@ fn check_operation(
         pc: 65576,
     };
     assert_eq!(rt; machine.run(100, &mut input, &mut sink), end);
-    assert_eq!(rt; sink.bytes(), u64::to_le_bytes(result).as_slice());
+    assert_eq!(rt; sink.bytes(), u64::to_le_bytes(left).as_slice());
     Ok(())
 }
 
 #[test]
 fn operations_give_what_a_processor_gives(rt: HostRuntime) -> Result<(), Fail> {
-    for operation in OPERATIONS {
-        check_operation(&rt, rt.alloc(), operation)?;
+    for (op, a, b, result) in &OPERATIONS {
+        let operation = Inst::Op {
+            op: *op,
+            rd: Reg(28),
+            rs1: Reg(5),
+            rs2: Reg(6),
+        };
+        check_operation(&rt, rt.alloc(), operation, (*a, *b), *result)?;
+    }
+    Ok(())
+}
+
+#[test]
+fn immediates_give_what_a_processor_gives(rt: HostRuntime) -> Result<(), Fail> {
+    for (op, a, imm, result) in &IMMEDIATES {
+        let operation = Inst::OpImm {
+            op: *op,
+            rd: Reg(28),
+            rs1: Reg(5),
+            imm: *imm,
+        };
+        check_operation(&rt, rt.alloc(), operation, (*a, 0), *result)?;
+    }
+    Ok(())
+}
+
+#[test]
+fn shifts_give_what_a_processor_gives(rt: HostRuntime) -> Result<(), Fail> {
+    for (op, a, amount, result) in &SHIFTS {
+        let operation = Inst::Shift {
+            op: *op,
+            rd: Reg(28),
+            rs1: Reg(5),
+            amount: *amount,
+        };
+        check_operation(&rt, rt.alloc(), operation, (*a, 0), *result)?;
     }
     Ok(())
 }
