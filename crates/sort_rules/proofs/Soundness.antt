@@ -1,0 +1,33 @@
+-- The laws of admissible tables.
+use Rattle.std.proofs.Common.{List, refl, ℕ}
+use Rattle.action_terms.specs.Actions.{Action, node_at}
+use Rattle.sort_rules.specs.Admissible.{IsAdmissible, IsLeast}
+use Rattle.sort_rules.specs.Soundness.{EndsInShape, NodesRunInSort, StatesFit, UnionsComplete}
+use Rattle.sort_rules.specs.Tables.{IsUnder, MarkedTable}
+use Rattle.sort_rules.proofs.OperandsYield.{yielders_block}
+use Rattle.sort_rules.proofs.Shapes.{completes_in_shape, enters_in_shape, escapes_in_shape, united_completes}
+use Rattle.sort_rules.proofs.SoundStates.{part_fits, stands}
+use Rattle.sort_rules.proofs.SuitedYielders.{node_suited}
+
+pub states_fit : (a : Action) (t : MarkedTable) → IsAdmissible a t → StatesFit a t
+states_fit a t h = λ input steps s part. part_fits a t input steps s h part
+
+pub nodes_run : (a : Action) (t : MarkedTable) → IsAdmissible a t → NodesRunInSort a t
+nodes_run a t h = λ w cells k d b cf en. record {
+  shape = enters_in_shape en (h.clear k);
+  suited = node_suited (stands a t h) cf en (node_at a k) refl;
+  yields = λ y m none. yielders_block (stands a t h) en cf y m none;
+}
+
+pub ends_in_shape : (a : Action) (t : MarkedTable) → IsAdmissible a t → (w : List ℕ) (k : ℕ) → EndsInShape a t w k
+ends_in_shape a t h w k = record {
+  completes = λ d b f. completes_in_shape f (h.clear k);
+  escapes = λ d f. escapes_in_shape f (h.clear k);
+}
+
+pub unions_complete : (a : Action) (t : MarkedTable) → UnionsComplete a t
+unions_complete a t = λ w b b2 x y f g e. united_completes f g e
+
+-- two least tables lie below each other
+pub least-unique : (a : Action) (t u : MarkedTable) → IsLeast a t → IsLeast a u → IsUnder t u
+least-unique a t u h g = h.least u g.admissible

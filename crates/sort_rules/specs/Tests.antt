@@ -1,0 +1,48 @@
+-- Tests of the order of parts, and of the demands at a node.
+use Rattle.std.specs.Prelude.{ℕ, Bool, true, false, ◌&&◌, List, [], ◌∷◌}
+use Rattle.action_terms.specs.Actions.{Action}
+use Rattle.sort_rules.specs.Sets.{Set, is_listed}
+use Rattle.sort_rules.specs.Parts.{Component, Part, Unreached, Listed, Clash, same_token}
+use Rattle.sort_rules.specs.Tables.{MarkedTable}
+use Rattle.sort_rules.specs.Demands.{Demand, ◌⊒◌, demands}
+
+-- each of the first list is in the second
+abbrev pub are_listed : List ℕ → List ℕ → Bool
+are_listed [] ys = true
+are_listed (x ∷ xs) ys = is_listed x ys && are_listed xs ys
+
+-- not the first without the second
+abbrev pub implies : Bool → Bool → Bool
+implies true b = b
+implies false b = true
+
+-- whether a set lies in another
+abbrev pub is_subset : Set → Set → Bool
+is_subset x y = implies x.integer y.integer && (implies x.truth y.truth && (are_listed x.cells y.cells && are_listed x.abstractions y.abstractions))
+
+-- whether a list lies below another
+abbrev pub are_below : List Component → List Component → Bool
+are_below [] [] = true
+are_below (p ∷ ps) (q ∷ qs) = same_token p.token q.token && (is_subset p.set q.set && are_below ps qs)
+are_below _ _ = false
+
+-- whether a part lies below another
+abbrev pub is_below : Part → Part → Bool
+is_below Unreached y = true
+is_below (Listed ps) (Listed qs) = are_below ps qs
+is_below (Listed ps) Clash = true
+is_below Clash Clash = true
+is_below _ _ = false
+
+-- whether a demand is met
+abbrev pub is_met : MarkedTable → Demand → Bool
+is_met t (x ⊒ least) = is_below least (t x)
+
+-- whether all of them are
+abbrev pub are_met : MarkedTable → List Demand → Bool
+are_met t [] = true
+are_met t (d ∷ ds) = is_met t d && are_met t ds
+
+-- whether the demands at node k hold
+abbrev pub holds : Action → MarkedTable → ℕ → Bool
+holds a t k = are_met t (demands a t k)

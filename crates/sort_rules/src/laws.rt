@@ -1,0 +1,36 @@
+//! What is proved of admissible tables, for every action. The functions do nothing: each carries its law as a contract.
+
+ghost use Rattle.std.specs.Prelude.{ℕ, List};
+ghost use Rattle.action_terms.specs.Actions.{Action};
+ghost use Rattle.sort_rules.specs.Tables.{MarkedTable, IsUnder};
+ghost use Rattle.sort_rules.specs.Admissible.{IsAdmissible, IsLeast};
+ghost use Rattle.sort_rules.specs.Soundness.{StatesFit, NodesRunInSort, EndsInShape, UnionsComplete};
+
+/// Every state of every performance over every input fits an admissible table: the data and the
+/// bindings of each part of its acting tree, and what its cells hold, are of the sorts of the table.
+pub fn states_fit()
+    ensures { (a : Action) → (t : MarkedTable) → IsAdmissible a t → StatesFit a t }
+{}
+
+/// A node that is to be performed with what fits has data of the length and bindings of the domain
+/// of its row. Its yielders meet no datum of a wrong sort and miss no place and no token; they yield
+/// nothing only by an unset cell, or by an operation on integers that has no result.
+pub fn nodes_run_in_sort()
+    ensures { (a : Action) → (t : MarkedTable) → IsAdmissible a t → NodesRunInSort a t }
+{}
+
+/// What fits the ends of a node has the lengths and the domain of its row.
+pub fn ends_are_in_shape()
+    ensures { (a : Action) → (t : MarkedTable) → IsAdmissible a t → (w : List ℕ) → (k : ℕ) → EndsInShape a t w k }
+{}
+
+/// Bindings that fit parts whose union is no clash are disjoint. In an admissible table no part is a
+/// clash, so `and`, `and then` and `then` never fail by a token that both of their parts bind.
+pub fn unions_complete()
+    ensures { (a : Action) → (t : MarkedTable) → UnionsComplete a t }
+{}
+
+/// There is one least table at most: of two, each lies below the other.
+pub fn least_table_is_one()
+    ensures { (a : Action) → (t : MarkedTable) → (u : MarkedTable) → IsLeast a t → IsLeast a u → IsUnder t u }
+{}
