@@ -3,19 +3,26 @@ use Rattle.std.specs.Prelude.{◌≡◌, true, List, [], ◌∷◌, ◌++◌}
 use Rattle.action_terms.specs.Labels.{Label, Wanted, AnAction, serves, under}
 
 mutual
-  -- a node, and the trees under it in the order of the text
-  pub data Tree : Type 0 where
-    tree : Label → Trees → Tree
+  -- a label, and the trees under it in the order of the text
+  pub data TreeOf (L : Type 0) : Type 0 where
+    tree : L → TreesOf L → TreeOf L
 
-  pub data Trees : Type 0 where
-    none : Trees
-    more : Tree → Trees → Trees
+  pub data TreesOf (L : Type 0) : Type 0 where
+    none : TreesOf L
+    more : TreeOf L → TreesOf L → TreesOf L
+
+-- a tree of nodes
+abbrev pub Tree : Type 0
+Tree = TreeOf Label
+
+abbrev pub Trees : Type 0
+Trees = TreesOf Label
 
 abbrev mutual
-  pub preorder : Tree → List Label
+  pub preorder : {L : Type 0} → TreeOf L → List L
   preorder (tree l ts) = l ∷ preorders ts
 
-  pub preorders : Trees → List Label
+  pub preorders : {L : Type 0} → TreesOf L → List L
   preorders none = []
   preorders (more t ts) = preorder t ++ preorders ts
 
