@@ -10,6 +10,3 @@ pub use cause::Cause;
 pub use decoding::decode;
 pub use encoding::encode;
 pub use instruction::{BranchOp, Inst, LoadOp, OpImmOp, OpOp, Reg, ShiftOp, StoreOp, UpperOp};
-
-#[cfg(test)]
-mod tests;

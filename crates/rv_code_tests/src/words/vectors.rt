@@ -2,7 +2,7 @@
 
 use super::Row;
 use super::Row::{Branch, Ebreak, Ecall, Fence, Jal, Jalr, Load, Op, OpImm, Shift, Store, Upper};
-use crate::instruction::{BranchOp, LoadOp, OpImmOp, OpOp, ShiftOp, StoreOp, UpperOp};
+use rv_code::{BranchOp, LoadOp, OpImmOp, OpOp, ShiftOp, StoreOp, UpperOp};
 
 /// Words and their instructions.
 pub static WORDS: [(u32, Row); 314] = [

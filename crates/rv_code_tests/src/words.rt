@@ -2,8 +2,9 @@
 
 mod vectors;
 
-use crate::instruction::{BranchOp, Inst, LoadOp, OpImmOp, OpOp, Reg, ShiftOp, StoreOp, UpperOp};
-use crate::{decode, encode};
+use rv_code::{
+    BranchOp, Inst, LoadOp, OpImmOp, OpOp, Reg, ShiftOp, StoreOp, UpperOp, decode, encode,
+};
 use vectors::{UNDEFINED, WORDS};
 
 /// An instruction with the numbers of its registers.
