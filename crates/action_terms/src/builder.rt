@@ -128,6 +128,3 @@ impl<'a> GraphBuilder<'a> {
         self.expected.is_met()
     }
 }
-
-#[cfg(test)]
-mod tests;

@@ -10,14 +10,10 @@ mod names;
 mod notes;
 mod preorder;
 mod print_jobs;
-#[cfg(test)]
-mod print_tests;
 pub mod printing;
 mod reading;
 mod spacing;
 mod table;
-#[cfg(test)]
-mod tests;
 mod token_class;
 mod unfinished;
 mod yielder_jobs;

@@ -3,7 +3,5 @@
 
 pub mod bytes;
 pub mod lex;
-#[cfg(test)]
-mod tests;
 pub mod token;
 pub mod token_list;

@@ -8,8 +8,6 @@ mod factor;
 mod generation;
 mod labels;
 mod node;
-#[cfg(test)]
-mod tests;
 pub mod work;
 
 pub use factor::instructions_per_step;

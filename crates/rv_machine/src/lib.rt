@@ -14,6 +14,3 @@ pub use image::{Image, Segment};
 pub use input::Input;
 pub use machine::Machine;
 pub use rv_code::Cause;
-
-#[cfg(test)]
-mod tests;

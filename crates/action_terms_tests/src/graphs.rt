@@ -1,9 +1,10 @@
 //! Texts as pushes, and the graphs that they are.
 
-use crate::builder::{GraphBuilder, NODE_LIMIT};
-use crate::graph::{Graph, GraphError, Node, YNode};
-use crate::kinds::{Kind, Sort, YKind};
-use crate::pushed::{NewAction, NewYielder, Pushed};
+use acg_base::LIMIT_NODES;
+use action_terms::pushed::Pushed;
+use action_terms::{
+    Graph, GraphBuilder, GraphError, Kind, NewAction, NewYielder, Node, Sort, YKind, YNode,
+};
 use bumpalo::Bump;
 use std::process::Abort;
 use std::test::Fail;
@@ -242,7 +243,7 @@ fn keeps_to_texts(rt: HostRuntime) -> Result<(), Fail> {
 fn holds_the_most_nodes(rt: HostRuntime) -> Result<(), Fail> {
     let arena = Bump::new(rt.alloc());
     let mut builder = built(&rt, &arena, &[])?;
-    for _ in 1..NODE_LIMIT {
+    for _ in 1..LIMIT_NODES {
         let _number = push(&mut builder, act(Kind::Furthermore, 0, b""))?;
     }
     assert_eq!(rt; push(&mut builder, act(Kind::Complete, 0, b"")), Ok(65535));

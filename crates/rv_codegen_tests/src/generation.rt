@@ -1,9 +1,9 @@
 //! The code of an action with a node of each built kind, and the first node of another.
 
-use crate::{first_unbuilt, generate, instructions_per_step};
 use action_terms::pushed::Pushed;
 use action_terms::{Graph, GraphBuilder, Kind, NewAction, NewYielder, YKind};
 use bumpalo::Bump;
+use rv_codegen::{first_unbuilt, generate, instructions_per_step};
 use std::alloc::Global;
 use std::process::Abort;
 use std::test::Fail;

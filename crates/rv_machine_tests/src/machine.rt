@@ -2,10 +2,10 @@
 
 mod operations;
 
-use crate::{Cause, Image, Input, Machine, Run, Segment, Step};
 use acg_base::ListSink;
 use operations::{IMMEDIATES, OPERATIONS, SHIFTS};
 use rv_code::{Inst, Reg, encode};
+use rv_machine::{Cause, Image, Input, Machine, Run, Segment, Step};
 use std::alloc::Global;
 use std::process::Abort;
 use std::test::Fail;

@@ -1,8 +1,8 @@
 //! Texts and their graphs, as the rules of the notation give them.
-use crate::action_reader::read_action;
-use crate::errors::TextError;
-use crate::printing::print_action;
 use action_terms::kinds::{Kind, Sort, YKind};
+use action_text::action_reader::read_action;
+use action_text::errors::TextError;
+use action_text::printing::print_action;
 use bumpalo::Bump;
 use std::test::Fail;
 

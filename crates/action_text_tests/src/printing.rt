@@ -1,9 +1,9 @@
 //! Graphs, their canonical texts, and the graphs of these.
-use crate::action_reader::read_action;
-use crate::printing::print_action;
 use action_terms::kinds::{Kind, YKind};
 use action_terms::pushed::{NewAction, NewYielder};
 use action_terms::{Graph, GraphBuilder};
+use action_text::action_reader::read_action;
+use action_text::printing::print_action;
 use bumpalo::Bump;
 use std::alloc::Global;
 use std::process::Abort;

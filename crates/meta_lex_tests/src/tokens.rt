@@ -1,7 +1,7 @@
 //! Texts and their tokens, as the rules for tokens give them.
-use crate::lex::{LexError, tokens};
-use crate::token::{Token, TokenKind};
 use bumpalo::Bump;
+use meta_lex::lex::{LexError, tokens};
+use meta_lex::token::{Token, TokenKind};
 use std::process::Abort;
 use std::test::Fail;
 
