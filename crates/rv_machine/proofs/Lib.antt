@@ -2,6 +2,9 @@ pub mod GrowsLemmas
 pub mod IntegersLemmas
 pub mod MemoryLemmas
 pub mod NumbersLemmas
+pub mod QuietEnds
+pub mod RunEnds
 pub mod RunsLemmas
 pub mod SentLaws
+pub mod SilentLaws
 pub mod StepsLemmas

@@ -117,6 +117,27 @@ pub run-traps : (n b : ℕ) (m : MachineValue) (i : List ℕ) (k : MachineValue)
 run-traps n b m i k j cause r s h =
     λ output. run-end n b (state_of m i output) _ _ (trapped-end cause) h (r output) (s (output ++ sent_in n m i))
 
+run-then : (n p : ℕ) (s t : State) → run n s ≡ Ran t → run (n + p) s ≡ run p t
+unfolding run
+run-then zero p s t e = let same : s ≡ t = cc in let sum : zero + p ≡ p = omega arith in rw (sum, same) refl
+run-then (suc n) p s t e =
+    let sum : suc n + p ≡ suc (n + p) = omega arith in
+    rw sum (after-ran (step s) t (run p t) (run n) (run (n + p)) (λ u h. run-then n p u t h) e)
+
+-- a run behind another sends what it sends
+pub sent_in-then : (n p : ℕ) (m : MachineValue) (i : List ℕ) (k : MachineValue) (j : List ℕ) (l : MachineValue) (q : List ℕ) →
+    Runs n m i k j → Runs p k j l q → sent_in (n + p) m i ≡ sent_in n m i ++ sent_in p k j
+unfolding sent_in
+sent_in-then n p m i k j l q r s =
+    let both = run-then n p (state_of m i []) _ (r []) ∙ s (sent_in n m i) in
+    ap (λ t. t.output) (last-run (n + p) (state_of m i []) _ both)
+
+-- a run behind another
+pub runs-then : (n p : ℕ) (m : MachineValue) (i : List ℕ) (k : MachineValue) (j : List ℕ) (l : MachineValue) (q : List ℕ) →
+    Runs n m i k j → Runs p k j l q → Runs (n + p) m i l q
+runs-then n p m i k j l q r s =
+    λ output. rw (sent_in-then n p m i k j l q r s, ← append_assoc) (run-then n p (state_of m i output) _ (r output) ∙ s (output ++ sent_in n m i))
+
 -- ---- the count
 
 pub counted-none : (m : MachineValue) → IsCounted 0 m m
@@ -125,3 +146,7 @@ counted-none m = grind (arith, nat_tests)
 -- one more instruction is counted
 pub counted-more : (n : ℕ) (m k l : MachineValue) → IsCounted n m k → l.taken ≡ counted k.taken → IsCounted (n + 1) m l
 counted-more n m k l e f = grind (arith, nat_tests)
+
+-- the instructions of a run behind another are counted
+pub counted-then : (n p : ℕ) (m k l : MachineValue) → IsCounted n m k → IsCounted p k l → IsCounted (n + p) m l
+counted-then n p m k l e f = grind (arith, nat_tests)

@@ -1,12 +1,13 @@
 -- One step: what it sends, and where it leads.
-use Rattle.std.proofs.Common.{◌≡◌, ℕ, ◌+◌, min, Bool, true, false, nat_eq, List, [], length, take, drop, Option, Some, None, Ok, refl, sym, ap, ◌∙◌, arith, append-nil, option_map, if◌then◌else◌}
+use Rattle.std.proofs.Common.{◌≡◌, ℕ, zero, suc, ◌+◌, ◌<◌, ◌≤◌, min, Bool, true, false, nat_eq, List, [], ◌∷◌, length, take, drop, Option, Some, None, Ok, refl, sym, ap, ◌∙◌, arith, append-nil, option_map, if◌then◌else◌}
 use Rattle.std.proofs.lemmas.Bool.Decides.{nat_tests}
 use Rattle.std.proofs.lemmas.List.{drop-drop}
 use Rattle.rv_code.specs.Arithmetic.{wrap}
-use Rattle.rv_code.specs.Machine.{Segment, State, Ran, with_register, holder, read_bytes, written_in, sets, receives, execute, step}
+use Rattle.rv_code.specs.Machine.{Segment, State, Ran, with_register, holder, read_bytes, written_in, sets, receives, sends, execute, step}
 use Rattle.rv_code.specs.declared.instruction.Inst.{Inst}
+use Rattle.rv_machine.proofs.SilentLaws.{receives-silent}
 use Rattle.rv_machine.specs.Machines.{MachineValue, InputValue, left, state_of, output_behind, sent, Steps, StepSends}
-use Rattle.rv_machine.specs.Effects.{Does, Fetches, AtReceive, AtSend}
+use Rattle.rv_machine.specs.Effects.{Does, Fetches, AtReceive, AtSend, IsSend}
 
 not-zero : (n : ℕ) → (n ≡ 0 → ⊥) → nat_eq n 0 ≡ false
 not-zero n h = grind (arith, nat_tests)
@@ -29,12 +30,6 @@ plain-steps old new inst input f d =
     silent-steps old new input input (plain-silent old new inst f d) (λ output. rw (f input output, d.0 input output) refl)
 
 -- ---- the call 63
-
-receives-silent : (s : State) (address size : ℕ) (skip : Bool) (place : Option ℕ) → s.output ≡ [] →
-    output_behind (if skip then sets s 10 0 else receives s address size place) ≡ []
-receives-silent s address size true place e = e
-receives-silent s address size false None e = refl
-receives-silent s address size false (Some i) e = e
 
 pub receive-silent : (machine : MachineValue) (address size : ℕ) → AtReceive machine address size → sent machine ≡ []
 unfolding sent
@@ -81,12 +76,6 @@ pub send-none-steps : (old new : MachineValue) (address size : ℕ) (input : Lis
 send-none-steps old new address size input h z n =
     silent-steps old new input input (send-none old address size h z) (λ output. rw (h.next input output, z, n) refl)
 
-pub send-some-steps : (old new : MachineValue) (address size : ℕ) (input bytes : List ℕ) → AtSend old address size → (size ≡ 0 → ⊥) →
-    Some bytes ≡ read_bytes old.segments 4 address size →
-    new ≡ record old { pc = wrap (old.pc + 4); registers = with_register old.registers 10 size } → Steps old input new input
-send-some-steps old new address size input bytes h z e n =
-    λ output. rw (h.next input output, not-zero size z, send-some old address size bytes h z e, ← e, n) refl
-
 pub send-some-sends : (machine : MachineValue) (address size : ℕ) (input bytes : List ℕ) → AtSend machine address size → (size ≡ 0 → ⊥) →
     Some bytes ≡ read_bytes machine.segments 4 address size → StepSends machine input
 send-some-sends machine address size input bytes h z e =
@@ -97,3 +86,35 @@ pub send-some-not_empty : (machine : MachineValue) (address size : ℕ) (bytes :
 send-some-not_empty machine address size bytes h z e l n =
     let empty : bytes ≡ [] = sym (send-some machine address size bytes h z e) ∙ n in
     z (sym l ∙ ap length empty)
+
+sends-unread : (none : Bool) (s : State) (size : ℕ) → s.output ≡ [] → output_behind (if none then sets s 10 0 else sends s size None) ≡ []
+sends-unread true s size e = e
+sends-unread false s size e = refl
+
+-- a call 64 whose bytes can't be read sends nothing
+pub send-unread : (machine : MachineValue) (address size : ℕ) → AtSend machine address size →
+    None ≡ read_bytes machine.segments 4 address size → sent machine ≡ []
+unfolding sent
+send-unread machine address size h e = rw (h.next [] [], ← e) (sends-unread (nat_eq size 0) (state_of machine [] []) size refl)
+
+no-bytes : (bytes : List ℕ) → length bytes ≡ 0 → bytes ≡ []
+no-bytes [] h = refl
+no-bytes (b ∷ bytes) h = absurd (omega (arith, h))
+
+-- any other call 64 to the output sends those bytes, of which there may be none
+pub send-read : (machine : MachineValue) (address size : ℕ) (bytes : List ℕ) → AtSend machine address size →
+    Some bytes ≡ read_bytes machine.segments 4 address size → length bytes ≡ size → sent machine ≡ bytes
+send-read machine address zero bytes h e l = send-none machine address zero h refl ∙ sym (no-bytes bytes l)
+send-read machine address (suc size) bytes h e l = send-some machine address (suc size) bytes h (λ z. cc) e
+
+-- ---- an instruction that sends
+
+pub is-send-not_empty : (machine : MachineValue) (address size : ℕ) → IsSend machine address size → sent machine ≡ [] → ⊥
+is-send-not_empty machine address size h = send-some-not_empty machine address size h.bytes h.at h.some h.read h.whole
+
+pub is-send-sends : (machine : MachineValue) (address size : ℕ) (input : List ℕ) → IsSend machine address size → StepSends machine input
+is-send-sends machine address size input h = send-some-sends machine address size input h.bytes h.at h.some h.read
+
+-- a count that doesn't fall and didn't grow
+pub settled : (old new : ℕ) → old ≤ new → (old < new → ⊥) → new ≡ old
+settled old new h k = omega (arith, k)

@@ -1,3 +1,3 @@
 pub mod Machines
 pub mod Effects
-pub mod Performing
+pub mod Stepping

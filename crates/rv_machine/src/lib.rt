@@ -9,7 +9,7 @@ mod input;
 mod machine;
 mod registers;
 
-pub use answers::{Run, Step};
+pub use answers::{Quiet, QuietEnd, Run, Step};
 pub use image::{Image, Segment};
 pub use input::Input;
 pub use machine::Machine;

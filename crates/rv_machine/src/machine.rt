@@ -1,11 +1,11 @@
 //! The machine.
 
-use crate::answers::{Run, Step};
+use crate::answers::{Quiet, QuietEnd, Run, Step, Turn};
 use crate::block::Block;
 use crate::image::Image;
 use crate::input::Input;
 use crate::{arithmetic, block, registers};
-use acg_base::{Memory, Sink};
+use acg_base::{Memory, Sink, SinkError};
 use rv_code::{BranchOp, Cause, Inst, LoadOp, Reg, StoreOp, decode};
 use std::alloc::Global;
 use std::marker::Model;
@@ -35,16 +35,17 @@ impl Model for Machine {
 }
 
 impl Machine {
-    ghost use Rattle.std.specs.Prelude.{◌≡◌, ◌≢◌, ℕ, ◌+◌, ◌-◌, ◌%◌, ◌≤◌, min, nat_eq, if◌then◌else◌, IsTrue, IfSome, IfNone, option_map, take, length, IfOk, IfErr, OnOk, OnErr, List, [], ◌++◌, Some, None};
-    ghost use Rattle.acg_base.specs.Outside.{Rose, counted, GainsFrontOf};
+    ghost use Rattle.std.specs.Prelude.{◌≡◌, ◌≢◌, ℕ, ◌+◌, ◌-◌, ◌%◌, ◌≤◌, ◌&&◌, min, nat_eq, if◌then◌else◌, IfSome, IfNone, option_map, take, length, IfOk, IfErr, OnOk, OnErr, List, [], Some, None};
+    ghost use Rattle.std.specs.Bool.{OnTrue, OnFalse};
+    ghost use Rattle.acg_base.specs.Outside.{counted};
     ghost use Rattle.rv_code.specs.Arithmetic.{wrap, unsigned, load_size, extended, store_size};
     ghost use Rattle.rv_code.specs.Bytes.{bytes_of};
     ghost use Rattle.rv_code.specs.Machine.{register, with_register, read_bytes, write_bytes, written_in, holder, jumps, loads, stores, execute, step, Ran, Trapped};
     ghost use Rattle.rv_code.specs.Images.{started};
     ghost use Rattle.rv_code.specs.declared.cause.Cause.{Cause as CauseValue};
-    ghost use Rattle.rv_machine.specs.Machines.{left, state_of, loaded_machine, sent, sent_in, Steps, StepExits, StepTraps, StepSends, Runs, RunsBelow, IsCounted, RunExits, RunTraps};
-    ghost use Rattle.rv_machine.specs.Effects.{Does, Fetches, AtCall, AtReceive, AtSend, AmountFits};
-    ghost use Rattle.rv_machine.specs.Performing.{Performs};
+    ghost use Rattle.rv_machine.specs.Machines.{left, state_of, loaded_machine, sent, Steps, StepTraps};
+    ghost use Rattle.rv_machine.specs.Effects.{Does, Fetches, AtCall, AtReceive, AtSend, IsSend, AmountFits, Turns};
+    ghost use Rattle.rv_machine.specs.Stepping.{Stepped, RanWithin, RanQuietly, PassedOver};
 
     /// The machine before the first instruction of an image. Takes all memory of the run.
     pub fn load(alloc: Global, image: Image) -> Result<Machine, Memory>
@@ -215,13 +216,6 @@ impl Machine {
         Ok(())
     }
 
-    // What a step answers where it traps.
-    fn trap(&self, cause: Cause) -> Step
-        ensures { result ≡ Step.Trapped cause self.now.pc }
-    {
-        Step::Trapped { cause, pc: self.pc }
-    }
-
     // Takes the next `size` bytes of the input, or as many as are left, to an address, and answers how many.
     fn take_input(&mut self, address: u64, size: u64, input: &mut Input<'_>) -> Option<u64>
         ensures count { IfSome result (λ count. count ≡ min size (length (left input.old))) }
@@ -266,62 +260,121 @@ impl Machine {
         }
     }
 
-    // Does the call 64.
-    fn send<K: Sink>(&mut self, address: u64, size: u64, input: &mut Input<'_>, out: &mut K) -> Step
+    // Does the call 64, but doesn't send.
+    fn send(&mut self, address: u64, size: u64, input: &mut Input<'_>) -> Turn
         requires { AtSend self.old address size }
-        ensures { Performs K.written K.faults K.tells result self.old input.old out.old self.new input.new out.new }
+        ensures { Turns result self.old input.old self.new input.new }
     {
         if size == 0 {
             self.set(Reg(10), 0);
-            return Step::Ran;
+            return Turn::Ran;
         }
-        let written = match self.readable(address, size) {
-            None => return self.trap(Cause::Buffer),
-            Some(bytes) => out.write(bytes),
-        };
-        match written {
-            Err(_) => Step::SinkFault,
-            Ok(()) => {
-                self.set(Reg(10), size);
-                Step::Ran
-            }
+        match self.readable(address, size) {
+            None => Turn::Trapped {
+                cause: Cause::Buffer,
+            },
+            Some(_) => Turn::Sends { address, size },
         }
     }
 
-    // Does a call.
-    fn call<K: Sink>(&mut self, input: &mut Input<'_>, out: &mut K) -> Step
+    // Does a call, but doesn't send.
+    fn call(&mut self, input: &mut Input<'_>) -> Turn
         requires { AtCall self.old }
-        ensures { Performs K.written K.faults K.tells result self.old input.old out.old self.new input.new out.new }
+        ensures { Turns result self.old input.old self.new input.new }
     {
         let number = self.registers[17];
         let first = self.registers[10];
         let address = self.registers[11];
         let size = self.registers[12];
         match (number, first) {
-            (93, _) => Step::Exited {
+            (93, _) => Turn::Exited {
                 code: (first % 256) as u8,
             },
             (63, 0) => match self.receive(address, size, input) {
-                Ok(()) => Step::Ran,
-                Err(cause) => self.trap(cause),
+                Ok(()) => Turn::Ran,
+                Err(cause) => Turn::Trapped { cause },
             },
-            (64, 1) => self.send(address, size, input, out),
-            _ => self.trap(Cause::Call),
+            (64, 1) => self.send(address, size, input),
+            _ => Turn::Trapped { cause: Cause::Call },
         }
     }
 
-    // Does one instruction, and doesn't count it.
-    fn perform<K: Sink>(&mut self, input: &mut Input<'_>, out: &mut K) -> Step
-        ensures { Performs K.written K.faults K.tells result self.old input.old out.old self.new input.new out.new }
+    // Does one instruction that sends nothing, and doesn't count it.
+    fn turn(&mut self, input: &mut Input<'_>) -> Turn
+        ensures { Turns result self.old input.old self.new input.new }
     {
         match self.fetch() {
-            Err(cause) => self.trap(cause),
-            Ok(Inst::Ecall) => self.call(input, out),
+            Err(cause) => Turn::Trapped { cause },
+            Ok(Inst::Ecall) => self.call(input),
             Ok(inst) => match self.execute(inst) {
-                Ok(()) => Step::Ran,
-                Err(cause) => self.trap(cause),
+                Ok(()) => Turn::Ran,
+                Err(cause) => Turn::Trapped { cause },
             },
         }
+    }
+
+    // Counts an instruction that ran.
+    fn count(&mut self)
+        ensures { self.new ≡ record self.old { taken = counted self.old.taken } }
+    {
+        self.taken = self.taken.saturating_add(1);
+    }
+
+    // Lends the bytes that the next instruction sends.
+    fn lent(&self, address: u64, size: u64) -> &[u8]
+        requires { IsSend self.now address size }
+        ensures { result.now ≡ sent self.now }
+    {
+        match self.readable(address, size) {
+            None => unreachable!(),
+            Some(bytes) => bytes,
+        }
+    }
+
+    // Whether a call would be a call 64 to the output.
+    fn calls_send(&self) -> bool
+        ensures { result ≡ (nat_eq (register self.now.registers 17) 64
+            && nat_eq (register self.now.registers 10) 1) }
+    {
+        self.registers[17] == 64 && self.registers[10] == 1
+    }
+
+    // Whether the next instruction is a call 64 to the output.
+    fn is_at_send(&self) -> bool
+        ensures yes { OnTrue result
+            (AtSend self.now (register self.now.registers 11) (register self.now.registers 12)) }
+        ensures no { OnFalse result (sent self.now ≡ []) }
+    {
+        match self.fetch() {
+            Err(_cause) => false,
+            Ok(Inst::Ecall) => self.calls_send(),
+            Ok(_inst) => false,
+        }
+    }
+
+    /// Lends the bytes that the next instruction sends: none, unless it is a call 64 that runs.
+    pub fn sending(&self) -> &[u8]
+        ensures { result.now ≡ sent self.now }
+    {
+        if !self.is_at_send() {
+            return &[];
+        }
+        let address = self.register(Reg(11));
+        let size = self.register(Reg(12));
+        match self.readable(address, size) {
+            None => &[],
+            Some(bytes) => bytes,
+        }
+    }
+
+    /// Does the next instruction, which sends bytes, without a sink: whoever calls takes them from `sending` first.
+    pub fn pass_over(&mut self)
+        requires { sent self.old ≢ [] }
+        ensures { PassedOver self.old self.new }
+    {
+        let size = self.register(Reg(12));
+        self.set(Reg(10), size);
+        self.count();
     }
 
     /// Does one instruction. It takes no memory.
@@ -330,34 +383,24 @@ impl Machine {
     /// and `Trapped`: nothing has changed, so a further call answers the same. `SinkFault`: the sink failed at the
     /// bytes of a call 64 and may have got a front of them; the machine and the input haven't changed.
     pub fn step<K: Sink>(&mut self, input: &mut Input<'_>, out: &mut K) -> Step
-        ensures ran { result ≡ Step.Ran → Steps self.old (left input.old) self.new (left input.new) }
-        ensures exited { (code : ℕ) → result ≡ Step.Exited code → StepExits self.old (left input.old) code }
-        ensures trapped { (cause : CauseValue) (pc : ℕ) → result ≡ Step.Trapped cause pc →
-            StepTraps self.old (left input.old) cause × (pc ≡ self.old.pc) }
-        ensures stays { result ≢ Step.Ran → (self.new ≡ self.old) × (input.new ≡ input.old) }
-        ensures taken { result ≡ Step.Ran → self.new.taken ≡ counted self.old.taken }
-        ensures bytes { input.new.bytes ≡ input.old.bytes }
-
-        // A fault of the sink comes only at an instruction that runs by the definition and sends bytes.
-        ensures fault { result ≡ Step.SinkFault → (sent self.old ≢ []) × StepSends self.old (left input.old) }
-        ensures rose { result ≡ Step.SinkFault → Rose (K.faults out.old) (K.faults out.new) }
-        ensures still { result ≢ Step.SinkFault → K.faults out.new ≡ K.faults out.old }
-        ensures counts { K.faults out.old ≤ K.faults out.new }
-
-        // What the sink gets is what the instruction sends. No other instruction writes to it.
-        ensures untouched { sent self.old ≡ [] → out.new ≡ out.old }
-        ensures idle { result ≢ Step.Ran → result ≢ Step.SinkFault → out.new ≡ out.old }
-        ensures told { result ≡ Step.Ran → IsTrue (K.tells out.old) →
-            K.written out.new ≡ K.written out.old ++ sent self.old }
-        ensures part { result ≡ Step.SinkFault → IsTrue (K.tells out.old) →
-            GainsFrontOf (sent self.old) (K.written out.old) (K.written out.new) }
-        ensures tells_still { K.tells out.new ≡ K.tells out.old }
+        ensures { Stepped K.written K.faults K.tells result
+            self.old input.old out.old self.new input.new out.new }
     {
-        let answer = self.perform(input, out);
-        if let Step::Ran = answer {
-            self.taken = self.taken.saturating_add(1);
+        match self.turn(input) {
+            Turn::Ran => {
+                self.count();
+                Step::Ran
+            }
+            Turn::Exited { code } => Step::Exited { code },
+            Turn::Trapped { cause } => Step::Trapped { cause, pc: self.pc },
+            Turn::Sends { address, size } => match out.write(self.lent(address, size)) {
+                Err(SinkError::Failed) => Step::SinkFault,
+                Ok(()) => {
+                    self.pass_over();
+                    Step::Ran
+                }
+            },
         }
-        answer
     }
 
     /// Does at most `budget` instructions. It takes no memory.
@@ -365,32 +408,8 @@ impl Machine {
     /// `Budget` comes exactly where all of them ran. Otherwise the machine and the input stand before the
     /// instruction that exited, trapped or met a fault of the sink, as `step` leaves them.
     pub fn run<K: Sink>(&mut self, budget: u64, input: &mut Input<'_>, out: &mut K) -> Run
-        ensures budget { result ≡ Run.Budget → Runs budget self.old (left input.old) self.new (left input.new) }
-        ensures exited { (code : ℕ) → result ≡ Run.Exited code → RunExits budget self.old (left input.old) code }
-        ensures trapped { (cause : CauseValue) (pc : ℕ) → result ≡ Run.Trapped cause pc →
-            RunTraps budget self.old (left input.old) cause × (pc ≡ self.new.pc) }
-
-        // Where fewer instructions ran, the machine stands before the one that ended the run.
-        ensures stops { result ≢ Run.Budget →
-            RunsBelow budget self.old (left input.old) self.new (left input.new) }
-        ensures exit { (code : ℕ) → result ≡ Run.Exited code → StepExits self.new (left input.new) code }
-        ensures trap { (cause : CauseValue) (pc : ℕ) → result ≡ Run.Trapped cause pc →
-            StepTraps self.new (left input.new) cause }
-        ensures bytes { input.new.bytes ≡ input.old.bytes }
-        ensures taken { result ≡ Run.Budget → IsCounted budget self.old self.new }
-
-        // A fault of the sink comes only at an instruction that runs by the definition and sends bytes.
-        ensures fault { result ≡ Run.SinkFault → (sent self.new ≢ []) × StepSends self.new (left input.new) }
-        ensures rose { result ≡ Run.SinkFault → Rose (K.faults out.old) (K.faults out.new) }
-        ensures still { result ≢ Run.SinkFault → K.faults out.new ≡ K.faults out.old }
-        ensures counts { K.faults out.old ≤ K.faults out.new }
-
-        // What the sink gets is what the run sends, or a front of it where the sink fails.
-        ensures told { result ≢ Run.SinkFault → IsTrue (K.tells out.old) →
-            K.written out.new ≡ K.written out.old ++ sent_in budget self.old (left input.old) }
-        ensures part { result ≡ Run.SinkFault → IsTrue (K.tells out.old) →
-            GainsFrontOf (sent_in budget self.old (left input.old)) (K.written out.old) (K.written out.new) }
-        ensures tells_still { K.tells out.new ≡ K.tells out.old }
+        ensures { RanWithin K.written K.faults K.tells budget result
+            self.old input.old out.old self.new input.new out.new }
     {
         for _i in 0..budget {
             match self.step(input, out) {
@@ -401,5 +420,25 @@ impl Machine {
             }
         }
         Run::Budget
+    }
+
+    /// Does at most `budget` instructions, up to the first one that sends bytes. It takes no memory.
+    ///
+    /// `Sends` comes where the next instruction is a call 64 that runs and sends at least one byte: `sending` lends
+    /// them, and `pass_over` or `step` does it. The machine and the input stand behind the instructions that ran.
+    pub fn run_quietly(&mut self, budget: u64, input: &mut Input<'_>) -> Quiet
+        ensures { RanQuietly budget result self.old input.old self.new input.new }
+    {
+        for ran in 0..budget {
+            match self.turn(input) {
+                Turn::Ran => self.count(),
+                Turn::Exited { code } => return QuietEnd::Exited { code }.behind(ran),
+                Turn::Trapped { cause } => {
+                    return QuietEnd::Trapped { cause, pc: self.pc }.behind(ran);
+                }
+                Turn::Sends { .. } => return QuietEnd::Sends.behind(ran),
+            }
+        }
+        QuietEnd::Budget.behind(budget)
     }
 }

@@ -5,7 +5,7 @@ mod operations;
 use acg_base::ListSink;
 use operations::{IMMEDIATES, OPERATIONS, SHIFTS};
 use rv_code::{Inst, Reg, encode};
-use rv_machine::{Cause, Image, Input, Machine, Run, Segment, Step};
+use rv_machine::{Cause, Image, Input, Machine, Quiet, QuietEnd, Run, Segment, Step};
 use std::alloc::Global;
 use std::process::Abort;
 use std::test::Fail;
@@ -126,6 +126,29 @@ fn bytes_are_read_and_sent(rt: HostRuntime) -> Result<(), Fail> {
     );
     assert_eq!(rt; machine.taken(), 11);
     assert_eq!(rt; sink.bytes(), b"abc".as_slice());
+    Ok(())
+}
+
+#[test]
+fn a_quiet_run_stops_before_what_it_sends(rt: HostRuntime) -> Result<(), Fail> {
+    let image = data_image(&rt, rt.alloc(), &ECHO, b"")?;
+    let mut machine = Machine::load(rt.alloc(), image).ok().ok_or("memory")?;
+    let mut input = Input {
+        bytes: b"abc",
+        at: 0,
+    };
+    let end = QuietEnd::Sends;
+    assert_eq!(rt; machine.run_quietly(100, &mut input), Quiet { end, ran: 8 });
+    assert_eq!(rt; machine.run_quietly(100, &mut input), Quiet { end, ran: 0 });
+    assert_eq!(rt; machine.sending(), b"abc".as_slice());
+    machine.pass_over();
+    assert_eq!(rt; machine.sending(), b"".as_slice());
+    assert_eq!(rt; machine.taken(), 9);
+    let end = QuietEnd::Budget;
+    assert_eq!(rt; machine.run_quietly(1, &mut input), Quiet { end, ran: 1 });
+    let end = QuietEnd::Exited { code: 0 };
+    assert_eq!(rt; machine.run_quietly(100, &mut input), Quiet { end, ran: 1 });
+    assert_eq!(rt; machine.taken(), 11);
     Ok(())
 }
 

@@ -1,0 +1,142 @@
+-- What a loop of steps has done so far, and how it ends.
+use Rattle.std.proofs.Common.{◌≡◌, ℕ, ◌+◌, ◌<◌, Bool, List, ◌++◌, refl, sym, ◌∙◌, arith, append-nil, append_assoc}
+use Rattle.std.specs.Prelude.{IsTrue}
+use Rattle.rv_code.specs.declared.cause.Cause.{Cause}
+use Rattle.rv_machine.specs.declared.answers.Step.TheVariants as step
+use Rattle.rv_machine.specs.declared.answers.Run.TheVariants as run
+use Rattle.rv_machine.specs.Machines.{MachineValue, InputValue, left, sent_in, Runs, IsCounted}
+use Rattle.rv_machine.specs.Stepping.{Stepped, RanWithin}
+use Rattle.rv_machine.proofs.RunsLemmas.{runs-none, runs-more, sent_in-none, sent_in-more, sent_in-exit, sent_in-trap, run-exits, run-traps, counted-none, counted-more}
+
+-- n instructions led from a machine, its input and its sink to others, without a fault
+pub record RanSo {K : Type 0} (written : K → List ℕ) (faults : K → ℕ) (tells : K → Bool) (n : ℕ) (old : MachineValue) (input : InputValue) (out : K) (new : MachineValue) (rest : InputValue) (gained : K) : Type 0 where
+  pub runs : Runs n old (left input) new (left rest)
+  pub counted : IsCounted n old new
+  pub bytes : rest.bytes ≡ input.bytes
+  pub still : faults gained ≡ faults out
+  pub telling : tells gained ≡ tells out
+  pub wrote : IsTrue (tells out) → written gained ≡ written out ++ sent_in n old (left input)
+
+module _ {K : Type 0} (written : K → List ℕ) (faults : K → ℕ) (tells : K → Bool) (old : MachineValue) (input : InputValue) (out : K) where
+  pub begins : RanSo written faults tells 0 old input out old input out
+  begins = record {
+    runs = runs-none old (left input);
+    counted = counted-none old;
+    bytes = refl;
+    still = refl;
+    telling = refl;
+    wrote = λ _. rw (sent_in-none old (left input)) (sym (append-nil (written out)));
+  }
+
+module _ {K : Type 0} (written : K → List ℕ) (faults : K → ℕ) (tells : K → Bool) (n : ℕ) (old : MachineValue) (input : InputValue) (out : K) (m : MachineValue) (i : InputValue) (k : K) (before : RanSo written faults tells n old input out m i k) where
+  -- one more instruction
+  pub goes-on : (new : MachineValue) (rest : InputValue) (gained : K) → Stepped written faults tells step.Ran m i k new rest gained →
+      RanSo written faults tells (n + 1) old input out new rest gained
+  goes-on new rest gained h =
+      let steps = h.ran refl in
+      record {
+        runs = runs-more n old (left input) m (left i) new (left rest) before.runs steps;
+        counted = counted-more n old m new before.counted (h.taken refl);
+        bytes = h.bytes ∙ before.bytes;
+        still = h.still (λ e. cc) ∙ before.still;
+        telling = h.tells_still ∙ before.telling;
+        wrote = λ told.
+            rw (
+              h.told refl (rw before.telling told),
+              before.wrote told,
+              sent_in-more n old (left input) m (left i) new (left rest) before.runs steps,
+              append_assoc,
+            )
+            refl;
+      }
+
+  -- all instructions ran
+  pub ends-all : RanWithin written faults tells n run.Budget old input out m i k
+  ends-all = record {
+    all = λ _. (before.runs, before.counted);
+    fewer = λ h. absurd (h refl);
+    exited = λ code e. absurd (cc);
+    trapped = λ cause pc e. absurd (cc);
+    fault = λ e. absurd (cc);
+    bytes = before.bytes;
+    told = λ _ told. before.wrote told;
+    part = λ e. absurd (cc);
+    rose = λ e. absurd (cc);
+    still = λ _. before.still;
+    counts = omega (arith, before.still);
+    tells_still = before.telling;
+  }
+
+  -- the next instruction exits
+  pub ends-exit : (most code : ℕ) (new : MachineValue) (rest : InputValue) (gained : K) → n < most →
+      Stepped written faults tells (step.Exited code) m i k new rest gained →
+      RanWithin written faults tells most (run.Exited code) old input out new rest gained
+  ends-exit most code new rest gained h s =
+      let stays = s.stays (λ e. cc) in
+      let exits = s.exited code refl in
+      let idle = s.idle (λ e. cc) (λ e. cc) in
+      let runs = run-exits n most old (left input) m (left i) code before.runs exits h in
+      rw (stays.0, stays.1, idle)
+      (record {
+        all = λ e. absurd (cc);
+        fewer = λ _. (n, (h, (before.runs, before.counted)));
+        exited = λ c e. let same : code ≡ c = cc in rw (← same) (runs, exits);
+        trapped = λ cause pc e. absurd (cc);
+        fault = λ e. absurd (cc);
+        bytes = before.bytes;
+        told = λ _ told. rw (sent_in-exit n most old (left input) m (left i) code before.runs exits h) (before.wrote told);
+        part = λ e. absurd (cc);
+        rose = λ e. absurd (cc);
+        still = λ _. before.still;
+        counts = omega (arith, before.still);
+        tells_still = before.telling;
+      })
+
+  -- the next instruction traps
+  pub ends-trap : (most : ℕ) (cause : Cause) (pc : ℕ) (new : MachineValue) (rest : InputValue) (gained : K) → n < most →
+      Stepped written faults tells (step.Trapped cause pc) m i k new rest gained →
+      RanWithin written faults tells most (run.Trapped cause pc) old input out new rest gained
+  ends-trap most cause pc new rest gained h s =
+      let stays = s.stays (λ e. cc) in
+      let traps = s.trapped cause pc refl in
+      let idle = s.idle (λ e. cc) (λ e. cc) in
+      let runs = run-traps n most old (left input) m (left i) cause before.runs traps.0 h in
+      rw (stays.0, stays.1, idle)
+      (record {
+        all = λ e. absurd (cc);
+        fewer = λ _. (n, (h, (before.runs, before.counted)));
+        exited = λ code e. absurd (cc);
+        trapped = λ c p e. let same : cause ≡ c = cc in let at : p ≡ m.pc = cc (traps.1) in rw (← same) (runs, (traps.0, at));
+        fault = λ e. absurd (cc);
+        bytes = before.bytes;
+        told = λ _ told. rw (sent_in-trap n most old (left input) m (left i) cause before.runs traps.0 h) (before.wrote told);
+        part = λ e. absurd (cc);
+        rose = λ e. absurd (cc);
+        still = λ _. before.still;
+        counts = omega (arith, before.still);
+        tells_still = before.telling;
+      })
+
+  -- the sink fails at the next instruction
+  pub ends-fault : (most : ℕ) (new : MachineValue) (rest : InputValue) (gained : K) → n < most →
+      Stepped written faults tells step.SinkFault m i k new rest gained →
+      RanWithin written faults tells most run.SinkFault old input out new rest gained
+  ends-fault most new rest gained h s =
+      let stays = s.stays (λ e. cc) in
+      let fault = s.fault refl in
+      rw (stays.0, stays.1)
+      (record {
+        all = λ e. absurd (cc);
+        fewer = λ _. (n, (h, (before.runs, before.counted)));
+        exited = λ code e. absurd (cc);
+        trapped = λ cause pc e. absurd (cc);
+        fault = λ _. fault;
+        bytes = before.bytes;
+        told = λ e. absurd (e refl);
+        part = λ _ told.
+            (n, (h, (before.runs, (before.counted, rw (← before.wrote told) (s.part refl (rw before.telling told))))));
+        rose = λ _. rw (← before.still) (s.rose refl);
+        still = λ e. absurd (e refl);
+        counts = omega (arith, before.still, s.counts);
+        tells_still = s.tells_still ∙ before.telling;
+      })

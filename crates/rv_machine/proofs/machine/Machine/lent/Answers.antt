@@ -1,0 +1,8 @@
+use Rattle.std.proofs.Common.{sym}
+use Rattle.rv_machine.proofs.StepsLemmas.{send-some}
+use Rattle.rv_machine.proofs.machine.Machine.lent.Goals as goal
+
+pub returns : goal.returns
+returns c =
+    let e = c.in-Some.ensures in
+    sym (send-some c.args.self.now c.args.address c.args.size c.in-Some.bytes.now c.requires.at c.requires.some e.bytes)

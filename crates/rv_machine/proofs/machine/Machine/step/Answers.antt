@@ -1,0 +1,71 @@
+use Rattle.std.proofs.Common.{rules, ◌≡◌, refl}
+use Rattle.rv_machine.proofs.StepsLemmas.{is-send-not_empty, is-send-sends, settled}
+use Rattle.rv_machine.specs.Machines.{left, sent}
+use Rattle.rv_machine.proofs.machine.Machine.step.Goals as goal
+
+pub lent-requires : goal.lent-requires
+lent-requires g c =
+    let turn = c.in-Sends.ensures in
+    rw (turn.stays (λ e. cc)).0 (turn.sends c.in-Sends.address c.in-Sends.size refl)
+
+pub pass_over-requires : goal.pass_over-requires
+pass_over-requires g c =
+    let turn = c.in-Sends.ensures in
+    rw (turn.stays (λ e. cc)).0
+    (is-send-not_empty c.args.self.now c.in-Sends.address c.in-Sends.size (turn.sends c.in-Sends.address c.in-Sends.size refl))
+
+pub returns-in-Err-Failed : goal.returns-in-Err-Failed
+returns-in-Err-Failed g c =
+    let turn = c.in-Sends.ensures in
+    let stays = turn.stays (λ e. cc) in
+    let send = turn.sends c.in-Sends.address c.in-Sends.size refl in
+    let not_empty = is-send-not_empty c.args.self.now c.in-Sends.address c.in-Sends.size send in
+    let sends = is-send-sends c.args.self.now c.in-Sends.address c.in-Sends.size (left c.args.input.now) send in
+    let lent : c.lent.result.now ≡ sent c.args.self.now = rw stays.0 at c.lent.ensures in
+    let write = c.in-Err-Failed.ensures in
+    rw (stays.0, stays.1)
+    (record {
+      ran = λ e. absurd (cc);
+      exited = λ code e. absurd (cc);
+      trapped = λ cause pc e. absurd (cc);
+      fault = λ _. (not_empty, sends);
+      stays = λ _. (refl, refl);
+      taken = λ e. absurd (cc);
+      bytes = refl;
+      untouched = λ e. absurd (not_empty e);
+      idle = λ _ e. absurd (e refl);
+      told = λ e. absurd (cc);
+      part = λ _ tells. rw (← lent) (write.part tells);
+      rose = λ _. write.failed (search rules);
+      still = λ e. absurd (e refl);
+      counts = write.counts;
+      tells_still = write.tells_still;
+    })
+
+pub returns-in-Ok : goal.returns-in-Ok
+returns-in-Ok g c =
+    let turn = c.in-Sends.ensures in
+    let stays = turn.stays (λ e. cc) in
+    let send = turn.sends c.in-Sends.address c.in-Sends.size refl in
+    let not_empty = is-send-not_empty c.args.self.now c.in-Sends.address c.in-Sends.size send in
+    let lent : c.lent.result.now ≡ sent c.args.self.now = rw stays.0 at c.lent.ensures in
+    let passed = rw stays.0 at c.pass_over.ensures in
+    let write = c.in-Ok.ensures in
+    rw stays.1
+    (record {
+      ran = λ _. passed.ran (left c.args.input.now);
+      exited = λ code e. absurd (cc);
+      trapped = λ cause pc e. absurd (cc);
+      fault = λ e. absurd (cc);
+      stays = λ e. absurd (e refl);
+      taken = λ _. passed.taken;
+      bytes = refl;
+      untouched = λ e. absurd (not_empty e);
+      idle = λ e. absurd (e refl);
+      told = λ _ tells. rw (← lent) (write.done tells);
+      part = λ e. absurd (cc);
+      rose = λ e. absurd (cc);
+      still = λ _. settled _ _ write.counts (λ more. let fails = write.grew more in cc);
+      counts = write.counts;
+      tells_still = write.tells_still;
+    })
