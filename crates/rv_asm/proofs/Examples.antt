@@ -78,16 +78,17 @@ rounds = record {
   ample = omega arith;
 }
 
-abbrev IsAtRound : WordState → Round → Type 0
-IsAtRound state c = (state.pc ≡ place_of c) × (state.output ≡ [])
+abbrev IsAtRound : ℕ → WordState → Round → Type 0
+IsAtRound rank state c = (state.pc ≡ place_of c) × (state.output ≡ [])
 
-round : (state : WordState) (c : Round) → IsAtRound state c → Advances 69632 looping rounds IsAtRound state c
-round state Before a = quiet-advance 69632 looping rounds IsAtRound state Before
+round : (rank : ℕ) (state : WordState) (c : Round) → IsAtRound rank state c → Advances 69632 looping rounds rounds_of IsAtRound rank state c
+round rank state Before a = quiet-advance 69632 looping rounds rounds_of IsAtRound rank state Before
     (record {
       count = 1;
       to = record state { pc = 65540 };
       next = Behind 0;
-      some = omega arith;
+      next_rank = 0;
+      some = inl (omega arith);
       runs = rw a.0 refl;
       quiet = refl;
       output = a.1;
@@ -95,12 +96,13 @@ round state Before a = quiet-advance 69632 looping rounds IsAtRound state Before
       reached = tt;
       paid = omega arith;
     })
-round state (Behind k) a = quiet-advance 69632 looping rounds IsAtRound state (Behind k)
+round rank state (Behind k) a = quiet-advance 69632 looping rounds rounds_of IsAtRound rank state (Behind k)
     (record {
       count = 2;
       to = record state { registers = put state.registers 5 ((state.registers 5 + 1) % 2 ^ 64) };
       next = Behind (suc k);
-      some = omega arith;
+      next_rank = 0;
+      some = inl (omega arith);
       runs = rw a.0 refl;
       quiet = refl;
       output = a.1;
@@ -114,8 +116,10 @@ rounds-follow : Follows rounds (loaded 65536 (compiled_segments looping 1 1) [])
 rounds-follow =
     follows-compiled looping 1 1 [] rounds (All-each_encodes looping (refl, (refl, (refl, tt)))) (omega arith) (All-nil (λ b. b < 256))
     (record {
+      depth = rounds_of;
       IsAt = IsAtRound;
-      turn = λ state c a r. inl (round state c a);
+      turn = λ rank state c a r. inl (round rank state c a);
+      rank = 0;
       first = 0;
       state = start_state (region_words 1 1) [];
       initial = Before;

@@ -10,14 +10,14 @@ use Rattle.rv_asm.proofs.Bridge.{run-goes, run-exits, machine_state-start, IsBou
 use Rattle.rv_asm.proofs.Regions.{IsLayout-compiled}
 use Rattle.rv_asm.proofs.Moments.{Running, Over, Moment, CodeFollows, moments-entry}
 
-module _ (base : ℕ) (code : List Inst) (count : ℕ) (layout : IsLayout base code count) (m : Meaning) (IsAt : WordState → m.Configuration → Type 0) where
+module _ (base : ℕ) (code : List Inst) (count : ℕ) (layout : IsLayout base code count) (m : Meaning) (depth : m.Configuration → ℕ) (IsAt : ℕ → WordState → m.Configuration → Type 0) where
   -- what a moment on the machine of words is on the machine of the table
   shown :
-      (n : ℕ) (entry : WordState) → IsBounded count entry → Moment base code m IsAt n entry n →
+      (n : ℕ) (entry : WordState) → IsBounded count entry → Moment base code m depth IsAt n entry n →
       IsShown m n (run n (machine_state base code entry))
   shown n entry bounded moment = ⊎_elim
-      (λ (r : Running base code m IsAt n entry n). subst (IsShown m n) (sym (run-goes base code count layout n entry r.now bounded r.runs).0) (r.shown, r.reached, r.output, r.pace))
-      (λ (o : Over base code m IsAt entry n). subst (IsShown m n) (sym (run-exits base code count layout n entry o.exit (m.output o.last) bounded o.runs)) (o.last, o.reached, refl, o.ends))
+      (λ (r : Running base code m depth IsAt n entry n). subst (IsShown m n) (sym (run-goes base code count layout n entry r.now bounded r.runs).0) (r.shown, r.reached, r.output, r.pace))
+      (λ (o : Over base code m depth IsAt entry n). subst (IsShown m n) (sym (run-exits base code count layout n entry o.exit (m.output o.last) bounded o.runs)) (o.last, o.reached, refl, o.ends))
       moment
 
 pub follows-compiled :
@@ -33,4 +33,4 @@ follows-compiled code stack units input m encodable below bytes f n =
     let entry = start_state count input in
     let layout = IsLayout-compiled code stack units encodable below in
     let moment = moments-entry base code m n entry f in
-    subst (λ s. IsShown m n (run n s)) (machine_state-start code stack units input) (shown base code count layout m f.IsAt n entry (IsBounded-start count input bytes) moment)
+    subst (λ s. IsShown m n (run n s)) (machine_state-start code stack units input) (shown base code count layout m f.depth f.IsAt n entry (IsBounded-start count input bytes) moment)

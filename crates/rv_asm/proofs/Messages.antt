@@ -56,13 +56,20 @@ module _ (ms : List ℕ) where
       output : state.output ≡ word_bytes c.sent
       words : AllWords c.rest
 
+    -- each message has an instruction, so that ranks and depths don't matter
+    abbrev AtRest : ℕ → WordState → Progress → Type 0
+    AtRest rank state c = IsAt state c
+
+    abbrev no_depth : Progress → ℕ
+    no_depth c = 0
+
     last :
         (state : WordState) (sent : List ℕ) → IsAt state (record { sent = sent; rest = [] }) → sent ++ [] ≡ ms →
-        Stops base code meaning IsAt state (record { sent = sent; rest = [] })
+        Stops base code meaning no_depth AtRest state (record { sent = sent; rest = [] })
     last state sent a r =
         let c : Progress = record { sent = sent; rest = [] } in
         let few : 0 < 256 = omega arith in
-        quiet-stop base code meaning IsAt state c
+        quiet-stop base code meaning no_depth AtRest state c
         (record {
           count = 2;
           to = before_exit base code 0 state;
@@ -78,10 +85,10 @@ module _ (ms : List ℕ) where
         })
 
     next :
-        (state : WordState) (sent : List ℕ) (m : ℕ) (rest : List ℕ) → IsAt state (record { sent = sent; rest = m ∷ rest }) →
+        (rank : ℕ) (state : WordState) (sent : List ℕ) (m : ℕ) (rest : List ℕ) → IsAt state (record { sent = sent; rest = m ∷ rest }) →
         sent ++ (m ∷ rest) ≡ ms →
-        Advances base code meaning IsAt state (record { sent = sent; rest = m ∷ rest })
-    next state sent m rest a r =
+        Advances base code meaning no_depth AtRest rank state (record { sent = sent; rest = m ∷ rest })
+    next rank state sent m rest a r =
         let c : Progress = record { sent = sent; rest = m ∷ rest } in
         let d : Progress = record { sent = sent ++ (m ∷ []); rest = rest } in
         let load = load_constant 10 m in
@@ -106,12 +113,13 @@ module _ (ms : List ℕ) where
           output = out;
           words = All-tail (λ w. w < 2 ^ 64) m rest a.words;
         } in
-        sending-advance base code meaning IsAt state c
+        sending-advance base code meaning no_depth AtRest rank state c
         (record {
           count = n + 6;
           to = to;
           next = d;
-          some = omega arith;
+          next_rank = 0;
+          some = inl (omega arith);
           runs = then-runs base code n 6 state loaded to r1 (send_word-runs base code 10 0 loaded can h3);
           between = quiet-then-between base code n 6 state loaded to r1 refl (send_word-between base code 10 0 loaded can h3);
           before = a.output;
@@ -124,15 +132,15 @@ module _ (ms : List ℕ) where
         })
 
     turn :
-        (state : WordState) (c : Progress) → IsAt state c → c.sent ++ c.rest ≡ ms →
-        Advances base code meaning IsAt state c ⊎ Stops base code meaning IsAt state c
-    turn state c a r = by_rest c.sent c.rest a r
+        (rank : ℕ) (state : WordState) (c : Progress) → AtRest rank state c → c.sent ++ c.rest ≡ ms →
+        Advances base code meaning no_depth AtRest rank state c ⊎ Stops base code meaning no_depth AtRest state c
+    turn rank state c a r = by_rest c.sent c.rest a r
       where
         by_rest :
             (sent rest : List ℕ) → IsAt state (record { sent = sent; rest = rest }) → sent ++ rest ≡ ms →
-            Advances base code meaning IsAt state (record { sent = sent; rest = rest }) ⊎ Stops base code meaning IsAt state (record { sent = sent; rest = rest })
+            Advances base code meaning no_depth AtRest rank state (record { sent = sent; rest = rest }) ⊎ Stops base code meaning no_depth AtRest state (record { sent = sent; rest = rest })
         by_rest sent [] a r = inr (last state sent a r)
-        by_rest sent (m ∷ rest) a r = inl (next state sent m rest a r)
+        by_rest sent (m ∷ rest) a r = inl (next rank state sent m rest a r)
 
 -- what the meaning shows is what the program promises
 moment-shown : (ms : List ℕ) (n : ℕ) (o : Outcome) → IsShown (meaning ms) n o → IsMoment ms n o
@@ -157,8 +165,10 @@ code-follows ms base count input aligned below some words =
     let load = load_constant 3 base in
     let state : WordState = record entry { pc = 65536 + 4 * length load; registers = put entry.registers 3 base } in
     record {
-      IsAt = IsAt ms base code aligned below;
+      depth = no_depth ms base code aligned below;
+      IsAt = AtRest ms base code aligned below;
       turn = turn ms base code aligned below;
+      rank = 0;
       first = length load;
       state = state;
       initial = record { sent = []; rest = ms };

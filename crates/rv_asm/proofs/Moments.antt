@@ -1,5 +1,6 @@
 -- What the machine shows after every number of instructions, where its code follows a meaning: the theorem for every number
--- of instructions, and what makes the stretches that it asks for. Nothing here knows of actions.
+-- of instructions, and what makes the stretches that it asks for. A stretch may have no instruction, where a rank falls, or
+-- where it stays and less stands around. Nothing here knows of actions.
 use Rattle.std.proofs.Common.{◌≡◌, ℕ, zero, suc, ◌+◌, ◌-◌, ◌*◌, ◌<◌, ◌≤◌, List, sym, ap, ◌∙◌, subst, arith, ◌⊎◌, ⊎_elim, inl, inr}
 use Rattle.std.proofs.lemmas.Bool.{cases_lt}
 use Rattle.rv_code.specs.declared.instruction.Inst.{Inst}
@@ -17,15 +18,21 @@ module _ (base : ℕ) (code : List Inst) (m : Meaning) where
     pub output : now.output ≡ m.output shown
     pub pace : j + m.start + m.factor * m.steps c ≤ m.factor * (m.steps shown + 1) + m.pending c
 
-  module _ (IsAt : WordState → m.Configuration → Type 0) where
-    -- a stretch of at least one instruction from configuration c to a related state
-    pub record Advances (state : WordState) (c : m.Configuration) : Type 0 where
+  -- a stretch has an instruction, or leads on in the code without one: to a lower rank, or to the same with less around
+  abbrev pub Proceeds : (depth : m.Configuration → ℕ) (count rank next_rank : ℕ) (c next : m.Configuration) → Type 0
+  Proceeds depth count rank next_rank c next =
+      (0 < count) ⊎ ((next_rank < rank) ⊎ ((next_rank ≡ rank) × (depth next < depth c)))
+
+  module _ (depth : m.Configuration → ℕ) (IsAt : ℕ → WordState → m.Configuration → Type 0) where
+    -- a stretch from configuration c to a related state
+    pub record Advances (rank : ℕ) (state : WordState) (c : m.Configuration) : Type 0 where
       pub count : ℕ
       pub to : WordState
       pub next : m.Configuration
-      pub some : 0 < count
+      pub next_rank : ℕ
+      pub some : Proceeds depth count rank next_rank c next
       pub runs : run_words base code count state ≡ Goes to
-      pub related : IsAt to next
+      pub related : IsAt next_rank to next
       pub reached : m.IsReached next
       pub moments : (j : ℕ) → j < count → Shows c state j
       pub paid : count + m.pending next + m.factor * m.steps c ≤ m.factor * m.steps next + m.pending c
@@ -81,10 +88,11 @@ module _ (base : ℕ) (code : List Inst) (m : Meaning) where
         record { last = s.last; exit = s.exit; runs = subst (λ i. run_words base code i state ≡ Exits s.exit (m.output s.last)) q e; reached = s.reached; ends = s.ends }
 
     advanced :
-        (n count : ℕ) (state : WordState) (c : m.Configuration) → IsPaid count c → (a : Advances state c) →
+        (n count : ℕ) (state : WordState) (c : m.Configuration) → IsPaid count c →
+        (rank : ℕ) (a : Advances rank state c) →
         (a.count ≤ n → Moment (count + a.count + (n - a.count)) a.to (n - a.count)) →
         Moment (count + n) state n
-    advanced n count state c p a rest = ⊎_elim
+    advanced n count state c p rank a rest = ⊎_elim
         (λ lt. within count n state c p (a.moments n lt))
         (λ le.
         let q : a.count + (n - a.count) ≡ n = omega arith in
@@ -98,49 +106,70 @@ module _ (base : ℕ) (code : List Inst) (m : Meaning) where
         (λ le. inr (over n state c s (omega arith)))
         (cases_lt n (suc s.count))
 
-    module _ (turn : (state : WordState) (c : m.Configuration) → IsAt state c → m.IsReached c → Advances state c ⊎ Stops state c) where
-      -- `bound` bounds n
+    module _
+        (turn :
+        (rank : ℕ) (state : WordState) (c : m.Configuration) → IsAt rank state c → m.IsReached c →
+        Advances rank state c ⊎ Stops state c) where
+      -- `bound` bounds n, `bound_rank` the rank and `bound_depth` the depth
       moments-below :
-          (bound n count : ℕ) (state : WordState) (c : m.Configuration) → n < bound → IsAt state c → m.IsReached c →
-          IsPaid count c →
+          (bound bound_rank bound_depth n count rank : ℕ) (state : WordState) (c : m.Configuration) →
+          n < bound → rank < bound_rank → depth c < bound_depth → IsAt rank state c → m.IsReached c → IsPaid count c →
           Moment (count + n) state n
-      moments-below zero n count state c lt r h p = absurd (omega arith)
-      moments-below (suc bound) n count state c lt r h p = ⊎_elim
-          (λ a. advanced n count state c p a (λ le. moments-below bound (n - a.count) (count + a.count) a.to a.next (omega (arith, a.some)) a.related a.reached (omega (arith, a.paid))))
+      moments-below zero bound_rank bound_depth n count rank state c lt lr ld r h p = absurd (omega arith)
+      moments-below (suc bound) zero bound_depth n count rank state c lt lr ld r h p = absurd (omega arith)
+      moments-below (suc bound) (suc bound_rank) zero n count rank state c lt lr ld r h p = absurd (omega arith)
+      moments-below (suc bound) (suc bound_rank) (suc bound_depth) n count rank state c lt lr ld r h p = ⊎_elim
+          (λ a. advanced n count state c p rank a (λ le.
+          let left = n - a.count in
+          let done = count + a.count in
+          let paid : IsPaid done a.next = omega (arith, a.paid, p) in
+          ⊎_elim
+          (λ some. moments-below bound (suc a.next_rank) (suc (depth a.next)) left done a.next_rank a.to a.next (omega arith) (omega arith) (omega arith) a.related a.reached paid)
+          (λ falls. ⊎_elim
+          (λ lower. moments-below (suc bound) bound_rank (suc (depth a.next)) left done a.next_rank a.to a.next (omega arith) (omega arith) (omega arith) a.related a.reached paid)
+          (λ fewer. moments-below (suc bound) (suc bound_rank) bound_depth left done a.next_rank a.to a.next (omega arith) (omega (arith, fewer.0)) (omega (arith, fewer.1)) a.related a.reached paid)
+          falls)
+          a.some))
           (λ s. stopped n count state c p s)
-          (turn state c r h)
+          (turn rank state c r h)
 
       -- the theorem for every number n of instructions, where `count` are already done
       pub moments :
-          (n count : ℕ) (state : WordState) (c : m.Configuration) → IsAt state c → m.IsReached c → IsPaid count c →
+          (n count rank : ℕ) (state : WordState) (c : m.Configuration) → IsAt rank state c → m.IsReached c → IsPaid count c →
           Moment (count + n) state n
-      moments n count state c r h p = moments-below (suc n) n count state c (omega arith) r h p
+      moments n count rank state c r h p =
+          moments-below (suc n) (suc rank) (suc (depth c)) n count rank state c (omega arith) (omega arith) (omega arith) r h p
 
   -- from an entry the code follows the meaning: it comes without output to a state that is related to a configuration, and
   -- from each related state it advances or stops
   pub record CodeFollows (entry : WordState) : Type 1 where
-    pub IsAt : WordState → m.Configuration → Type 0
-    pub turn : (state : WordState) (c : m.Configuration) → IsAt state c → m.IsReached c → Advances IsAt state c ⊎ Stops IsAt state c
+    pub depth : m.Configuration → ℕ
+    pub IsAt : ℕ → WordState → m.Configuration → Type 0
+    pub turn :
+        (rank : ℕ) (state : WordState) (c : m.Configuration) → IsAt rank state c → m.IsReached c →
+        Advances depth IsAt rank state c ⊎ Stops depth IsAt state c
+    pub rank : ℕ
     pub first : ℕ
     pub state : WordState
     pub initial : m.Configuration
     pub runs : run_words base code first entry ≡ Goes state
     pub quiet : state.output ≡ entry.output
     pub output : state.output ≡ m.output initial
-    pub related : IsAt state initial
+    pub related : IsAt rank state initial
     pub reached : m.IsReached initial
     pub paid : first + m.pending initial ≤ m.factor * m.steps initial + m.start
 
   -- the theorem from an entry
-  pub moments-entry : (n : ℕ) (entry : WordState) (f : CodeFollows entry) → Moment f.IsAt n entry n
+  pub moments-entry : (n : ℕ) (entry : WordState) (f : CodeFollows entry) → Moment f.depth f.IsAt n entry n
   moments-entry n entry f = ⊎_elim
       (λ lt.
       let q = quiet-moment base code f.first entry f.state f.runs f.quiet n (omega arith) in
       inl (record { now = q.0; runs = q.1; shown = f.initial; reached = f.reached; output = q.2 ∙ sym f.quiet ∙ f.output; pace = omega (arith, f.paid, m.ample) }))
       (λ le.
       let q : f.first + (n - f.first) ≡ n = omega arith in
-      subst (λ k. Moment f.IsAt k entry k) q
-      (behind f.IsAt f.first (n - f.first) (f.first + (n - f.first)) entry f.state f.runs (moments f.IsAt f.turn (n - f.first) f.first f.state f.initial f.related f.reached f.paid)))
+      subst (λ k. Moment f.depth f.IsAt k entry k) q
+      (behind f.depth f.IsAt f.first (n - f.first) (f.first + (n - f.first)) entry f.state f.runs
+      (moments f.depth f.IsAt f.turn (n - f.first) f.first f.rank f.state f.initial f.related f.reached f.paid)))
       (cases_lt n f.first)
 
   -- ---- what makes an advance and a stop
@@ -153,25 +182,28 @@ module _ (base : ℕ) (code : List Inst) (m : Meaning) where
       Shows c state j
   shows-next state c next count j now e r o le paid = record { now = now; runs = e; shown = next; reached = r; output = o; pace = omega arith }
 
-  module _ (IsAt : WordState → m.Configuration → Type 0) where
+  module _ (depth : m.Configuration → ℕ) (IsAt : ℕ → WordState → m.Configuration → Type 0) where
     -- a stretch without output, to a configuration with the same output
-    pub record QuietStretch (state : WordState) (c : m.Configuration) : Type 0 where
+    pub record QuietStretch (rank : ℕ) (state : WordState) (c : m.Configuration) : Type 0 where
       pub count : ℕ
       pub to : WordState
       pub next : m.Configuration
-      pub some : 0 < count
+      pub next_rank : ℕ
+      pub some : Proceeds depth count rank next_rank c next
       pub runs : run_words base code count state ≡ Goes to
       pub quiet : to.output ≡ state.output
       pub output : to.output ≡ m.output next
-      pub related : IsAt to next
+      pub related : IsAt next_rank to next
       pub reached : m.IsReached next
       pub paid : count + m.pending next + m.factor * m.steps c ≤ m.factor * m.steps next + m.pending c
 
-    pub quiet-advance : (state : WordState) (c : m.Configuration) → QuietStretch state c → Advances IsAt state c
-    quiet-advance state c s = record {
+    pub quiet-advance :
+        (rank : ℕ) (state : WordState) (c : m.Configuration) → QuietStretch rank state c → Advances depth IsAt rank state c
+    quiet-advance rank state c s = record {
       count = s.count;
       to = s.to;
       next = s.next;
+      next_rank = s.next_rank;
       some = s.some;
       runs = s.runs;
       related = s.related;
@@ -183,26 +215,29 @@ module _ (base : ℕ) (code : List Inst) (m : Meaning) where
     }
 
     -- a stretch whose output changes at one moment
-    pub record SendingStretch (state : WordState) (c : m.Configuration) : Type 0 where
+    pub record SendingStretch (rank : ℕ) (state : WordState) (c : m.Configuration) : Type 0 where
       pub count : ℕ
       pub to : WordState
       pub next : m.Configuration
-      pub some : 0 < count
+      pub next_rank : ℕ
+      pub some : Proceeds depth count rank next_rank c next
       pub runs : run_words base code count state ≡ Goes to
       pub between : Between base code count state to
       pub before : state.output ≡ m.output c
       pub output : to.output ≡ m.output next
-      pub related : IsAt to next
+      pub related : IsAt next_rank to next
       pub started : m.IsReached c
       pub reached : m.IsReached next
       pub short : count + m.start ≤ m.factor + m.pending c
       pub paid : count + m.pending next + m.factor * m.steps c ≤ m.factor * m.steps next + m.pending c
 
-    pub sending-advance : (state : WordState) (c : m.Configuration) → SendingStretch state c → Advances IsAt state c
-    sending-advance state c s = record {
+    pub sending-advance :
+        (rank : ℕ) (state : WordState) (c : m.Configuration) → SendingStretch rank state c → Advances depth IsAt rank state c
+    sending-advance rank state c s = record {
       count = s.count;
       to = s.to;
       next = s.next;
+      next_rank = s.next_rank;
       some = s.some;
       runs = s.runs;
       related = s.related;
@@ -230,7 +265,7 @@ module _ (base : ℕ) (code : List Inst) (m : Meaning) where
       pub ends : m.EndsWith last exit
       pub paid : count + m.start + m.factor * m.steps c ≤ m.factor * (m.steps last + 1) + m.pending c
 
-    pub quiet-stop : (state : WordState) (c : m.Configuration) → QuietExit state c → Stops IsAt state c
+    pub quiet-stop : (state : WordState) (c : m.Configuration) → QuietExit state c → Stops depth IsAt state c
     quiet-stop state c s =
         let n : s.count + 1 ≡ suc s.count = omega arith in
         let e = then-ends base code s.count 1 state s.to (Exits s.exit (m.output s.last)) s.runs (s.exits ∙ ap (Exits s.exit) s.output) in

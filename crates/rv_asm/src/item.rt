@@ -7,7 +7,7 @@ use rv_code::{BranchOp, Inst, Reg};
 use std::marker::Model;
 
 /// A place in the code. Contracts see it as its number: the labels of one assembler are numbered from 0 on.
-#[derive(Clone, Copy)]
+#[derive(Clone, Copy, PartialEq, Eq)]
 pub struct Label {
     pub(crate) number: usize,
 }

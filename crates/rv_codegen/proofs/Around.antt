@@ -1,72 +1,160 @@
 -- What stands in the machine for what stands around a node, and around an end.
-use Rattle.std.proofs.Common.{◌≡◌, ℕ, ◌+◌, true, List, [], ◌∷◌, refl, ap₂}
-use Rattle.rv_code.specs.declared.instruction.Inst.{Inst}
-use Rattle.rv_asm.specs.Conventions.{stack_address}
-use Rattle.action_terms.specs.Information.{NoBinds}
-use Rattle.action_terms.specs.Actions.{And, AndThen, Both, Phases, Action, node_at}
-use Rattle.action_terms.specs.Acting.{Done, Tree, Run, Ended, Fail}
-use Rattle.action_terms.proofs.Contexts.{Frame, InParLeft, InParRight, InFirst, InSecond, InOr, InTail, shut_if, shut_all}
-use Rattle.action_terms.proofs.Parts.{EachPasses}
-use Rattle.rv_codegen.proofs.Pieces.{Places, InOrder}
+use Rattle.std.proofs.Common.{◌≡◌, ℕ, zero, suc, ◌+◌, ◌*◌, ◌<◌, ◌≤◌, List, [], ◌∷◌, ◌++◌}
+use Rattle.rv_asm.specs.Assembly.{address_of}
+use Rattle.rv_asm.specs.DataWords.{Heap}
+use Rattle.action_terms.specs.Information.{Binds, Data}
+use Rattle.action_terms.specs.Actions.{Join, Chain, Furthermore, Both, Phases, Either, Trapping, node_at}
+use Rattle.action_terms.specs.Acting.{Done, Tree, Run, Ended}
+use Rattle.action_terms.proofs.Contexts.{Frame, InCalled, InParLeft, InParRight, InFirst, InSecond, InOr, InCut, InTrap, InOver, InTail}
+use Rattle.rv_codegen.proofs.BindTables.{LeavesBinds, Binds_in}
+use Rattle.rv_codegen.proofs.Holding.{word_at, Holds, HoldsBinds, Apart, ApartSlots}
+use Rattle.rv_codegen.proofs.NodeParts.{IsPartOf, IsTailOf, Calls, KeepsRecord}
+use Rattle.rv_codegen.proofs.Settings.{Point, Way, Setting, code, front, start, stop, exit, frame_words}
 
--- the instructions that leave a part which has completed without a step of the action
-abbrev pub leaving : ℕ
-leaving = 2
+-- the chains: the addresses of the records of the innermost alternative and of the innermost trap, 0 where there is none; and whether a commitment was made since the trap was opened
+pub record Chains : Type 0 where
+  pub alternative : ℕ
+  pub trap : ℕ
+  pub mark : ℕ
 
--- what a part that is still to be performed costs once the other part of its node has completed
-abbrev pub waiting_cost : Tree → ℕ
-waiting_cost (Run k d b) = leaving
-waiting_cost _ = 0
+-- what a commitment leaves of an alternative that a trap's record keeps, and of a mark
+abbrev pub left_open : ℕ → ℕ → ℕ
+left_open zero alternative = alternative
+left_open (suc m) alternative = 0
 
--- what waits for the code: leaving such a frame costs instructions and no step
-abbrev pub pending_one : Frame → ℕ
-pending_one (InParLeft n y) = waiting_cost y
-pending_one (InParRight n x) = waiting_cost x
-pending_one (InTail n) = leaving
-pending_one _ = 0
+abbrev pub either_mark : ℕ → ℕ → ℕ
+either_mark zero saved = saved
+either_mark (suc m) saved = 1
 
-abbrev pub pending : List Frame → ℕ
-pending [] = 0
-pending (f ∷ fs) = pending_one f + pending fs
+abbrev pub committed : Chains → Chains
+committed c = record c { alternative = 0; mark = 1 }
 
-module _ (a : Action) (code : List Inst) (p : Places) (base : ℕ) where
-  -- the other part of node n, beside its part k: it is still to be performed after k, or it has completed before
-  abbrev pub IsOther : (n k other : ℕ) → Tree → Type 0
-  IsOther n k other (Run o d b) = (o ≡ other) × InOrder code p n k other
-  IsOther n k other (Ended (Done d b)) = (b ≡ NoBinds) × InOrder code p n other k
-  IsOther n k other _ = ⊥
+module _ (s : Setting) where
+  -- what holds of the places whatever runs
+  pub record IsPlaced : Type 0 where
+    pub given_apart : (k : ℕ) → Apart (s.places.Writes k) (s.places.given k)
+    pub bound_apart : (k : ℕ) → ApartSlots (s.places.Writes k) (s.places.bound k)
+    pub inside : (n k x : ℕ) → IsPartOf (node_at s.action n) k → s.places.Writes k x → s.places.Writes n x
+    pub beyond : (k x : ℕ) → frame_words s k ≤ x → s.places.Writes k x
+    -- the first words of the frame of a body that is called keep where it returns to
+    pub low : (k x : ℕ) → s.places.Writes k x → x < frame_words s k → 32 ≤ x
+    pub some_frame : (n c : ℕ) → s.procedures.calls n c → 32 ≤ frame_words s c
+    pub keep_apart : (n k i : ℕ) → KeepsRecord (node_at s.action n) → IsPartOf (node_at s.action n) k → i < 8 → s.places.Writes k (s.places.keep n + i) → ⊥
 
-  -- node k is performed within these frames, in the machine's frame at the address `frame`
-  abbrev pub Around : List Frame → (frame k : ℕ) → Type 0
-  Around [] frame k = (k ≡ 0) × (frame ≡ stack_address base)
-  Around (InParLeft n y ∷ fs) frame k = (r : ℕ) × (node_at a n ≡ Both And k r) × IsOther n k r y × Around fs frame n
-  Around (InParRight n x ∷ fs) frame k = (l : ℕ) × (node_at a n ≡ Both And l k) × IsOther n k l x × Around fs frame n
-  Around (InFirst n d b ∷ fs) frame k = (r : ℕ) × (node_at a n ≡ Phases AndThen k r) × Around fs frame n
-  Around (InSecond n d b ∷ fs) frame k = (l : ℕ) × (node_at a n ≡ Phases AndThen l k) × (b ≡ NoBinds) × Around fs frame n
-  Around (_ ∷ fs) frame k = ⊥
+  -- node n performs first its part l, then its part r
+  pub record InOrder (n l r : ℕ) : Type 0 where
+    pub enter : Way (code s) (start s n) (start s l)
+    pub first_exit : exit s l ≡ front s r
+    pub turn : Way (code s) (front s r) (start s r)
+    -- where the second part has completed, the node has
+    pub second_exit : exit s r ≡ exit s n
+    -- what the first part leaves stays while the second is performed
+    pub stays : Apart (s.places.Writes r) (s.places.out l)
+    pub stays_bound : ApartSlots (s.places.Writes r) (s.places.bound_out l)
 
-  -- a commitment
-  pub around-shut_all : (fs : List Frame) (frame k : ℕ) → Around fs frame k → Around (shut_all true fs) frame k
-  around-shut_all [] frame k h = h
-  around-shut_all (InParLeft n y ∷ fs) frame k h = (h.0, h.1, h.2, around-shut_all fs frame n h.3)
-  around-shut_all (InParRight n x ∷ fs) frame k h = (h.0, h.1, h.2, around-shut_all fs frame n h.3)
-  around-shut_all (InFirst n d b ∷ fs) frame k h = (h.0, h.1, around-shut_all fs frame n h.2)
-  around-shut_all (InSecond n d b ∷ fs) frame k h = (h.0, h.1, h.2, around-shut_all fs frame n h.3)
-  around-shut_all (_ ∷ fs) frame k h = absurd h
+  -- the second part finds the data that the node found, and the node leaves those of both
+  pub record Shares (n l r : ℕ) : Type 0 where
+    pub right_given : s.places.given r ≡ s.places.given n
+    pub joins : s.places.out n ≡ s.places.out l ++ s.places.out r
 
-  -- no alternative is open: a failure passes all frames
-  pub around-passes : (fs : List Frame) (frame k : ℕ) → Around fs frame k → EachPasses Fail fs
-  around-passes [] frame k h = tt
-  around-passes (InParLeft n y ∷ fs) frame k h = (tt, around-passes fs frame n h.3)
-  around-passes (InParRight n x ∷ fs) frame k h = (tt, around-passes fs frame n h.3)
-  around-passes (InFirst n d b ∷ fs) frame k h = (tt, around-passes fs frame n h.2)
-  around-passes (InSecond n d b ∷ fs) frame k h = (tt, around-passes fs frame n h.3)
-  around-passes (_ ∷ fs) frame k h = absurd h
+  -- the second part finds the data that the first left, and the node leaves those of the second
+  pub record HandsOver (n l r : ℕ) : Type 0 where
+    pub right_given : s.places.given r ≡ s.places.out l
+    pub ends : s.places.out n ≡ s.places.out r
 
-pending_one-shut_if : (f : Frame) → pending_one (shut_if true f) ≡ pending_one f
-pending_one-shut_if (InOr k2 d b) = refl
-pending_one-shut_if _ = refl
+  -- what a record of an alternative or a trap keeps
+  pub record Kept (words : List ℕ) (n f : ℕ) (before : Chains) (arm : Point) : Type 0 where
+    pub alternative : word_at words f (s.places.keep n) ≡ before.alternative
+    pub arm_at : word_at words f (s.places.keep n + 1) ≡ address_of arm.place
+    pub trap : word_at words f (s.places.keep n + 2) ≡ before.trap
+    pub mark : word_at words f (s.places.keep n + 3) ≡ before.mark
+    pub frame : word_at words f (s.places.keep n + 4) ≡ s.base + 8 * f
 
-pub pending-shut_all : (fs : List Frame) → pending (shut_all true fs) ≡ pending fs
-pending-shut_all [] = refl
-pending-shut_all (f ∷ fs) = ap₂ ◌+◌ (pending_one-shut_if f) (pending-shut_all fs)
+  module _ (heap : Heap) (words : List ℕ) where
+    abbrev pub Given : (f n : ℕ) → Data → Type 0
+    Given f n d = Holds s.base heap words f (s.places.given n) d
+
+    abbrev pub Receives : (f n : ℕ) → Binds → Type 0
+    Receives f n b = HoldsBinds s.base heap words f (s.places.bound n) b
+
+    abbrev pub Leaves : (f n : ℕ) → Data → Type 0
+    Leaves f n d = Holds s.base heap words f (s.places.out n) d
+
+    abbrev pub BindsLeft : (f n : ℕ) → Binds → Type 0
+    BindsLeft f n b = LeavesBinds s.base heap words f s.places.bound s.places.bound_out s.places.BindsAt n b
+
+    -- the other part of node n, beside its part k: it is still to be performed after k, or it has completed before
+    abbrev pub IsOther : (f n k other : ℕ) → Tree → Type 0
+    IsOther f n k other (Run o d b) = (o ≡ other) × InOrder n k other × Given f n d × Receives f n b
+    IsOther f n k other (Ended (Done d b)) = InOrder n other k × Leaves f other d × BindsLeft f other b
+    IsOther f n k other _ = ⊥
+
+    pub record LeftFrame (f n k : ℕ) (y : Tree) : Type 0 where
+      pub j : Join
+      pub r : ℕ
+      pub node : node_at s.action n ≡ Both j k r
+      pub other : IsOther f n k r y
+
+    pub record RightFrame (f n k : ℕ) (x : Tree) : Type 0 where
+      pub j : Join
+      pub l : ℕ
+      pub node : node_at s.action n ≡ Both j l k
+      pub other : IsOther f n k l x
+
+    pub record FirstFrame (f n k : ℕ) (d : Data) (b : Binds) : Type 0 where
+      pub q : Chain
+      pub r : ℕ
+      pub node : node_at s.action n ≡ Phases q k r
+      pub given : Given f n d
+      pub receives : Receives f n b
+
+    pub record SecondFrame (f n k : ℕ) (d1 : Data) (b1 : Binds) : Type 0 where
+      pub q : Chain
+      pub l : ℕ
+      pub node : node_at s.action n ≡ Phases q l k
+      pub order : InOrder n l k
+      pub result : Leaves f l d1
+      pub binds : BindsLeft f l b1
+
+    pub record OrFrame (f k k2 n : ℕ) (now before : Chains) (d : Data) (b : Binds) : Type 0 where
+      pub node : node_at s.action n ≡ Either k k2
+      pub given : Given f n d
+      pub receives : Receives f n b
+      pub at : now.alternative ≡ s.base + 8 * (f + s.places.keep n)
+      pub same : record now { alternative = before.alternative } ≡ before
+      pub kept : Kept words n f before (front s k2)
+
+    pub record TrapFrame (f k n : ℕ) (now before : Chains) (b : Binds) : Type 0 where
+      pub r : ℕ
+      pub node : node_at s.action n ≡ Trapping k r
+      pub receives : Receives f n b
+      pub at : now.trap ≡ s.base + 8 * (f + s.places.keep n)
+      pub kept : Kept words n f before (front s r)
+      pub chain : now.alternative ≡ left_open now.mark before.alternative
+
+    pub record OverFrame (f k n : ℕ) (b : Binds) : Type 0 where
+      pub node : node_at s.action n ≡ Furthermore k
+      pub receives : Receives f n b
+      pub table : Binds_in (s.places.BindsAt n) b
+
+    pub record CalledFrame (c up f k n : ℕ) : Type 0 where
+      pub node : Calls (node_at s.action n) c
+      pub may : s.procedures.calls n c
+      pub body : k ≡ c
+      pub returns : word_at words f 0 ≡ address_of (stop s n).place
+      pub caller : word_at words f 1 ≡ s.base + 8 * up
+      pub above : f ≡ up + frame_words s n
+
+    -- node k is performed within these frames, in the frame that begins at word f, under these chains
+    abbrev pub Around : List Frame → (f k : ℕ) → Chains → Type 0
+    Around [] f k c = (k ≡ 0) × (f ≡ 512) × (c.alternative ≡ 0) × (c.trap ≡ 0)
+    Around (InParLeft n y ∷ fs) f k c = LeftFrame f n k y × Around fs f n c
+    Around (InParRight n x ∷ fs) f k c = RightFrame f n k x × Around fs f n c
+    Around (InFirst n d b ∷ fs) f k c = FirstFrame f n k d b × Around fs f n c
+    Around (InSecond n d b ∷ fs) f k c = SecondFrame f n k d b × Around fs f n c
+    Around (InOr k2 d b ∷ fs) f k c = (n : ℕ) × (before : Chains) × OrFrame f k k2 n c before d b × Around fs f n before
+    Around (InCut ∷ fs) f k c = (n : ℕ) × (r : ℕ) × (node_at s.action n ≡ Either k r) × (c.alternative ≡ 0) × Around fs f n c
+    Around (InTrap n b ∷ fs) f k c = (before : Chains) × TrapFrame f k n c before b × Around fs f n (record { alternative = c.alternative; trap = before.trap; mark = either_mark c.mark before.mark })
+    Around (InTail n ∷ fs) f k c = IsTailOf (node_at s.action n) k × Around fs f n c
+    Around (InCalled c' ∷ fs) f k c = (n : ℕ) × (up : ℕ) × CalledFrame c' up f k n × Around fs up n c
+    Around (InOver b ∷ fs) f k c = (n : ℕ) × OverFrame f k n b × Around fs f n c

@@ -4,7 +4,7 @@ use Rattle.std.specs.Prelude.{ℤ, Some, slice_get, option_map}
 use Rattle.std.proofs.lemmas.Option.{slice_get-map, slice_get-get_or}
 use Rattle.std.proofs.lemmas.List.{length-map}
 use Rattle.action_terms.specs.Information.{Token}
-use Rattle.action_terms.specs.Actions.{NumberLiteral, Item, Single, ClosureOf, Node, Both, Phases}
+use Rattle.action_terms.specs.Actions.{NumberLiteral, Item, Single, ClosureOf, Node, Furthermore, Both, Phases, Either, Trapping, Branch}
 use Rattle.action_terms.specs.Meaning.{item_of, item_or_them, items_from, node_of}
 use Rattle.action_terms.specs.Numbering.{ListedYielder}
 use Rattle.action_terms.specs.declared.kinds.Kind.{Kind}
@@ -54,10 +54,14 @@ is_built_kind kind.And = true
 is_built_kind kind.AndThen = true
 is_built_kind _ = false
 
--- the two parts of a node that has such are these
+-- the parts of a node are these
 abbrev pub HasParts : Node → List ℕ → Type 0
 HasParts (Both j l r) parts = parts ≡ l ∷ r ∷ []
 HasParts (Phases q l r) parts = parts ≡ l ∷ r ∷ []
+HasParts (Either l r) parts = parts ≡ l ∷ r ∷ []
+HasParts (Trapping l r) parts = parts ≡ l ∷ r ∷ []
+HasParts (Branch y l r) parts = parts ≡ l ∷ r ∷ []
+HasParts (Furthermore l) parts = parts ≡ l ∷ []
 HasParts _ parts = Unit {0}
 
 -- a node that is made of a kind and of these parts
@@ -75,16 +79,16 @@ form-node_of kind.BindRec t c parts ((Single (ClosureOf b) ∷ []) ∷ []) = rec
 form-node_of kind.Store t c parts ((Single y1 ∷ []) ∷ (Single y2 ∷ []) ∷ []) = record { parts = tt; built = λ e. e }
 form-node_of kind.Enact t c parts ((Single y ∷ []) ∷ []) = record { parts = tt; built = λ e. e }
 form-node_of kind.Apply t c parts ((Single y ∷ []) ∷ is ∷ []) = record { parts = tt; built = λ e. e }
-form-node_of kind.Furthermore t c (l ∷ []) os = record { parts = tt; built = λ e. e }
+form-node_of kind.Furthermore t c (l ∷ []) os = record { parts = refl; built = λ e. e }
 form-node_of kind.And t c (l ∷ r ∷ []) os = record { parts = refl; built = λ e. e }
 form-node_of kind.AndThen t c (l ∷ r ∷ []) os = record { parts = refl; built = λ e. e }
-form-node_of kind.Or t c (l ∷ r ∷ []) os = record { parts = tt; built = λ e. e }
+form-node_of kind.Or t c (l ∷ r ∷ []) os = record { parts = refl; built = λ e. e }
 form-node_of kind.Then t c (l ∷ r ∷ []) os = record { parts = refl; built = λ e. e }
-form-node_of kind.Trap t c (l ∷ r ∷ []) os = record { parts = tt; built = λ e. e }
+form-node_of kind.Trap t c (l ∷ r ∷ []) os = record { parts = refl; built = λ e. e }
 form-node_of kind.Hence t c (l ∷ r ∷ []) os = record { parts = refl; built = λ e. e }
 form-node_of kind.Moreover t c (l ∷ r ∷ []) os = record { parts = refl; built = λ e. e }
 form-node_of kind.Before t c (l ∷ r ∷ []) os = record { parts = refl; built = λ e. e }
-form-node_of kind.Branch t c (l ∷ r ∷ []) ((Single y ∷ []) ∷ []) = record { parts = tt; built = λ e. e }
+form-node_of kind.Branch t c (l ∷ r ∷ []) ((Single y ∷ []) ∷ []) = record { parts = refl; built = λ e. e }
 form-node_of kind.Complete t c parts os = record { parts = tt; built = λ _. refl }
 form-node_of kind.Fail t c parts os = record { parts = tt; built = λ _. refl }
 form-node_of _ t c parts os = record { parts = tt; built = λ e. cc }

@@ -1,19 +1,10 @@
--- The first instructions: the registers are set, and the run arrives at the root of the action.
-use Rattle.std.proofs.Common.{◌≡◌, ℕ, ◌+◌, ◌*◌, ◌/◌, ◌^◌, ◌<◌, List, [], ◌∷◌, pos, refl, arith}
+-- The first instructions: the registers are set.
+use Rattle.std.proofs.Common.{◌≡◌, ℕ, ◌+◌, ◌*◌, ◌/◌, ◌^◌, ◌<◌, List, refl, arith}
 use Rattle.rv_code.specs.Arithmetic.{wrap}
 use Rattle.rv_code.specs.declared.instruction.Inst.{Inst}
-use Rattle.rv_code.specs.declared.instruction.Inst.TheVariants.{Op, OpImm, Shift, Upper}
-use Rattle.rv_code.specs.declared.instruction.OpOp.TheVariants.{Add}
-use Rattle.rv_code.specs.declared.instruction.OpImmOp.TheVariants.{Addi}
-use Rattle.rv_code.specs.declared.instruction.ShiftOp.TheVariants.{Slli, Srli}
-use Rattle.rv_code.specs.declared.instruction.UpperOp.TheVariants.{Lui}
+use Rattle.rv_codegen.specs.Blocks.{round_up}
 use Rattle.rv_asm.specs.Conventions.{region_address, stack_address}
 use Rattle.rv_asm.specs.WordMachine.{WordState, Goes, put, run_words, Has}
-
--- the instructions that round the end of the code up to the region's address, and find the stack
-abbrev pub round_up : List Inst
-round_up =
-    OpImm Addi 3 3 (pos 2047) ∷ OpImm Addi 3 3 (pos 2047) ∷ OpImm Addi 3 3 (pos 1) ∷ Shift Srli 3 3 12 ∷ Shift Slli 3 3 12 ∷ Upper Lui 2 (pos 4096) ∷ Op Add 2 2 3 ∷ []
 
 -- what they leave
 pub record IsRounded (base code_size : ℕ) (code : List Inst) (c : WordState) : Type 0 where
@@ -23,6 +14,7 @@ pub record IsRounded (base code_size : ℕ) (code : List Inst) (c : WordState) :
   pub region : to.registers 3 ≡ region_address code_size
   pub stack : to.registers 2 ≡ stack_address (region_address code_size)
   pub words : to.words ≡ c.words
+  pub input : to.input ≡ c.input
   pub output : to.output ≡ c.output
 
 pub round_up-runs : (base code_size : ℕ) (code : List Inst) (c : WordState) → code_size < 2 ^ 30 → c.registers 3 ≡ 65536 + code_size → Has code c.pc round_up → IsRounded base code_size code c
@@ -39,5 +31,6 @@ round_up-runs base code_size code c small here has =
       region = refl;
       stack = refl;
       words = refl;
+      input = refl;
       output = refl;
     }

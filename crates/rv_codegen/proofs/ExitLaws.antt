@@ -1,24 +1,34 @@
--- Where nodes go on: each part of a node in the node, where no number is a part of two nodes.
-use Rattle.std.proofs.Common.{◌≡◌, ◌≢◌, ℕ, zero, suc, ◌+◌, ◌<◌, List, [], ◌∷◌, length, get_or, set, replicate, Some, refl, sym, ap, ◌∙◌, arith, inl, inr, length-set, get_or-set_same, add-zero, add-one, drop}
-use Rattle.std.proofs.lemmas.List.{get_or-set_other, get_or-replicate, length-replicate, drop_more, get_or_default}
-use Rattle.std.specs.Prelude.{slice_get}
+-- Where nodes go on: the first part of a node at the front of the second, and the second where the node does.
+use Rattle.std.proofs.Common.{◌≡◌, ◌≢◌, ℕ, zero, suc, ◌+◌, ◌*◌, ◌<◌, ◌≤◌, List, [], ◌∷◌, length, get_or, set, replicate, Some, refl, sym, ap, ◌∙◌, arith, inl, inr, length-set, get_or-set_same, add-zero, add-one, drop}
+use Rattle.std.proofs.lemmas.List.{get_or-set_other, get_or-replicate, length-replicate, drop_more, get_or_default, length-map}
+use Rattle.std.specs.Prelude.{slice_get, All}
+use Rattle.std.proofs.lemmas.List.Elements.{All-head, All-tail}
 use Rattle.action_terms.specs.Actions.{Join, Chain, Node, Both, Phases, Action}
-use Rattle.rv_codegen.specs.Blocks.{completed_label, middle_of, stop_of, with_exits, exits_from, exits_of}
-use Rattle.rv_codegen.specs.Works.{node_of_work, action_of_works}
+use Rattle.rv_codegen.specs.Blocks.{first_label, front_of, with_exits, exits_from, exits_of}
+use Rattle.rv_codegen.specs.Works.{node_of_work, action_of_works, HasPartsBelow}
 use Rattle.rv_codegen.specs.declared.work.Work.{Work}
-use Rattle.rv_codegen.proofs.Pieces.{IsPartOf}
+use Rattle.rv_codegen.specs.declared.work.Work.TheVariants as work
+use Rattle.rv_codegen.proofs.NodeParts.{IsPartOf}
+
+-- the parts of an action's nodes make a tree: each is a node behind its own, and of one node alone
+pub record HasTree (a : Action) : Type 0 where
+  pub within : (k c : ℕ) (n : Node) → slice_get a k ≡ Some n → IsPartOf n c → c < length a
+  pub after : (k c : ℕ) (n : Node) → slice_get a k ≡ Some n → IsPartOf n c → k < c
+  pub one_parent : (j k c : ℕ) (m n : Node) → slice_get a j ≡ Some m → slice_get a k ≡ Some n → IsPartOf m c → IsPartOf n c → j ≡ k
+  pub both_apart : (k l r : ℕ) (q : Join) → slice_get a k ≡ Some (Both q l r) → l ≢ r
+  pub phases_apart : (k l r : ℕ) (q : Chain) → slice_get a k ≡ Some (Phases q l r) → l ≢ r
 
 length-with_exits : (n : Node) (k : ℕ) (exits : List ℕ) → length (with_exits n k exits) ≡ length exits
-length-with_exits (Both j l r) k exits = length-set (set exits l (middle_of k)) r (stop_of k) ∙ length-set exits l (middle_of k)
-length-with_exits (Phases q l r) k exits = length-set (set exits l (middle_of k)) r (stop_of k) ∙ length-set exits l (middle_of k)
+length-with_exits (Both j l r) k exits = length-set (set exits l (front_of r)) r (get_or exits k 0) ∙ length-set exits l (front_of r)
+length-with_exits (Phases q l r) k exits = length-set (set exits l (front_of r)) r (get_or exits k 0) ∙ length-set exits l (front_of r)
 length-with_exits _ k exits = refl
 
 -- a node leaves what isn't its part
 with_exits-other : (n : Node) (k c : ℕ) (exits : List ℕ) → (IsPartOf n c → ⊥) → get_or (with_exits n k exits) c 0 ≡ get_or exits c 0
 with_exits-other (Both j l r) k c exits h =
-    get_or-set_other (set exits l (middle_of k)) r c (stop_of k) 0 (λ e. h (inr (sym e))) ∙ get_or-set_other exits l c (middle_of k) 0 (λ e. h (inl (sym e)))
+    get_or-set_other (set exits l (front_of r)) r c (get_or exits k 0) 0 (λ e. h (inr (sym e))) ∙ get_or-set_other exits l c (front_of r) 0 (λ e. h (inl (sym e)))
 with_exits-other (Phases q l r) k c exits h =
-    get_or-set_other (set exits l (middle_of k)) r c (stop_of k) 0 (λ e. h (inr (sym e))) ∙ get_or-set_other exits l c (middle_of k) 0 (λ e. h (inl (sym e)))
+    get_or-set_other (set exits l (front_of r)) r c (get_or exits k 0) 0 (λ e. h (inr (sym e))) ∙ get_or-set_other exits l c (front_of r) 0 (λ e. h (inl (sym e)))
 with_exits-other _ k c exits h = refl
 
 exits_from-other : (a : Action) (k c : ℕ) (exits : List ℕ) → ((j : ℕ) (n : Node) → slice_get a j ≡ Some n → IsPartOf n c → ⊥) → get_or (exits_from k a exits) c 0 ≡ get_or exits c 0
@@ -26,80 +36,126 @@ exits_from-other [] k c exits h = refl
 exits_from-other (n ∷ a) k c exits h =
     exits_from-other a (suc k) c (with_exits n k exits) (λ j m e. h (suc j) m e) ∙ with_exits-other n k c exits (h 0 n refl)
 
--- the list of exits as it is when node number k + j, the one node with part c, is reached
-record Reached (a : Action) (k j c : ℕ) (n : Node) (exits : List ℕ) : Type 0 where
+-- the exits as they are when node number k + j is reached: it sets those that no later node does
+record Reached (a : Action) (k j : ℕ) (n : Node) (exits : List ℕ) : Type 0 where
   then : List ℕ
   size : length then ≡ length exits
-  exit : get_or (exits_from k a exits) c 0 ≡ get_or (with_exits n (k + j) then) c 0
+  exit : (c : ℕ) → ((i : ℕ) (m : Node) → slice_get a i ≡ Some m → IsPartOf m c → i ≤ j) → get_or (exits_from k a exits) c 0 ≡ get_or (with_exits n (k + j) then) c 0
 
-exits_from-part : (a : Action) (k j c : ℕ) (n : Node) (exits : List ℕ) → slice_get a j ≡ Some n → ((i : ℕ) (m : Node) → slice_get a i ≡ Some m → IsPartOf m c → i ≡ j) → Reached a k j c n exits
-exits_from-part [] k j c n exits e only = absurd (cc)
-exits_from-part (m ∷ a) k zero c n exits e only =
+reaches-node : (a : Action) (k j : ℕ) (n : Node) (exits : List ℕ) → slice_get a j ≡ Some n → Reached a k j n exits
+reaches-node [] k j n exits e = absurd (cc)
+reaches-node (m ∷ a) k zero n exits e =
     let same : m ≡ n = cc in
-    let rest = exits_from-other a (suc k) c (with_exits m k exits) (λ i x q p. let z : suc i ≡ 0 = only (suc i) x q p in cc) in
-    record { then = exits; size = refl; exit = rest ∙ ap (λ x. get_or (with_exits x k exits) c 0) same ∙ ap (λ x. get_or (with_exits n x exits) c 0) (sym (add-zero k)) }
-exits_from-part (m ∷ a) k (suc j) c n exits e only =
-    let r = exits_from-part a (suc k) j c n (with_exits m k exits) e (λ i x q p. let z : suc i ≡ suc j = only (suc i) x q p in cc) in
+    record {
+      then = exits;
+      size = refl;
+      exit = λ c last.
+          exits_from-other a (suc k) c (with_exits m k exits) (λ i x q p. absurd (let z : suc i ≤ 0 = last (suc i) x q p in omega arith))
+          ∙ ap (λ x. get_or (with_exits x k exits) c 0) same
+          ∙ ap (λ x. get_or (with_exits n x exits) c 0) (sym (add-zero k));
+    }
+reaches-node (m ∷ a) k (suc j) n exits e =
+    let r = reaches-node a (suc k) j n (with_exits m k exits) e in
     let next : suc k + j ≡ k + suc j = omega arith in
-    record { then = r.then; size = r.size ∙ length-with_exits m k exits; exit = r.exit ∙ ap (λ x. get_or (with_exits n x r.then) c 0) next }
-
--- the parts of an action's nodes make a tree: each is a node, of one node alone, and the root is none
-pub record HasTree (a : Action) : Type 0 where
-  pub within : (k c : ℕ) (n : Node) → slice_get a k ≡ Some n → IsPartOf n c → c < length a
-  pub one_parent : (j k c : ℕ) (m n : Node) → slice_get a j ≡ Some m → slice_get a k ≡ Some n → IsPartOf m c → IsPartOf n c → j ≡ k
-  pub both_apart : (k l r : ℕ) (q : Join) → slice_get a k ≡ Some (Both q l r) → l ≢ r
-  pub phases_apart : (k l r : ℕ) (q : Chain) → slice_get a k ≡ Some (Phases q l r) → l ≢ r
-  pub root : (k : ℕ) (n : Node) → slice_get a k ≡ Some n → IsPartOf n 0 → ⊥
+    record {
+      then = r.then;
+      size = r.size ∙ length-with_exits m k exits;
+      exit = λ c last. r.exit c (λ i x q p. let z : suc i ≤ suc j = last (suc i) x q p in omega arith) ∙ ap (λ x. get_or (with_exits n x r.then) c 0) next;
+    }
 
 module _ (a : Action) (tree : HasTree a) where
-  size-exits : length (replicate (length a) completed_label) ≡ length a
-  size-exits = length-replicate (length a) completed_label
+  abbrev at_first : List ℕ
+  at_first = replicate (length a) (front_of (length a))
 
-  set-first : (xs : List ℕ) (l r v w : ℕ) → l ≢ r → l < length xs → get_or (set (set xs l v) r w) l 0 ≡ v
-  set-first xs l r v w other lt = get_or-set_other (set xs l v) r l w 0 other ∙ get_or-set_same xs l v 0 lt
+  -- the exits of the parts l and r of node k, and of the node
+  record SetsExits (k l r : ℕ) (then : List ℕ) : Type 0 where
+    first : get_or (set (set then l (front_of r)) r (get_or then k 0)) l 0 ≡ front_of r
+    second : get_or (set (set then l (front_of r)) r (get_or then k 0)) r 0 ≡ get_or then k 0
+    own : get_or (set (set then l (front_of r)) r (get_or then k 0)) k 0 ≡ get_or then k 0
 
-  set-second : (xs : List ℕ) (l r v w : ℕ) → r < length xs → get_or (set (set xs l v) r w) r 0 ≡ w
-  set-second xs l r v w lt = get_or-set_same (set xs l v) r w 0 (omega (arith, length-set xs l v))
+  sets-exits : (k l r : ℕ) (then : List ℕ) → l ≢ r → k < l → k < r → l < length then → r < length then → SetsExits k l r then
+  sets-exits k l r then other kl kr ll rl =
+      let ne : k ≢ r = omega arith in
+      let nf : k ≢ l = omega arith in
+      let s = length-set then l (front_of r) in
+      record {
+        first = get_or-set_other (set then l (front_of r)) r l (get_or then k 0) 0 other ∙ get_or-set_same then l (front_of r) 0 ll;
+        second = get_or-set_same (set then l (front_of r)) r (get_or then k 0) 0 (omega (arith, s, rl));
+        own = get_or-set_other (set then l (front_of r)) r k (get_or then k 0) 0 ne ∙ get_or-set_other then l k (front_of r) 0 nf;
+      }
 
-  reached-part : (k c : ℕ) (n : Node) → slice_get a k ≡ Some n → IsPartOf n c → Reached a 0 k c n (replicate (length a) completed_label)
-  reached-part k c n e p = exits_from-part a 0 k c n (replicate (length a) completed_label) e (λ i m q h. tree.one_parent i k c m n q e h p)
+  -- the exits of the parts of a node with two parts in order
+  pub record PartExits (k l r : ℕ) : Type 0 where
+    pub first : get_or (exits_of a) l 0 ≡ front_of r
+    pub second : get_or (exits_of a) r 0 ≡ get_or (exits_of a) k 0
 
-  zero-first : (k : ℕ) → 0 + k ≡ k
-  zero-first k = omega arith
+  part-exits : (k l r : ℕ) (n : Node) → slice_get a k ≡ Some n → IsPartOf n l → IsPartOf n r → l ≢ r → ((then : List ℕ) → with_exits n k then ≡ set (set then l (front_of r)) r (get_or then k 0)) → PartExits k l r
+  part-exits k l r n e left right apart is =
+      let x = reaches-node a 0 k n at_first e in
+      let kl = tree.after k l n e left in
+      let kr = tree.after k r n e right in
+      let size : length x.then ≡ length a = x.size ∙ length-replicate (length a) (front_of (length a)) in
+      let here : 0 + k ≡ k = omega arith in
+      let sets = λ (c : ℕ). ap (λ i. get_or (with_exits n i x.then) c 0) here ∙ ap (λ es. get_or es c 0) (is x.then) in
+      let s = sets-exits k l r x.then apart kl kr (omega (arith, size, tree.within k l n e left)) (omega (arith, size, tree.within k r n e right)) in
+      let exit_l = x.exit l (λ i m q p. let z = tree.one_parent i k l m n q e p left in omega arith) ∙ sets l ∙ s.first in
+      let exit_r = x.exit r (λ i m q p. let z = tree.one_parent i k r m n q e p right in omega arith) ∙ sets r ∙ s.second in
+      let exit_k = x.exit k (λ i m q p. let z = tree.after i k m q p in omega arith) ∙ sets k ∙ s.own in
+      record { first = exit_l; second = exit_r ∙ sym exit_k }
 
-  -- the node has the part l go on behind its first part, and the part r behind its second
-  abbrev SetsExits : (k l r : ℕ) → Node → Type 0
-  SetsExits k l r n = (exits : List ℕ) → with_exits n (0 + k) exits ≡ set (set exits l (middle_of (0 + k))) r (stop_of (0 + k))
+  pub both-exits : (k l r : ℕ) (q : Join) → slice_get a k ≡ Some (Both q l r) → PartExits k l r
+  both-exits k l r q e = part-exits k l r (Both q l r) e (inl refl) (inr refl) (tree.both_apart k l r q e) (λ then. refl)
 
-  first_exit : (k l r : ℕ) (n : Node) → slice_get a k ≡ Some n → IsPartOf n l → SetsExits k l r n → l ≢ r → get_or (exits_of a) l 0 ≡ middle_of k
-  first_exit k l r n e part sets apart =
-      let x = reached-part k l n e part in
-      x.exit ∙ ap (λ exits. get_or exits l 0) (sets x.then) ∙ set-first x.then l r (middle_of (0 + k)) (stop_of (0 + k)) apart (omega (arith, x.size, size-exits, tree.within k l n e part)) ∙ ap middle_of (zero-first k)
+  pub phases-exits : (k l r : ℕ) (q : Chain) → slice_get a k ≡ Some (Phases q l r) → PartExits k l r
+  phases-exits k l r q e = part-exits k l r (Phases q l r) e (inl refl) (inr refl) (tree.phases_apart k l r q e) (λ then. refl)
 
-  second_exit : (k l r : ℕ) (n : Node) → slice_get a k ≡ Some n → IsPartOf n r → SetsExits k l r n → get_or (exits_of a) r 0 ≡ stop_of k
-  second_exit k l r n e part sets =
-      let x = reached-part k r n e part in
-      x.exit ∙ ap (λ exits. get_or exits r 0) (sets x.then) ∙ set-second x.then l r (middle_of (0 + k)) (stop_of (0 + k)) (omega (arith, x.size, size-exits, tree.within k r n e part)) ∙ ap stop_of (zero-first k)
-
-  pub both-first_exit : (k l r : ℕ) (q : Join) → slice_get a k ≡ Some (Both q l r) → get_or (exits_of a) l 0 ≡ middle_of k
-  both-first_exit k l r q e = first_exit k l r (Both q l r) e (inl refl) (λ exits. refl) (tree.both_apart k l r q e)
-
-  pub both-second_exit : (k l r : ℕ) (q : Join) → slice_get a k ≡ Some (Both q l r) → get_or (exits_of a) r 0 ≡ stop_of k
-  both-second_exit k l r q e = second_exit k l r (Both q l r) e (inr refl) (λ exits. refl)
-
-  pub phases-first_exit : (k l r : ℕ) (q : Chain) → slice_get a k ≡ Some (Phases q l r) → get_or (exits_of a) l 0 ≡ middle_of k
-  phases-first_exit k l r q e = first_exit k l r (Phases q l r) e (inl refl) (λ exits. refl) (tree.phases_apart k l r q e)
-
-  pub phases-second_exit : (k l r : ℕ) (q : Chain) → slice_get a k ≡ Some (Phases q l r) → get_or (exits_of a) r 0 ≡ stop_of k
-  phases-second_exit k l r q e = second_exit k l r (Phases q l r) e (inr refl) (λ exits. refl)
-
-  pub root-exit : 0 < length a → get_or (exits_of a) 0 0 ≡ completed_label
-  root-exit some = exits_from-other a 0 0 (replicate (length a) completed_label) (λ j n e p. tree.root j n e p) ∙ get_or-replicate (length a) 0 completed_label 0 some
+  pub root-exit : 0 < length a → get_or (exits_of a) 0 0 ≡ front_of (length a)
+  root-exit some =
+      exits_from-other a 0 0 at_first (λ j n e p. let z = tree.after j 0 n e p in omega arith) ∙ get_or-replicate (length a) 0 (front_of (length a)) 0 some
 
 -- the exits of one node more, of works from number k on
 pub exits_from-next : (works : List Work) (k : ℕ) (d : Work) (exits : List ℕ) → k < length works → exits_from (k + 1) (action_of_works (drop (k + 1) works)) (with_exits (node_of_work (get_or works k d)) k exits) ≡ exits_from k (action_of_works (drop k works)) exits
 exits_from-next works k d exits lt = let e = drop_more works k d lt in rw (e, add-one) refl
 
--- a label that was read is the one at its place
-pub label-at : (labels : List ℕ) (i l n : ℕ) → i < length labels → l ≡ get_or labels i l → get_or labels i 0 ≡ n → l ≡ n
-label-at labels i l n lt is at = is ∙ get_or_default labels i l 0 lt ∙ at
+-- ---- exits are labels of nodes, or that of the entries
+
+-- every exit is below a bound
+abbrev AreBelow : ℕ → List ℕ → Type 0
+AreBelow bound exits = (i : ℕ) → get_or exits i 0 < bound
+
+set-below : (bound i v : ℕ) (exits : List ℕ) → v < bound → AreBelow bound exits → AreBelow bound (set exits i v)
+set-below bound i v [] lt h j = h j
+set-below bound zero v (x ∷ exits) lt h zero = lt
+set-below bound zero v (x ∷ exits) lt h (suc j) = h (suc j)
+set-below bound (suc i) v (x ∷ exits) lt h zero = h 0
+set-below bound (suc i) v (x ∷ exits) lt h (suc j) = set-below bound i v exits lt (λ n. h (suc n)) j
+
+two-below : (bound l r v w : ℕ) (exits : List ℕ) → v < bound → w < bound → AreBelow bound exits → AreBelow bound (set (set exits l v) r w)
+two-below bound l r v w exits lv lw h = set-below bound r w (set exits l v) lw (set-below bound l v exits lv h)
+
+with_exits-below : (w : Work) (n bound k : ℕ) (exits : List ℕ) → first_label + 1 + 4 * n ≤ bound → HasPartsBelow n w → AreBelow bound exits → AreBelow bound (with_exits (node_of_work w) k exits)
+with_exits-below work.Complete n bound k exits le parts h = h
+with_exits-below work.Fail n bound k exits le parts h = h
+with_exits-below (work.Send z) n bound k exits le parts h = h
+with_exits-below (work.And l r) n bound k exits le parts h = two-below bound l r (front_of r) (get_or exits k 0) exits (omega (arith, parts.1)) (h k) h
+with_exits-below (work.AndThen l r) n bound k exits le parts h = two-below bound l r (front_of r) (get_or exits k 0) exits (omega (arith, parts.1)) (h k) h
+
+exits_from-below : (works : List Work) (n bound k : ℕ) (exits : List ℕ) → first_label + 1 + 4 * n ≤ bound → All (HasPartsBelow n) works → AreBelow bound exits → AreBelow bound (exits_from k (action_of_works works) exits)
+exits_from-below [] n bound k exits le parts h = h
+exits_from-below (w ∷ works) n bound k exits le parts h =
+    exits_from-below works n bound (suc k) (with_exits (node_of_work w) k exits) le (All-tail (HasPartsBelow n) w works parts) (with_exits-below w n bound k exits le (All-head (HasPartsBelow n) w works parts) h)
+
+all-below : (bound n v : ℕ) → v < bound → AreBelow bound (replicate n v)
+all-below bound zero v lt i = omega arith
+all-below bound (suc n) v lt zero = lt
+all-below bound (suc n) v lt (suc i) = all-below bound n v lt i
+
+-- the exits are among the labels that are made
+pub exits-made : (works : List Work) (exits : List ℕ) (labels : ℕ) → All (HasPartsBelow (length works)) works → exits ≡ exits_of (action_of_works works) → first_label + (4 * length works + 4) ≤ labels → All (λ l. l < labels) exits
+exits-made works exits labels parts e many i d within =
+    let a = action_of_works works in
+    let n : length a ≡ length works = length-map works node_of_work in
+    let first = all-below labels (length a) (front_of (length a)) (omega (arith, n)) in
+    let below = exits_from-below works (length works) labels 0 (replicate (length a) (front_of (length a))) (omega arith) parts first i in
+    let here : get_or exits i d ≡ get_or (exits_of a) i 0 = get_or_default exits i d 0 within ∙ ap (λ l. get_or l i 0) e in
+    rw here below

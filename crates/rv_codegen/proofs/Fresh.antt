@@ -1,20 +1,35 @@
--- Labels that are not placed yet, as items are appended.
-use Rattle.std.proofs.Common.{◌≡◌, ◌≢◌, ◌⊎◌, ⊎_elim, ℕ, ◌<◌, Bool, false, ◌||◌, List, [], ◌∷◌, ◌++◌, map, refl, arith, eqb, ne_eqb}
+-- Labels that are not placed yet, and how much code there is, as items are appended.
+use Rattle.std.proofs.Common.{◌≡◌, ◌≢◌, ◌⊎◌, ⊎_elim, ℕ, ◌+◌, ◌<◌, ◌≤◌, Bool, true, false, ◌||◌, List, [], ◌∷◌, ◌++◌, length, map, refl, arith, eqb, ne_eqb, inl, inr}
 use Rattle.rv_code.specs.declared.instruction.Inst.{Inst}
-use Rattle.rv_asm.specs.Assembly.{is_placed}
+use Rattle.rv_asm.specs.Assembly.{is_placed, total}
 use Rattle.rv_asm.specs.declared.item.Item.{Item}
-use Rattle.rv_asm.specs.declared.item.Item.TheVariants.{Plain, Mark, Jump, Address}
-use Rattle.rv_asm.specs.Conventions.{integer_word}
-use Rattle.rv_asm.specs.Pieces.{load_constant}
-use Rattle.rv_codegen.specs.Blocks.{start_of, middle_of, stop_of, block}
-use Rattle.rv_codegen.specs.Works.{node_of_work}
-use Rattle.rv_codegen.specs.declared.work.Work.{Work}
-use Rattle.rv_codegen.specs.declared.work.Work.TheVariants as work
-use Rattle.rv_codegen.proofs.Walk.{is_placed-append, is_placed-plain}
+use Rattle.rv_asm.specs.declared.item.Item.TheVariants.{Plain, Mark, Jump, BranchTo, Address}
+use Rattle.rv_asm.proofs.Labels.{total-append}
+use Rattle.rv_codegen.specs.Blocks.{first_label, joint_of, front_of, start_of, stop_of, opening}
+use Rattle.rv_codegen.specs.Marks.{AreFresh, PlacesStop}
 
-pub fresh-mark : (items : List Item) (m l : ℕ) → m < l → is_placed items l ≡ false → is_placed (items ++ Mark m ∷ []) l ≡ false
-fresh-mark items m l lt h =
-    let ne : m ≢ l = omega arith in
+pub is_placed-append : (a b : List Item) (l : ℕ) → is_placed a l ≡ false → is_placed b l ≡ false → is_placed (a ++ b) l ≡ false
+is_placed-append [] b l p q = q
+is_placed-append (Mark k ∷ a) b l p q = either (eqb k l) (is_placed a l) p (λ p'. is_placed-append a b l p' q)
+  where
+    either : (x y : Bool) → x || y ≡ false → (y ≡ false → is_placed (a ++ b) l ≡ false) → x || is_placed (a ++ b) l ≡ false
+    either true y h r = absurd (cc)
+    either false y h r = r h
+is_placed-append (Plain i ∷ a) b l p q = is_placed-append a b l p q
+is_placed-append (Jump k ∷ a) b l p q = is_placed-append a b l p q
+is_placed-append (BranchTo o x y k ∷ a) b l p q = is_placed-append a b l p q
+is_placed-append (Address d k ∷ a) b l p q = is_placed-append a b l p q
+
+is_placed-plain : (is : List Inst) (l : ℕ) → is_placed (map Plain is) l ≡ false
+is_placed-plain [] l = refl
+is_placed-plain (i ∷ is) l = is_placed-plain is l
+
+pub total-plain : (is : List Inst) → total (map Plain is) ≡ length is
+total-plain [] = refl
+total-plain (i ∷ is) = omega (arith, total-plain is)
+
+pub fresh-mark : (items : List Item) (m l : ℕ) → m ≢ l → is_placed items l ≡ false → is_placed (items ++ Mark m ∷ []) l ≡ false
+fresh-mark items m l ne h =
     let f : eqb m l || false ≡ false = let e : eqb m l ≡ false = ne_eqb _ _ ne in rw e refl in
     is_placed-append items (Mark m ∷ []) l h f
 
@@ -27,20 +42,25 @@ fresh-address items d m l h = is_placed-append items (Address d m ∷ []) l h re
 pub fresh-plain : (items : List Item) (is : List Inst) (l : ℕ) → is_placed items l ≡ false → is_placed (items ++ map Plain is) l ≡ false
 fresh-plain items is l h = is_placed-append items (map Plain is) l h (is_placed-plain is l)
 
-mark-other : (m l : ℕ) (rest : Bool) → m ≢ l → rest ≡ false → eqb m l || rest ≡ false
-mark-other m l rest ne h = let e : eqb m l ≡ false = ne_eqb _ _ ne in rw e h
+-- behind the marks of node k its own stop, the labels of the entries and those of later nodes are still to be placed
+pub fresh-opening : (items : List Item) (k l : ℕ) → AreFresh k items → (l < first_label) ⊎ (stop_of k ≤ l) → is_placed (items ++ opening k) l ≡ false
+fresh-opening items k l fresh h =
+    let below : (l < first_label) ⊎ (joint_of k ≤ l) = ⊎_elim (λ b. inl b) (λ b. inr (omega arith)) h in
+    let a : joint_of k ≢ l = ⊎_elim (λ b. omega arith) (λ b. omega arith) h in
+    let b : front_of k ≢ l = ⊎_elim (λ b. omega arith) (λ b. omega arith) h in
+    let c : start_of k ≢ l = ⊎_elim (λ b. omega arith) (λ b. omega arith) h in
+    let e1 : eqb (joint_of k) l ≡ false = ne_eqb _ _ a in
+    let e2 : eqb (front_of k) l ≡ false = ne_eqb _ _ b in
+    let e3 : eqb (start_of k) l ≡ false = ne_eqb _ _ c in
+    is_placed-append items (opening k) l (fresh l below) (rw (e1, e2, e3) refl)
 
--- no other label than a node's own is placed in its block
-pub fresh-block : (k exit l : ℕ) (w : Work) → (l < start_of k) ⊎ (stop_of k < l) → is_placed (block k exit (node_of_work w)) l ≡ false
-fresh-block k exit l w h = ⊎_elim (λ b. go w (omega arith) (omega arith) (omega arith)) (λ b. go w (omega arith) (omega arith) (omega arith)) h
-  where
-    go : (w : Work) → start_of k ≢ l → middle_of k ≢ l → stop_of k ≢ l → is_placed (block k exit (node_of_work w)) l ≡ false
-    go work.Complete a b c = mark-other (start_of k) l _ a (mark-other (middle_of k) l _ b (mark-other (stop_of k) l _ c refl))
-    go work.Fail a b c = mark-other (start_of k) l _ a (mark-other (middle_of k) l _ b (mark-other (stop_of k) l _ c refl))
-    go (work.Send z) a b c =
-        mark-other (start_of k) l _ a
-        (is_placed-append (map Plain (load_constant 10 (integer_word z))) _ l (is_placed-plain (load_constant 10 (integer_word z)) l) (mark-other (middle_of k) l _ b (mark-other (stop_of k) l _ c refl)))
-    go (work.And x y) a b c = mark-other (start_of k) l _ a (mark-other (middle_of k) l _ b (mark-other (stop_of k) l _ c refl))
-    go (work.AndThen x y) a b c = mark-other (start_of k) l _ a (mark-other (middle_of k) l _ b (mark-other (stop_of k) l _ c refl))
+-- behind a node's code the labels of the entries and those of later nodes are still to be placed
+pub fresh-behind : (items items' : List Item) (k : ℕ) → AreFresh k items → PlacesStop k (items ++ opening k) items' → AreFresh (k + 1) items'
+fresh-behind items items' k fresh places l h =
+    let other : l ≢ stop_of k = ⊎_elim (λ b. omega arith) (λ b. omega arith) h in
+    places l other (fresh-opening items k l fresh (⊎_elim (λ b. inl b) (λ b. inr (omega arith)) h))
 
-pub ruleset freshness = (fresh-mark, fresh-jump, fresh-address, fresh-plain)
+pub total-jump : (items : List Item) (m : ℕ) → total (items ++ Jump m ∷ []) ≡ total items + 2
+total-jump items m = total-append items (Jump m ∷ [])
+
+pub ruleset freshness = (fresh-mark, fresh-jump, fresh-address, fresh-plain, total-jump)

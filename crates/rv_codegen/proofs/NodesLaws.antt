@@ -1,14 +1,11 @@
 -- The code of nodes, one node after another.
-use Rattle.std.proofs.Common.{◌≡◌, ℕ, ◌+◌, ◌<◌, ◌≤◌, List, ◌++◌, false, length, get_or, drop, refl, ap, ◌∙◌, subst, arith, inl, inr, ⊎_elim, add-one, append_assoc}
+use Rattle.std.proofs.Common.{◌≡◌, ℕ, ◌+◌, ◌<◌, List, ◌++◌, length, get_or, drop, refl, ap, ◌∙◌, subst, arith, ⊎_elim, add-one, append_assoc}
 use Rattle.std.proofs.lemmas.Bool.{cases_lt}
 use Rattle.std.proofs.lemmas.List.{drop_more, get_or_default}
-use Rattle.rv_asm.specs.Assembly.{is_placed}
 use Rattle.rv_asm.specs.declared.item.Item.{Item}
-use Rattle.rv_codegen.specs.Blocks.{start_of, block, blocks_from}
+use Rattle.rv_codegen.specs.Blocks.{block, blocks_from}
 use Rattle.rv_codegen.specs.Works.{node_of_work, action_of_works, FitsWord}
 use Rattle.rv_codegen.specs.declared.work.Work.{Work}
-use Rattle.rv_codegen.proofs.Fresh.{fresh-block}
-use Rattle.rv_codegen.proofs.Walk.{is_placed-append}
 
 -- the code of one node, and then that of the nodes behind it
 pub blocks_from-next : (items : List Item) (exits : List ℕ) (works : List Work) (k exit : ℕ) (d : Work) → k < length works → k < length exits → exit ≡ get_or exits k exit → (items ++ block k exit (node_of_work (get_or works k d))) ++ blocks_from (k + 1) exits (action_of_works (drop (k + 1) works)) ≡ items ++ blocks_from k exits (action_of_works (drop k works))
@@ -18,14 +15,7 @@ blocks_from-next items exits works k exit d lt within is =
     let node = node_of_work (get_or works k d) in
     append_assoc items (block k exit node) (blocks_from (k + 1) exits (action_of_works (drop (k + 1) works)))
     ∙ ap (λ x. items ++ (block k x node ++ blocks_from (k + 1) exits (action_of_works (drop (k + 1) works)))) here
-    ∙ rw (e, add-one) refl
-
--- behind a node's code the labels of later nodes are still to be placed, and so is a label before the node's
-pub fresh-behind : (items : List Item) (k exit l : ℕ) (w : Work) → is_placed items l ≡ false → start_of (k + 1) ≤ l → is_placed (items ++ block k exit (node_of_work w)) l ≡ false
-fresh-behind items k exit l w h le = is_placed-append items (block k exit (node_of_work w)) l h (fresh-block k exit l w (inr (omega arith)))
-
-pub fresh-before : (items : List Item) (k exit l : ℕ) (w : Work) → is_placed items l ≡ false → l < start_of k → is_placed (items ++ block k exit (node_of_work w)) l ≡ false
-fresh-before items k exit l w h lt = is_placed-append items (block k exit (node_of_work w)) l h (fresh-block k exit l w (inl lt))
+    ∙ rw (e, add-one k) refl
 
 -- one work more that fits
 pub fits-more : (works : List Work) (k : ℕ) (e : Work) → k < length works → ((j : ℕ) (d : Work) → j < k → FitsWord (get_or works j d)) → FitsWord (get_or works k e) → (j : ℕ) (d : Work) → j < k + 1 → FitsWord (get_or works j d)

@@ -2,14 +2,14 @@
 use Rattle.std.proofs.Common.{◌≡◌, ◌≢◌, ℕ, zero, suc, ◌<◌, Bool, true, false, List, [], ◌∷◌, length, map, inl, inr, refl, sym, ap, subst, ◌∙◌, arith}
 use Rattle.std.specs.Prelude.{Some, slice_get, if◌then◌else◌}
 use Rattle.std.proofs.lemmas.List.{length-map}
-use Rattle.action_terms.specs.Actions.{Node, Both, Phases, Action}
+use Rattle.action_terms.specs.Actions.{Node, Furthermore, Both, Phases, Either, Trapping, Branch, Action}
 use Rattle.action_terms.specs.Meaning.{picked, items_from, node_with, action_of}
 use Rattle.action_terms.specs.Numbering.{ListedNode, Listed, IsGraph}
 use Rattle.action_terms.proofs.GraphLaws.{child_after, child_within, children_ascend, one_parent}
 use Rattle.rv_codegen.specs.declared.work.Work.{Work}
 use Rattle.rv_codegen.specs.declared.work.Work.TheVariants as work
 use Rattle.rv_codegen.specs.Works.{node_of_work, is_built_node, unbuilt_from, unbuilt}
-use Rattle.rv_codegen.proofs.Pieces.{IsPartOf}
+use Rattle.rv_codegen.proofs.NodeParts.{IsPartOf}
 use Rattle.rv_codegen.proofs.ExitLaws.{HasTree}
 use Rattle.rv_codegen.proofs.BuiltKinds.{HasParts, form-node_of}
 
@@ -41,6 +41,13 @@ part_at (Both j l r) parts c are (inl e) = (0, ap (λ ps. slice_get ps 0) are �
 part_at (Both j l r) parts c are (inr e) = (1, ap (λ ps. slice_get ps 1) are ∙ ap Some e)
 part_at (Phases q l r) parts c are (inl e) = (0, ap (λ ps. slice_get ps 0) are ∙ ap Some e)
 part_at (Phases q l r) parts c are (inr e) = (1, ap (λ ps. slice_get ps 1) are ∙ ap Some e)
+part_at (Either l r) parts c are (inl e) = (0, ap (λ ps. slice_get ps 0) are ∙ ap Some e)
+part_at (Either l r) parts c are (inr e) = (1, ap (λ ps. slice_get ps 1) are ∙ ap Some e)
+part_at (Trapping l r) parts c are (inl e) = (0, ap (λ ps. slice_get ps 0) are ∙ ap Some e)
+part_at (Trapping l r) parts c are (inr e) = (1, ap (λ ps. slice_get ps 1) are ∙ ap Some e)
+part_at (Branch y l r) parts c are (inl e) = (0, ap (λ ps. slice_get ps 0) are ∙ ap Some e)
+part_at (Branch y l r) parts c are (inr e) = (1, ap (λ ps. slice_get ps 1) are ∙ ap Some e)
+part_at (Furthermore l) parts c are e = (0, ap (λ ps. slice_get ps 0) are ∙ ap Some e)
 part_at _ parts c are part = absurd part
 
 apart : (g : Listed) → IsGraph g → (k l r : ℕ) (n : ListedNode) → slice_get g.nodes k ≡ Some n → n.children ≡ l ∷ r ∷ [] → l ≢ r
@@ -55,6 +62,10 @@ tree-of-graph g w = record {
       let h = has_listed g k n e in
       let p = part_at n h.listed.children c h.parts part in
       omega (arith, length-action_of g, child_within g w k p.0 c h.listed h.at p.1);
+  after = λ k c n e part.
+      let h = has_listed g k n e in
+      let p = part_at n h.listed.children c h.parts part in
+      omega (arith, child_after g w k p.0 c h.listed h.at p.1);
   one_parent = λ j k c m n e f part part2.
       let h = has_listed g j m e in
       let i = has_listed g k n f in
@@ -63,10 +74,6 @@ tree-of-graph g w = record {
       one_parent g w j k p.0 q.0 c h.listed i.listed h.at i.at p.1 q.1;
   both_apart = λ k l r q e. let h = has_listed g k (Both q l r) e in apart g w k l r h.listed h.at h.parts;
   phases_apart = λ k l r q e. let h = has_listed g k (Phases q l r) e in apart g w k l r h.listed h.at h.parts;
-  root = λ k n e part.
-      let h = has_listed g k n e in
-      let p = part_at n h.listed.children 0 h.parts part in
-      absurd (omega (arith, child_after g w k p.0 0 h.listed h.at p.1));
 }
 
 empty_test : (b : Bool) (j : ℕ) (js : List ℕ) → (if b then js else j ∷ js) ≡ [] → (b ≡ true) × (js ≡ [])

@@ -1,11 +1,13 @@
-//! The prelude: the first instructions, and the entries that the code of every action calls.
+//! The first instructions, and the entries that stand behind the code of the nodes.
 
-ghost use Rattle.std.specs.Prelude.{◌≡◌, ◌<◌, ◌≤◌, [], ◌++◌, OnOk, map};
+ghost use Rattle.std.specs.Prelude.{◌≡◌, ◌+◌, ◌*◌, ◌<◌, ◌≤◌, [], ◌++◌, OnOk, length, map};
 ghost use Rattle.rv_code.specs.declared.instruction.Inst.TheVariants.{OpImm};
 ghost use Rattle.rv_code.specs.declared.instruction.OpImmOp.TheVariants.{Addi};
 ghost use Rattle.rv_asm.specs.declared.item.Item.TheVariants.{Plain};
-ghost use Rattle.rv_codegen.specs.Blocks.{completed_label, failed_label, fail_label, send_label, start_label, end_label, set_registers, send_entry, prelude};
+ghost use Rattle.rv_codegen.specs.Blocks.{fail_label, send_label, end_label, first_label, round_up, prelude, send_entry, opening, entries};
+ghost use Rattle.rv_codegen.specs.Marks.{AreFresh};
 
+use crate::labels::NodeLabels;
 use acg_base::Memory;
 use rv_asm::pieces::{exit_with, send_word};
 use rv_asm::{Asm, Label};
@@ -25,34 +27,25 @@ const REGION: Reg = Reg(3);
 /// Holds the first argument of a call, and the integer to be sent.
 pub(crate) const ARGUMENT: Reg = Reg(10);
 
-/// The labels of the entries.
+/// The labels of the entries, and that of the end of the code.
 #[derive(Clone, Copy)]
 pub(crate) struct Entries {
-    pub(crate) completed: Label,
-    pub(crate) failed: Label,
     pub(crate) fail: Label,
     pub(crate) send: Label,
-    pub(crate) start: Label,
     pub(crate) end: Label,
-    ghost completed_is: { completed ≡ completed_label },
-    ghost failed_is: { failed ≡ failed_label },
     ghost fail_is: { fail ≡ fail_label },
     ghost send_is: { send ≡ send_label },
-    ghost start_is: { start ≡ start_label },
     ghost end_is: { end ≡ end_label },
 }
 
 /// The labels of the entries, as the first of an assembler.
 pub(crate) fn make_entries(asm: &mut Asm) -> Result<Entries, Memory>
     requires { asm.old.labels ≡ 0 }
-    ensures { OnOk result (asm.new ≡ record asm.old { labels = 6 }) }
+    ensures { OnOk result (asm.new ≡ record asm.old { labels = first_label }) }
 {
     Ok(Entries {
-        completed: asm.label()?,
-        failed: asm.label()?,
         fail: asm.label()?,
         send: asm.label()?,
-        start: asm.label()?,
         end: asm.label()?,
     })
 }
@@ -69,13 +62,10 @@ fn add_immediate(rd: Reg, imm: i32) -> Inst
     }
 }
 
-/// Appends what sets the registers of the region and of the frame, and goes to the start.
-fn append_registers(asm: &mut Asm, start: Label, end: Label) -> Result<(), Memory>
-    requires start { start < asm.old.labels }
-    requires end { end < asm.old.labels }
-    ensures { start ≡ start_label → end ≡ end_label → OnOk result (asm.new ≡ record asm.old { items = asm.old.items ++ set_registers }) }
+/// Appends what rounds the address of the code's end up to that of the region, and finds the stack.
+fn append_round_up(asm: &mut Asm) -> Result<(), Memory>
+    ensures { OnOk result (asm.new ≡ record asm.old { items = asm.old.items ++ map Plain round_up }) }
 {
-    asm.address(REGION, end)?;
     asm.emit(add_immediate(REGION, 2047))?;
     asm.emit(add_immediate(REGION, 2047))?;
     asm.emit(add_immediate(REGION, 1))?;
@@ -101,8 +91,17 @@ fn append_registers(asm: &mut Asm, start: Label, end: Label) -> Result<(), Memor
         rd: FRAME,
         rs1: FRAME,
         rs2: REGION,
-    })?;
-    asm.jump(start)
+    })
+}
+
+/// Appends the first instructions, which set the registers of the region and of the frame.
+pub(crate) fn append_prelude(asm: &mut Asm, entries: &Entries) -> Result<(), Memory>
+    requires empty { asm.old.items ≡ [] }
+    requires made { first_label ≤ asm.old.labels }
+    ensures { OnOk result (asm.new ≡ record asm.old { items = prelude }) }
+{
+    asm.address(REGION, entries.end)?;
+    append_round_up(asm)
 }
 
 /// Appends the entry that sends.
@@ -117,19 +116,38 @@ fn append_send(asm: &mut Asm) -> Result<(), Memory>
     })
 }
 
-/// Appends the first instructions and the entries.
-pub(crate) fn append_prelude(asm: &mut Asm, entries: &Entries) -> Result<(), Memory>
-    requires empty { asm.old.items ≡ [] }
-    requires made { 6 ≤ asm.old.labels }
-    ensures { OnOk result (asm.new ≡ record asm.old { items = prelude }) }
+/// Appends the marks before the code of node k, or before the entries, which stand where a node behind the last would.
+#[tactic(auto, using(crate::proofs::Fresh::freshness))]
+pub(crate) fn append_opening(asm: &mut Asm, labels: NodeLabels<'_>, k: usize)
+    requires within { 4 * k + 3 < length labels.row.now }
+    requires made { first_label + length labels.row.now ≤ asm.old.labels }
+    requires fresh { AreFresh k asm.old.items }
+    ensures { asm.new ≡ record asm.old { items = asm.old.items ++ opening k } }
 {
-    append_registers(asm, entries.start, entries.end)?;
-    asm.place(entries.completed);
+    asm.place(labels.joint(k));
+    asm.place(labels.front(k));
+    asm.place(labels.start(k));
+}
+
+/// Appends what stands behind the last node, whose number is one below this.
+#[tactic(auto, using(crate::proofs::Fresh::freshness))]
+pub(crate) fn append_entries(
+    asm: &mut Asm,
+    labels: NodeLabels<'_>,
+    nodes: usize,
+    labels_of: &Entries,
+) -> Result<(), Memory>
+    requires within { 4 * nodes + 3 < length labels.row.now }
+    requires made { first_label + length labels.row.now ≤ asm.old.labels }
+    requires fresh { AreFresh nodes asm.old.items }
+    ensures { OnOk result (asm.new ≡ record asm.old { items = asm.old.items ++ entries nodes }) }
+{
+    append_opening(asm, labels, nodes);
     exit_with(asm, 0)?;
-    asm.place(entries.failed);
+    asm.place(labels_of.fail);
     exit_with(asm, 1)?;
-    asm.place(entries.fail);
-    asm.jump(entries.failed)?;
-    asm.place(entries.send);
-    append_send(asm)
+    asm.place(labels_of.send);
+    append_send(asm)?;
+    asm.place(labels_of.end);
+    Ok(())
 }

@@ -1,18 +1,20 @@
 //! The code of an action, for any action whose nodes are built.
 
-ghost use Rattle.std.specs.Prelude.{◌≡◌, ℕ, ◌+◌, ◌*◌, ◌<◌, ◌≤◌, [], ◌++◌, OnOk, IfOk, false, length, slice_index, All, Some, map};
+ghost use Rattle.std.specs.Prelude.{◌≡◌, ℕ, ◌+◌, ◌*◌, ◌<◌, ◌≤◌, [], ◌++◌, OnOk, IfOk, length, All, Some, map};
 ghost use Rattle.rv_code.specs.Encode.{encode};
-ghost use Rattle.rv_asm.specs.Assembly.{is_placed, code_of};
-ghost use Rattle.rv_codegen.specs.Blocks.{end_label, prelude, blocks_from, exits_of, action_items};
+ghost use Rattle.rv_asm.specs.Arrivals.{LabelsStand};
+ghost use Rattle.rv_asm.specs.Assembly.{total, code_of};
+ghost use Rattle.rv_codegen.specs.Blocks.{first_label, blocks_from, exits_of, action_items};
+ghost use Rattle.rv_codegen.specs.Marks.{AreFresh};
 ghost use Rattle.rv_asm.specs.Conventions.{instruction_bytes};
 ghost use Rattle.action_terms.specs.Meaning.{action_of};
 ghost use Rattle.rv_codegen.specs.Works.{action_of_works, HasPartsBelow, FitsWord, unbuilt};
 ghost use Rattle.rv_codegen.specs.Measures.{subject_of, node_count};
 ghost use Rattle.rv_codegen.specs.RightImage.{compiled_image, IsRight};
 
-use crate::entries::{Entries, append_prelude, make_entries};
+use crate::entries::{Entries, append_entries, append_prelude, make_entries};
 use crate::exits::make_exits;
-use crate::labels::make_labels;
+use crate::labels::{NodeLabels, make_labels};
 use crate::node::append_node;
 use crate::work::{Work, works_of};
 use acg_base::Memory;
@@ -24,20 +26,20 @@ use std::alloc::Global;
 fn append_nodes(
     asm: &mut Asm,
     works: &[Work],
-    labels: &[Label],
+    labels: NodeLabels<'_>,
     exits: &[Label],
     entries: &Entries,
 ) -> Result<(), Memory>
-    requires labels { length labels.now ≡ 3 * length works.now }
-    requires made { 6 + length labels.now ≤ asm.old.labels }
-    requires numbers { (i : ℕ) → i < length labels.now → slice_index labels.now i ≡ 6 + i }
+    requires labels { length labels.row.now ≡ 4 * length works.now + 4 }
+    requires made { first_label + length labels.row.now ≤ asm.old.labels }
     requires parts { All (HasPartsBelow (length works.now)) works.now }
     requires exits { length exits.now ≡ length works.now }
     requires exits_made { All (λ l. l < asm.old.labels) exits.now }
-    requires fresh { (l : ℕ) → 5 ≤ l → is_placed asm.old.items l ≡ false }
+    requires fresh { AreFresh 0 asm.old.items }
     ensures items { OnOk result (asm.new ≡ record asm.old { items = asm.old.items ++ blocks_from 0 exits.now (action_of_works works.now) }) }
+    ensures fresh { OnOk result (AreFresh (length works.now) asm.new.items) }
+    ensures short { OnOk result (total asm.new.items ≤ total asm.old.items + 14 * length works.now) }
     ensures fits { OnOk result (All FitsWord works.now) }
-    ensures fresh { OnOk result (is_placed asm.new.items end_label ≡ false) }
 {
     for k in 0..works.len() {
         append_node(asm, labels, k, works[k], exits[k], entries)?;
@@ -45,49 +47,44 @@ fn append_nodes(
     Ok(())
 }
 
-/// Appends the way to the root, the code of the nodes, and the end, behind the prelude.
-#[tactic(auto, using(crate::proofs::Fresh::freshness))]
+/// Appends all of the code: the first instructions, the nodes and the entries.
 fn append_action(
     asm: &mut Asm,
     works: &[Work],
-    labels: &[Label],
+    labels: NodeLabels<'_>,
     exits: &[Label],
     entries: &Entries,
 ) -> Result<(), Memory>
-    requires labels { length labels.now ≡ 3 * length works.now }
-    requires made { 6 + length labels.now ≤ asm.old.labels }
-    requires numbers { (i : ℕ) → i < length labels.now → slice_index labels.now i ≡ 6 + i }
+    requires empty { asm.old.items ≡ [] }
+    requires labels { length labels.row.now ≡ 4 * length works.now + 4 }
+    requires made { first_label + length labels.row.now ≤ asm.old.labels }
     requires parts { All (HasPartsBelow (length works.now)) works.now }
-    requires some { 0 < length works.now }
     requires exits { exits.now ≡ exits_of (action_of_works works.now) }
     requires exits_len { length exits.now ≡ length works.now }
-    requires exits_made { All (λ l. l < 6 + 3 * length works.now) exits.now }
-    requires prelude { asm.old.items ≡ prelude }
     ensures items { OnOk result (asm.new.items ≡ action_items (action_of_works works.now)) }
+    ensures short { OnOk result (total asm.new.items ≤ 22 + 14 * length works.now) }
     ensures fits { OnOk result (All FitsWord works.now) }
 {
-    asm.place(entries.start);
-    asm.jump(labels[0])?;
+    append_prelude(asm, entries)?;
     append_nodes(asm, works, labels, exits, entries)?;
-    asm.place(entries.end);
-    Ok(())
+    append_entries(asm, labels, works.len(), entries)
 }
 
 /// The code of what the nodes have to do.
-#[tactic(auto, using(crate::proofs::Totals::assembled))]
 fn assemble(alloc: Global, works: &[Work]) -> Result<Code, Memory>
     requires parts { All (HasPartsBelow (length works.now)) works.now }
-    requires some { 0 < length works.now }
     requires few { length works.now ≤ 65536 }
     ensures words { IfOk result (λ code. map Some code.words.items ≡ map encode (code_of (action_items (action_of_works works.now)))) }
+    ensures labels { OnOk result (LabelsStand (action_items (action_of_works works.now))) }
+    ensures short { OnOk result (total (action_items (action_of_works works.now)) ≤ 22 + 14 * length works.now) }
     ensures fits { OnOk result (All FitsWord works.now) }
 {
     let mut asm = Asm::new(alloc)?;
     let entries = make_entries(&mut asm)?;
-    let labels = make_labels(alloc, &mut asm, 3 * works.len())?;
-    let exits = make_exits(alloc, works, &labels, entries.completed)?;
-    append_prelude(&mut asm, &entries)?;
-    append_action(&mut asm, works, &labels, &exits, &entries)?;
+    let row = make_labels(alloc, &mut asm, 4 * works.len() + 4)?;
+    let labels = NodeLabels { row: &row };
+    let exits = make_exits(alloc, works, labels)?;
+    append_action(&mut asm, works, labels, &exits, &entries)?;
     asm.finish()
 }
 

@@ -1,141 +1,130 @@
 //! The code of one node.
 
-ghost use Rattle.std.specs.Prelude.{◌≡◌, ℕ, ◌+◌, ◌*◌, ◌/◌, ◌<◌, ◌≤◌, ◌++◌, OnOk, false, length, slice_index};
-ghost use Rattle.rv_asm.specs.Assembly.{is_placed};
-ghost use Rattle.rv_codegen.specs.Blocks.{start_of, middle_of, stop_of, send_label, one_jump, one_send, two_parts, block};
+ghost use Rattle.std.specs.Prelude.{◌≡◌, ℕ, ◌+◌, ◌*◌, ◌/◌, ◌-◌, ◌<◌, ◌≤◌, ◌++◌, OnOk, false, length};
+ghost use Rattle.rv_asm.specs.Assembly.{total, is_placed};
+ghost use Rattle.rv_codegen.specs.Blocks.{first_label, stop_of, goes, leaves, sends, body, block};
+ghost use Rattle.rv_codegen.specs.Marks.{AreFresh, PlacesStop};
 ghost use Rattle.rv_codegen.specs.Works.{node_of_work, HasPartsBelow, FitsWord};
 
-use crate::entries::{ARGUMENT, Entries, RETURN};
+use crate::entries::{ARGUMENT, Entries, RETURN, append_opening};
+use crate::labels::NodeLabels;
 use crate::work::Work;
 use acg_base::Memory;
 use rv_asm::pieces::load_constant;
 use rv_asm::{Asm, Label};
 
-/// The labels of a node: its start, the place behind its first part, and the place behind its second.
-#[derive(Clone, Copy)]
-pub(crate) struct NodeLabels {
-    pub(crate) start: Label,
-    pub(crate) middle: Label,
-    pub(crate) stop: Label,
-    ghost ascending: { (start < middle) × (middle < stop) },
-}
-
-/// Appends the code of a node that only goes to a label.
+/// Appends the way to a label from before another: nothing where that is the one.
 #[tactic(auto, using(crate::proofs::Fresh::freshness))]
-pub(crate) fn append_one_jump(asm: &mut Asm, labels: NodeLabels, to: Label) -> Result<(), Memory>
-    requires made { labels.stop < asm.old.labels }
-    requires to { to < asm.old.labels }
-    requires start { is_placed asm.old.items labels.start ≡ false }
-    requires middle { is_placed asm.old.items labels.middle ≡ false }
-    requires stop { is_placed asm.old.items labels.stop ≡ false }
-    ensures { (k : ℕ) → labels.start ≡ start_of k → labels.middle ≡ middle_of k → labels.stop ≡ stop_of k → OnOk result (asm.new ≡ record asm.old { items = asm.old.items ++ one_jump k to }) }
+fn append_way(asm: &mut Asm, next: Label, label: Label) -> Result<(), Memory>
+    requires { label < asm.old.labels }
+    ensures items { OnOk result (asm.new ≡ record asm.old { items = asm.old.items ++ goes next label }) }
+    ensures marks { OnOk result ((k : ℕ) → PlacesStop k asm.old.items asm.new.items) }
+    ensures short { OnOk result (total asm.new.items ≤ total asm.old.items + 2) }
 {
-    asm.place(labels.start);
-    asm.place(labels.middle);
-    asm.place(labels.stop);
-    asm.jump(to)
+    if label == next {
+        return Ok(());
+    }
+    asm.jump(label)
 }
 
-/// Appends the code of a node that performs one part and then another.
+/// Appends what sends the integer with a word, by the entry that sends.
 #[tactic(auto, using(crate::proofs::Fresh::freshness))]
-pub(crate) fn append_two_parts(
+fn append_sends(
     asm: &mut Asm,
-    labels: NodeLabels,
-    first: Label,
-    second: Label,
-    exit: Label,
+    labels: NodeLabels<'_>,
+    k: usize,
+    entries: &Entries,
+    word: u64,
 ) -> Result<(), Memory>
-    requires made { labels.stop < asm.old.labels }
-    requires first { first < asm.old.labels }
-    requires second { second < asm.old.labels }
-    requires exit { exit < asm.old.labels }
-    requires start { is_placed asm.old.items labels.start ≡ false }
-    requires middle { is_placed asm.old.items labels.middle ≡ false }
-    requires stop { is_placed asm.old.items labels.stop ≡ false }
-    ensures { (k : ℕ) → (l : ℕ) → (r : ℕ) → labels.start ≡ start_of k → labels.middle ≡ middle_of k → labels.stop ≡ stop_of k → first ≡ start_of l → second ≡ start_of r → OnOk result (asm.new ≡ record asm.old { items = asm.old.items ++ two_parts k exit l r }) }
+    requires within { 4 * k + 3 < length labels.row.now }
+    requires made { first_label + length labels.row.now ≤ asm.old.labels }
+    requires stop { is_placed asm.old.items (stop_of k) ≡ false }
+    ensures items { OnOk result (asm.new ≡ record asm.old { items = asm.old.items ++ sends k word }) }
+    ensures marks { OnOk result (PlacesStop k asm.old.items asm.new.items) }
+    ensures short { OnOk result (total asm.new.items ≤ total asm.old.items + 12) }
 {
-    asm.place(labels.start);
-    asm.jump(first)?;
-    asm.place(labels.middle);
-    asm.jump(second)?;
-    asm.place(labels.stop);
-    asm.jump(exit)
+    let stop = labels.stop(k);
+    load_constant(asm, ARGUMENT, word)?;
+    asm.address(RETURN, stop)?;
+    asm.jump(entries.send)?;
+    asm.place(stop);
+    Ok(())
 }
 
-/// Appends the code of a node that sends the integer with a word, by the entry that sends.
-#[tactic(auto, using(crate::proofs::Fresh::freshness))]
-pub(crate) fn append_one_send(
+/// Appends the code of node k where it sends the integer with a word and goes on at a label.
+fn append_sending(
     asm: &mut Asm,
-    labels: NodeLabels,
-    send: Label,
+    labels: NodeLabels<'_>,
+    k: usize,
+    entries: &Entries,
     exit: Label,
     word: u64,
 ) -> Result<(), Memory>
-    requires made { labels.stop < asm.old.labels }
-    requires send { send < asm.old.labels }
+    requires within { 4 * k + 7 < length labels.row.now }
+    requires made { first_label + length labels.row.now ≤ asm.old.labels }
     requires exit { exit < asm.old.labels }
-    requires start { is_placed asm.old.items labels.start ≡ false }
-    requires middle { is_placed asm.old.items labels.middle ≡ false }
-    requires stop { is_placed asm.old.items labels.stop ≡ false }
-    ensures { (k : ℕ) → labels.start ≡ start_of k → labels.middle ≡ middle_of k → labels.stop ≡ stop_of k → send ≡ send_label → OnOk result (asm.new ≡ record asm.old { items = asm.old.items ++ one_send k exit word }) }
+    requires stop { is_placed asm.old.items (stop_of k) ≡ false }
+    ensures items { OnOk result (asm.new ≡ record asm.old { items = asm.old.items ++ (sends k word ++ leaves k exit) }) }
+    ensures marks { OnOk result (PlacesStop k asm.old.items asm.new.items) }
+    ensures short { OnOk result (total asm.new.items ≤ total asm.old.items + 14) }
 {
-    asm.place(labels.start);
-    load_constant(asm, ARGUMENT, word)?;
-    asm.address(RETURN, labels.middle)?;
-    asm.jump(send)?;
-    asm.place(labels.middle);
-    asm.place(labels.stop);
-    asm.jump(exit)
+    let next = labels.front(k + 1);
+    append_sends(asm, labels, k, entries, word)?;
+    append_way(asm, next, exit)
 }
 
-/// The labels of node k, of a row with three for each node.
-pub(crate) fn labels_of_node(labels: &[Label], k: usize) -> NodeLabels
-    requires within { 3 * k + 2 < length labels.now }
-    requires numbers { (i : ℕ) → i < length labels.now → slice_index labels.now i ≡ 6 + i }
-    ensures start { result.start ≡ start_of k }
-    ensures middle { result.middle ≡ middle_of k }
-    ensures stop { result.stop ≡ stop_of k }
-{
-    let start = labels[3 * k];
-    let middle = labels[3 * k + 1];
-    let stop = labels[3 * k + 2];
-    NodeLabels {
-        start,
-        middle,
-        stop,
-    }
-}
-
-/// Appends the code of node k, which goes on at a label.
+/// Appends the code of node k behind its start, where the node goes on at a label.
 #[tactic(auto, using(crate::proofs::Fresh::freshness))]
-pub(crate) fn append_node(
+fn append_body(
     asm: &mut Asm,
-    labels: &[Label],
+    labels: NodeLabels<'_>,
     k: usize,
     work: Work,
     exit: Label,
     entries: &Entries,
 ) -> Result<(), Memory>
-    requires within { 3 * k + 2 < length labels.now }
-    requires made { 6 + length labels.now ≤ asm.old.labels }
-    requires numbers { (i : ℕ) → i < length labels.now → slice_index labels.now i ≡ 6 + i }
-    requires parts { HasPartsBelow (length labels.now / 3) work }
+    requires within { 4 * k + 7 < length labels.row.now }
+    requires made { first_label + length labels.row.now ≤ asm.old.labels }
+    requires parts { HasPartsBelow (length labels.row.now / 4 - 1) work }
     requires exit { exit < asm.old.labels }
-    requires fresh { (l : ℕ) → start_of k ≤ l → is_placed asm.old.items l ≡ false }
-    ensures items { OnOk result (asm.new ≡ record asm.old { items = asm.old.items ++ block k exit (node_of_work work) }) }
+    requires stop { is_placed asm.old.items (stop_of k) ≡ false }
+    ensures items { OnOk result (asm.new ≡ record asm.old { items = asm.old.items ++ body k exit (node_of_work work) }) }
+    ensures marks { OnOk result (PlacesStop k asm.old.items asm.new.items) }
+    ensures short { OnOk result (total asm.new.items ≤ total asm.old.items + 14) }
     ensures fits { OnOk result (FitsWord work) }
 {
-    let own = labels_of_node(labels, k);
+    let next = k + 1;
     match work {
-        Work::Complete => append_one_jump(asm, own, exit),
-        Work::Fail => append_one_jump(asm, own, entries.fail),
+        Work::Complete => append_way(asm, labels.front(next), exit),
+        Work::Fail => asm.jump(entries.fail),
         Work::Send(integer) => {
-            append_one_send(asm, own, entries.send, exit, integer.cast_unsigned())
+            append_sending(asm, labels, k, entries, exit, integer.cast_unsigned())
         }
-        Work::And(left, right) | Work::AndThen(left, right) => {
-            let first = labels[3 * left as usize];
-            let second = labels[3 * right as usize];
-            append_two_parts(asm, own, first, second, exit)
+        Work::And(first, _) | Work::AndThen(first, _) => {
+            append_way(asm, labels.start(next), labels.start(first as usize))
         }
     }
+}
+
+/// Appends the code of node k, which goes on at a label.
+pub(crate) fn append_node(
+    asm: &mut Asm,
+    labels: NodeLabels<'_>,
+    k: usize,
+    work: Work,
+    exit: Label,
+    entries: &Entries,
+) -> Result<(), Memory>
+    requires within { 4 * k + 7 < length labels.row.now }
+    requires made { first_label + length labels.row.now ≤ asm.old.labels }
+    requires parts { HasPartsBelow (length labels.row.now / 4 - 1) work }
+    requires exit { exit < asm.old.labels }
+    requires fresh { AreFresh k asm.old.items }
+    ensures items { OnOk result (asm.new ≡ record asm.old { items = asm.old.items ++ block k exit (node_of_work work) }) }
+    ensures fresh { OnOk result (AreFresh (k + 1) asm.new.items) }
+    ensures short { OnOk result (total asm.new.items ≤ total asm.old.items + 14) }
+    ensures fits { OnOk result (FitsWord work) }
+{
+    append_opening(asm, labels, k);
+    append_body(asm, labels, k, work, exit, entries)
 }

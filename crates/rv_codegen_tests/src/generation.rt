@@ -39,16 +39,13 @@ fn graph_of<'a>(
 }
 
 // The words of (send 7 and send -1) and then (complete and fail). They are those that llvm-mc gives
-// for the prelude and the blocks written in its notation.
-const WORDS: [u32; 64] = [
-    0x00000197, 0x10018193, 0x7ff18193, 0x7ff18193, 0x00118193, 0x00c1d193, 0x00c19193, 0x00001137,
-    0x00310133, 0x00000f97, 0x044f8067, 0x00000513, 0x05d00893, 0x00000073, 0x00100513, 0x05d00893,
-    0x00000073, 0x00000f97, 0xff4f8067, 0x00a1b023, 0x00018593, 0x00800613, 0x04000893, 0x00100513,
-    0x00000073, 0x00008067, 0x00000f97, 0x008f8067, 0x00000f97, 0x018f8067, 0x00000f97, 0x060f8067,
-    0x00000f97, 0xfacf8067, 0x00000f97, 0x018f8067, 0x00000f97, 0x02cf8067, 0x00000f97, 0xfe0f8067,
-    0x00700513, 0x00000097, 0x01008093, 0x00000f97, 0xfa0f8067, 0x00000f97, 0xfdcf8067, 0xfff00513,
-    0x00000097, 0x01008093, 0x00000f97, 0xf84f8067, 0x00000f97, 0xfc8f8067, 0x00000f97, 0x018f8067,
-    0x00000f97, 0x018f8067, 0x00000f97, 0xf98f8067, 0x00000f97, 0xff0f8067, 0x00000f97, 0xf4cf8067,
+// for the first instructions, the blocks and the entries written in its notation.
+const WORDS: [u32; 34] = [
+    0x00000197, 0x08818193, 0x7ff18193, 0x7ff18193, 0x00118193, 0x00c1d193, 0x00c19193, 0x00001137,
+    0x00310133, 0x00700513, 0x00000097, 0x01008093, 0x00000f97, 0x03cf8067, 0xfff00513, 0x00000097,
+    0x01008093, 0x00000f97, 0x028f8067, 0x00000f97, 0x014f8067, 0x00000513, 0x05d00893, 0x00000073,
+    0x00100513, 0x05d00893, 0x00000073, 0x00a1b023, 0x00018593, 0x00800613, 0x04000893, 0x00100513,
+    0x00000073, 0x00008067,
 ];
 
 #[test]
@@ -69,6 +66,52 @@ fn words_of_another_assembler(rt: HostRuntime) -> Result<(), Fail> {
     assert!(rt; first_unbuilt(&graph).is_none());
     let code = generate(rt.alloc(), &graph)?;
     assert_eq!(rt; code.words.as_slice(), WORDS.as_slice());
+    Ok(())
+}
+
+// How many words the code of these nodes has.
+fn count_words(rt: &impl Abort, alloc: Global, nodes: &[Pushed<'_>]) -> Result<usize, Fail> {
+    let arena = Bump::new(alloc);
+    let graph = graph_of(rt, alloc, &arena, nodes)?;
+    assert!(rt; first_unbuilt(&graph).is_none());
+    let code = generate(alloc, &graph)?;
+    Ok(code.words.len())
+}
+
+// A chain of three sends has 9 words before it and 13 behind it. A send of a small number has one word for the
+// number, two for the address to return to and two for the jump to the entry, and no jump stands between the parts,
+// however they are grouped.
+#[test]
+fn no_jump_between_sends(rt: HostRuntime) -> Result<(), Fail> {
+    let to_the_right = [
+        action(Kind::AndThen),
+        action(Kind::Send),
+        yielder(YKind::Number(1)),
+        action(Kind::AndThen),
+        action(Kind::Send),
+        yielder(YKind::Number(2)),
+        action(Kind::Send),
+        yielder(YKind::Number(3)),
+    ];
+    assert_eq!(rt;
+        count_words(&rt, rt.alloc(), &to_the_right)?,
+        9 + 3 * (1 + 2 + 2) + 13
+    );
+
+    let to_the_left = [
+        action(Kind::AndThen),
+        action(Kind::AndThen),
+        action(Kind::Send),
+        yielder(YKind::Number(1)),
+        action(Kind::Send),
+        yielder(YKind::Number(2)),
+        action(Kind::Send),
+        yielder(YKind::Number(3)),
+    ];
+    assert_eq!(rt;
+        count_words(&rt, rt.alloc(), &to_the_left)?,
+        9 + 3 * (1 + 2 + 2) + 13
+    );
     Ok(())
 }
 

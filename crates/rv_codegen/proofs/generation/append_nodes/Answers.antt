@@ -1,9 +1,8 @@
-use Rattle.std.proofs.Common.{◌≡◌, ◌∙◌, ◌+◌, ◌++◌, false, ap, sym, subst, arith}
+use Rattle.std.proofs.Common.{◌∙◌, ◌+◌, ◌++◌, ap, arith}
 use Rattle.std.specs.Prelude.{drop}
-use Rattle.rv_asm.specs.Assembly.{is_placed}
-use Rattle.rv_codegen.specs.Blocks.{end_label, blocks_from}
+use Rattle.rv_codegen.specs.Blocks.{blocks_from}
 use Rattle.rv_codegen.specs.Works.{action_of_works}
-use Rattle.rv_codegen.proofs.NodesLaws.{blocks_from-next, fresh-behind, fresh-before, fits-more}
+use Rattle.rv_codegen.proofs.NodesLaws.{blocks_from-next, fits-more}
 use Rattle.rv_codegen.proofs.generation.append_nodes.Goals as goal
 
 pub loop-k-preserved : goal.loop-k-preserved
@@ -15,14 +14,13 @@ loop-k-preserved c =
     let items = c.loop-k.asm.items in
     let exit = c.index-exits-k.result in
     let appended = c.in_ok-append_node.ensures.items in
-    let new_items = ap (λ a. a.items) appended in
     record {
       items =
-          ap (λ l. l ++ blocks_from (k + 1) exits (action_of_works (drop (k + 1) works))) new_items
+          ap (λ a. a.items ++ blocks_from (k + 1) exits (action_of_works (drop (k + 1) works))) appended
           ∙ blocks_from-next items exits works k exit _ turn (omega (arith, turn, c.requires.exits)) c.index-exits-k.is
           ∙ c.loop-k.invariant.items;
       labels = ap (λ a. a.labels) appended ∙ c.loop-k.invariant.labels;
-      fresh = λ n le. subst (λ l. is_placed l n ≡ false) (sym new_items) (fresh-behind items k exit n _ (c.loop-k.invariant.fresh n (omega arith)) le);
-      end = subst (λ l. is_placed l end_label ≡ false) (sym new_items) (fresh-before items k exit end_label _ c.loop-k.invariant.end (omega arith));
+      fresh = c.in_ok-append_node.ensures.fresh;
+      short = omega (arith, c.in_ok-append_node.ensures.short, c.loop-k.invariant.short);
       fits = fits-more works k _ turn c.loop-k.invariant.fits c.in_ok-append_node.ensures.fits;
     }

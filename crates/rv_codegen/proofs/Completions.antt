@@ -1,0 +1,72 @@
+-- A node that completes where its last part did: its frame's own step needs no instruction.
+use Rattle.std.proofs.Common.{◌≡◌, ℕ, List, ◌∷◌, refl, ap, ◌∙◌, arith, inl, inr}
+use Rattle.rv_asm.specs.Assembly.{address_of}
+use Rattle.rv_asm.proofs.Moments.{quiet-advance}
+use Rattle.action_terms.specs.Information.{Binds, Data}
+use Rattle.action_terms.specs.Actions.{node_at}
+use Rattle.action_terms.specs.Acting.{Done, Ended}
+use Rattle.action_terms.specs.Performances.{OneOf}
+use Rattle.action_terms.specs.Steps.{Letter, open_steps}
+use Rattle.action_terms.proofs.Contexts.{Frame, wrap, plugged}
+use Rattle.action_terms.proofs.Parts.{quiet, reaches-quiet}
+use Rattle.rv_codegen.proofs.Around.{Leaves, BindsLeft, Around}
+use Rattle.rv_codegen.proofs.Configurations.{depth, performances}
+use Rattle.rv_codegen.proofs.NodeParts.{IsPartOf, part-node}
+use Rattle.rv_codegen.proofs.RestPoints.{Laid, IsAt, Completing, completes, EndGoesOn}
+use Rattle.rv_codegen.proofs.Settings.{Setting, code, exit}
+use Rattle.rv_codegen.proofs.Units.{units-more}
+
+module _ (s : Setting) (laid : Laid s) where
+  -- node n around the part that has completed
+  pub record Completes (frame : Frame) (x : Completing s frame) (n : ℕ) (d : Data) (b : Binds) : Type 0 where
+    pub part : IsPartOf (node_at s.action n) x.done.k
+    pub exit_is : exit s x.done.k ≡ exit s n
+    pub around : Around s x.done.here.heap x.done.here.words x.frames x.done.here.f n x.done.here.chains
+    pub leaves : Leaves s x.done.here.heap x.done.here.words x.done.here.f n d
+    pub binds : BindsLeft s x.done.here.heap x.done.here.words x.done.here.f n b
+    pub letters : List Letter
+    pub step : OneOf (quiet letters (Ended (Done d b))) (open_steps s.action x.world (wrap frame (Ended (Done x.d x.b))))
+
+  pub node-completes : (frame : Frame) (x : Completing s frame) (n : ℕ) (d : Data) (b : Binds) → Completes frame x n d b → EndGoesOn s frame x
+  node-completes frame x n d b c =
+      let h = x.done.here in
+      let k = x.done.k in
+      let next = Ended (Done d b) in
+      let step = plugged x.frames (quiet c.letters next) in
+      inl
+      (quiet-advance s.base (code s) (performances s) depth (IsAt s) x.rank x.state (completes s frame x)
+      (record {
+        count = 0;
+        to = x.state;
+        next = record { steps = step ∷ x.steps; frames = x.frames; focus = next; world = x.world };
+        next_rank = x.rank;
+        some = inr (inr (refl, omega arith));
+        runs = refl;
+        quiet = refl;
+        output = x.shown;
+        related = record {
+          rests = record {
+            k = n;
+            here = record {
+              f = h.f;
+              chains = h.chains;
+              heap = h.heap;
+              words = h.words;
+              stands = h.stands;
+              region = h.region;
+              clear = omega (arith, h.clear, laid.same_frame n k c.part);
+              units_are = units-more s h.heap h.words step x.steps x.world.cells h.units_are;
+              around = c.around;
+              node = part-node (node_at s.action n) k c.part;
+            };
+            at = x.done.at ∙ ap (λ z. address_of z.place) c.exit_is;
+            rank_is = x.done.rank_is ∙ ap (λ z. z.rank) c.exit_is;
+            leaves = c.leaves;
+            binds = c.binds;
+          };
+          shown = x.shown;
+          left = x.left;
+        };
+        reached = reaches-quiet s.action s.input x.steps x.frames c.letters (wrap frame (Ended (Done x.d x.b))) next x.world x.reached c.step;
+        paid = omega (arith, s.ample);
+      }))

@@ -1,0 +1,94 @@
+-- What the functions that append code leave, put together from what each of them ensures.
+use Rattle.std.proofs.Common.{◌≡◌, ◌≢◌, ℕ, ◌<◌, ◌+◌, ◌*◌, ◌≤◌, List, [], ◌∷◌, ◌++◌, map, false, OnOk, Result, Ok, Err, length, sym, ap, ◌∙◌, subst, arith, inl, inr, append_assoc}
+use Rattle.rv_asm.specs.Assembly.{Listing, is_placed, total}
+use Rattle.rv_asm.specs.Pieces.{appended, load_constant}
+use Rattle.rv_code.specs.declared.instruction.Inst.{Inst}
+use Rattle.rv_asm.specs.declared.item.Item.{Item}
+use Rattle.rv_asm.specs.declared.item.Item.TheVariants.{Plain, Mark, Jump, Address}
+use Rattle.rv_asm.proofs.Constants.{length-load_constant}
+use Rattle.rv_asm.proofs.Labels.{total-append}
+use Rattle.rv_codegen.specs.Blocks.{first_label, joint_of, front_of, start_of, stop_of, opening, prelude, entries}
+use Rattle.rv_codegen.specs.Marks.{AreFresh}
+use Rattle.rv_codegen.proofs.Fresh.{fresh-mark, fresh-plain, fresh-opening, total-plain}
+
+-- what an `Ok` tells tells what follows from it
+pub OnOk-then : {T E A B : Type 0} (r : Result T E) → (A → B) → OnOk r A → OnOk r B
+OnOk-then (Ok x) f a = f a
+OnOk-then (Err e) f a = tt
+
+abbrev marked : Listing → ℕ → Listing
+marked s l = record s { items = s.items ++ Mark l ∷ [] }
+
+module _ (s s1 s2 : Listing) (k a b : ℕ) (fresh : AreFresh k s.items) (first : s1 ≡ marked s a) (a_is : a ≡ joint_of k) (b_is : b ≡ front_of k) where
+  -- the second mark of an opening, and the third
+  pub front-fresh : is_placed s1.items b ≡ false
+  front-fresh =
+      let h : is_placed (s.items ++ Mark a ∷ []) b ≡ false = fresh-mark s.items a b (λ e. omega arith) (fresh b (inr (omega arith))) in
+      subst (λ z. is_placed z.items b ≡ false) (sym first) h
+
+  pub start-fresh : s2 ≡ marked s1 b → (d : ℕ) → d ≡ start_of k → is_placed s2.items d ≡ false
+  start-fresh second d d_is =
+      let h : is_placed (s.items ++ Mark a ∷ []) d ≡ false = fresh-mark s.items a d (λ e. omega arith) (fresh d (inr (omega arith))) in
+      let g : is_placed s1.items d ≡ false = subst (λ z. is_placed z.items d ≡ false) (sym first) h in
+      subst (λ z. is_placed z.items d ≡ false) (sym second) (fresh-mark s1.items b d (λ e. omega arith) g)
+
+  -- the three marks are the opening
+  pub opened : s2 ≡ marked s1 b → (s3 : Listing) (d : ℕ) → d ≡ start_of k → s3 ≡ marked s2 d → s3 ≡ record s { items = s.items ++ opening k }
+  opened second s3 d d_is third =
+      let all : s3 ≡ marked (marked (marked s a) b) d = third ∙ ap (λ z. marked z d) (second ∙ ap (λ z. marked z b) first) in
+      let flat : ((s.items ++ Mark a ∷ []) ++ Mark b ∷ []) ++ Mark d ∷ [] ≡ s.items ++ (Mark a ∷ Mark b ∷ Mark d ∷ []) =
+      append_assoc (s.items ++ Mark a ∷ []) (Mark b ∷ []) (Mark d ∷ []) ∙ append_assoc s.items (Mark a ∷ []) (Mark b ∷ Mark d ∷ []) in
+      let named : Mark a ∷ Mark b ∷ Mark d ∷ [] ≡ opening k = cc in
+      all ∙ ap (λ l. record s { items = l }) (flat ∙ ap (λ l. s.items ++ l) named)
+
+-- behind an opening the node's stop is still to be placed, and there is as much code as before
+pub stop-fresh : (s s1 : Listing) (k : ℕ) → AreFresh k s.items → s1 ≡ record s { items = s.items ++ opening k } → is_placed s1.items (stop_of k) ≡ false
+stop-fresh s s1 k fresh e = subst (λ z. is_placed z.items (stop_of k) ≡ false) (sym e) (fresh-opening s.items k (stop_of k) fresh (inr (omega arith)))
+
+pub total-opened : (s s1 : Listing) (k : ℕ) → s1 ≡ record s { items = s.items ++ opening k } → total s1.items ≡ total s.items
+total-opened s s1 k e = ap (λ z. total z.items) e ∙ total-append s.items (opening k) ∙ omega arith
+
+-- 9 instructions come first, and 13 are those of the entries
+pub total-whole : (s0 s1 s2 s3 : Listing) (n : ℕ) → s1 ≡ record s0 { items = prelude } → total s2.items ≤ total s1.items + 14 * n → s3 ≡ record s2 { items = s2.items ++ entries n } → total s3.items ≤ 22 + 14 * n
+total-whole s0 s1 s2 s3 n first nodes last =
+    let a : total s1.items ≡ 9 = ap (λ z. total z.items) first in
+    let b : total s3.items ≡ total s2.items + 13 = ap (λ z. total z.items) last ∙ total-append s2.items (entries n) in
+    omega (arith, a, b, nodes)
+
+-- ---- labels that are still to be placed, and lengths, as pieces are appended
+
+module _ (s s1 : Listing) where
+  pub plain-keeps : (is : List Inst) (l : ℕ) → s1 ≡ appended s is → is_placed s.items l ≡ false → is_placed s1.items l ≡ false
+  plain-keeps is l e h = subst (λ z. is_placed z.items l ≡ false) (sym e) (fresh-plain s.items is l h)
+
+  pub mark-keeps : (m l : ℕ) → s1 ≡ marked s m → m ≢ l → is_placed s.items l ≡ false → is_placed s1.items l ≡ false
+  mark-keeps m l e ne h = subst (λ z. is_placed z.items l ≡ false) (sym e) (fresh-mark s.items m l ne h)
+
+  pub opening-keeps : (k l : ℕ) → AreFresh k s.items → s1 ≡ record s { items = s.items ++ opening k } → l < first_label → is_placed s1.items l ≡ false
+  opening-keeps k l fresh e lt = subst (λ z. is_placed z.items l ≡ false) (sym e) (fresh-opening s.items k l fresh (inl lt))
+
+-- a constant of at most 8 instructions, an address, a jump and a mark
+pub sends-short : (s s1 s2 s3 s4 : Listing) (word l m : ℕ) → s1 ≡ appended s (load_constant 10 word) → s2 ≡ record s1 { items = s1.items ++ Address 1 l ∷ [] } → s3 ≡ record s2 { items = s2.items ++ Jump m ∷ [] } → s4 ≡ marked s3 l → total s4.items ≤ total s.items + 12
+sends-short s s1 s2 s3 s4 word l m e1 e2 e3 e4 =
+    let load = load_constant 10 word in
+    let a : total s1.items ≡ total s.items + length load = ap (λ z. total z.items) e1 ∙ total-append s.items (map Plain load) ∙ ap (λ n. total s.items + n) (total-plain load) in
+    let b : total s2.items ≡ total s1.items + 2 = ap (λ z. total z.items) e2 ∙ total-append s1.items (Address 1 l ∷ []) in
+    let c : total s3.items ≡ total s2.items + 2 = ap (λ z. total z.items) e3 ∙ total-append s2.items (Jump m ∷ []) in
+    let d : total s4.items ≡ total s3.items + 0 = ap (λ z. total z.items) e4 ∙ total-append s3.items (Mark l ∷ []) in
+    omega (arith, a, b, c, d, length-load_constant 10 word)
+
+abbrev extended : Listing → List Item → Listing
+extended s is = record s { items = s.items ++ is }
+
+-- one piece and then another
+pub both-appended : (s s1 s2 : Listing) (a b b' : List Item) → s1 ≡ record s { items = s.items ++ a } → s2 ≡ record s1 { items = s1.items ++ b } → b ≡ b' → s2 ≡ record s { items = s.items ++ (a ++ b') }
+both-appended s s1 s2 a b b' e1 e2 same =
+    e2 ∙ ap (λ z. extended z b) e1 ∙ ap (λ l. record s { items = l }) (append_assoc s.items a b ∙ ap (λ l. s.items ++ (a ++ l)) same)
+
+pub OnOk-always : {T E : Type 0} (A : Type 0) (r : Result T E) → A → OnOk r A
+OnOk-always A (Ok x) a = a
+OnOk-always A (Err e) a = tt
+
+pub OnOk-both : {T E : Type 0} (A B : Type 0) (r : Result T E) → OnOk r A → OnOk r B → OnOk r (A × B)
+OnOk-both A B (Ok x) a b = (a, b)
+OnOk-both A B (Err e) a b = tt

@@ -1,0 +1,13 @@
+-- Which labels are placed as code is appended, and how much code that is.
+use Rattle.std.specs.Prelude.{◌≡◌, ◌≢◌, ◌⊎◌, ℕ, ◌<◌, ◌≤◌, List, false}
+use Rattle.rv_asm.specs.Assembly.{is_placed}
+use Rattle.rv_asm.specs.declared.item.Item.{Item}
+use Rattle.rv_codegen.specs.Blocks.{first_label, joint_of, stop_of}
+
+-- neither the labels of the entries are placed nor those of the nodes from number k on
+abbrev pub AreFresh : ℕ → List Item → Type 0
+AreFresh k items = (l : ℕ) → (l < first_label) ⊎ (joint_of k ≤ l) → is_placed items l ≡ false
+
+-- the new items place no label that the old ones don't place, but for the stop of node k
+abbrev pub PlacesStop : (k : ℕ) (old new : List Item) → Type 0
+PlacesStop k old new = (l : ℕ) → l ≢ stop_of k → is_placed old l ≡ false → is_placed new l ≡ false
