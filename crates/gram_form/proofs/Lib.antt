@@ -1,0 +1,4 @@
+pub mod KeyTexts
+pub mod Searching
+pub mod Copies
+pub mod Built

@@ -1,0 +1,4 @@
+pub mod Plain
+pub mod Grammars
+pub mod GrammarErrors
+pub mod Trees

@@ -1,0 +1,5 @@
+pub mod Words
+pub mod Names
+pub mod Templates
+pub mod Nodes
+pub mod PlainItems
