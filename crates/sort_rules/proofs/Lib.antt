@@ -34,6 +34,11 @@ pub mod Shaped
 pub mod Wellformed
 pub mod ProperDemands
 pub mod Merging
+pub mod Ascents
+pub mod TokenOrders
+pub mod JoinedLists
+pub mod Putting
+pub mod Within
 pub mod ClearTables
 pub mod Widths
 pub mod Rounds

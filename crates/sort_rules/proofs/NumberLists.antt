@@ -3,7 +3,7 @@ use Rattle.std.proofs.Common.{Bool, List, [], arith, false, inl, inr, nat_eq, na
 use Rattle.std.proofs.lemmas.Bool.{or_right}
 use Rattle.std.proofs.lemmas.Bool.Decides.{nat_tests}
 use Rattle.action_terms.specs.Performances.{Here, Later, OneOf}
-use Rattle.sort_rules.specs.Sets.{inserted, is_listed, merged}
+use Rattle.sort_rules.specs.Numbers.{inserted, is_listed, merged}
 use Rattle.sort_rules.proofs.Choices.{either, either_each, eq_of_test, member_cases, of_choice}
 
 pub neither_less : (n m : ℕ) → nat_lt n m ≡ false → nat_lt m n ≡ false → m ≡ n

@@ -7,9 +7,11 @@ use Rattle.action_terms.specs.Information.{Token}
 use Rattle.action_terms.specs.Performances.{Here, Later, OneOf}
 use Rattle.sort_rules.specs.Parts.{Clash, Component, Listed, Part, Unreached, join, joined_components, same_token, with_component}
 use Rattle.sort_rules.specs.Raising.{AreSmall, IsJoined, IsSmall, IsSmallSet, NoneSmall, OneSmall, SmallClash, SmallList, SmallUnreached, absent, lacks, list_room, room, row_room, set_room, table_room}
-use Rattle.sort_rules.specs.Sets.{Set, is_listed, merged, set_union}
+use Rattle.sort_rules.specs.Numbers.{is_listed, merged}
+use Rattle.sort_rules.specs.Sets.{Set, set_union}
 use Rattle.sort_rules.specs.Tables.{BindsIn, BindsOut, Contents, DataIn, DataOut, Entry, Escaped, Mark, MarkedTable, node_of}
-use Rattle.sort_rules.specs.Tests.{are_below, are_listed, implies, is_below, is_subset}
+use Rattle.sort_rules.specs.Numbers.{are_listed}
+use Rattle.sort_rules.specs.Tests.{are_below, implies, is_below, is_subset}
 use Rattle.sort_rules.specs.Wellformed.{AreOf, ClashOf, IsPartOf, IsSetOf, ListedOf, NoneListed, OneListed, UnreachedOf}
 use Rattle.sort_rules.proofs.Choices.{eq_of_test, of_choice}
 use Rattle.sort_rules.proofs.Joins.{same_token_eq, same_token_refl}

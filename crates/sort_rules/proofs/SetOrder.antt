@@ -4,7 +4,8 @@ use Rattle.std.proofs.lemmas.Bool.{and_from}
 use Rattle.action_terms.specs.Performances.{Here, OneOf}
 use Rattle.action_terms.specs.declared.kinds.Sort.TheVariants as sort
 use Rattle.action_terms.specs.declared.kinds.Sort.{Sort}
-use Rattle.sort_rules.specs.Sets.{ACell, AClosure, ATruth, AnInteger, Atom, Has, IsSubset, Set, inside, is_empty, is_none, outside, set_union}
+use Rattle.sort_rules.specs.Numbers.{is_none}
+use Rattle.sort_rules.specs.Sets.{ACell, AClosure, ATruth, AnInteger, Atom, Has, IsSubset, Set, inside, is_empty, outside, set_union}
 use Rattle.sort_rules.proofs.Choices.{both_left, both_right, either, or_from, or_left, or_right}
 use Rattle.sort_rules.proofs.NumberLists.{merged_from, merged_left, merged_right}
 

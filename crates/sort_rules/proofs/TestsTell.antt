@@ -7,9 +7,11 @@ use Rattle.action_terms.specs.Performances.{Here, Later, OneOf}
 use Rattle.sort_rules.specs.Admissible.{Holds}
 use Rattle.sort_rules.specs.Demands.{Demand, Each, IsMet, MoreOf, NoneOf, demands, ◌⊒◌}
 use Rattle.sort_rules.specs.Parts.{AreBelow, Below, Clash, Component, Least, Listed, Lists, Most, NoneBelow, OneBelow, Part, Unreached, same_token}
-use Rattle.sort_rules.specs.Sets.{ACell, AClosure, ATruth, AnInteger, Atom, Has, IsSubset, Set, is_listed}
+use Rattle.sort_rules.specs.Numbers.{is_listed}
+use Rattle.sort_rules.specs.Sets.{ACell, AClosure, ATruth, AnInteger, Atom, Has, IsSubset, Set}
 use Rattle.sort_rules.specs.Tables.{MarkedTable}
-use Rattle.sort_rules.specs.Tests.{are_below, are_listed, are_met, holds, implies, is_below, is_subset}
+use Rattle.sort_rules.specs.Numbers.{are_listed}
+use Rattle.sort_rules.specs.Tests.{are_below, are_met, holds, implies, is_below, is_subset}
 use Rattle.sort_rules.proofs.Choices.{both_left, both_right}
 use Rattle.sort_rules.proofs.Joins.{same_token_eq, same_token_refl}
 use Rattle.sort_rules.proofs.NumberLists.{is_listed_of, listed_of}

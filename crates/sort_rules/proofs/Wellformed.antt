@@ -11,7 +11,8 @@ use Rattle.action_terms.specs.declared.kinds.Sort.{Sort}
 use Rattle.sort_rules.specs.Admissible.{is_clash}
 use Rattle.sort_rules.specs.Demands.{Each, MoreOf}
 use Rattle.sort_rules.specs.Parts.{Clash, Component, Listed, Part, Unreached, bind_component, components_meet, concatenation, join, joined_components, limited, lookup_set, on_list, overlaid_components, overlay, same_token, union, when, with_component}
-use Rattle.sort_rules.specs.Sets.{Set, cells_of_node, closures_of_body, inserted, inside, integers, is_empty, merged, set_union, truths}
+use Rattle.sort_rules.specs.Numbers.{inserted, merged}
+use Rattle.sort_rules.specs.Sets.{Set, cells_of_node, closures_of_body, inside, integers, is_empty, set_union, truths}
 use Rattle.sort_rules.specs.Values.{all_contents, cells_in_set, first_set, found, items_value, nth_set, one, one_or_unreached, only_set, result_of_one, result_of_two, value}
 use Rattle.sort_rules.specs.Wellformed.{AreOf, AreSorts, Ascending, ClashOf, IsPartOf, IsSetOf, IsSort, ListedOf, ListedSort, MoreNumbers, NoNumber, NoSort, NoneListed, OneListed, OneNumber, OneSort, UnreachedOf, UnreachedSort}
 use Rattle.sort_rules.proofs.Choices.{either, of_choice}

@@ -4,7 +4,8 @@ use Rattle.action_terms.specs.Information.{Token}
 use Rattle.action_terms.specs.Actions.{Yielder, Item, Join, And, Moreover, Chain, Then, Hence, Before, Primitive, Complete, Failing, Escape, Commit, Regive, Rebind, Give, EscapeWith, Check, Bind, BindRec, Store, Allocate, Receive, Send, Node, Simple, Enact, Apply, Unfolding, Unfold, Furthermore, Both, Phases, Either, Trapping, Branch, Stray, Action, node_at}
 use Rattle.action_terms.specs.Steps.{closures_in, closures_in_items, closures_of}
 use Rattle.action_terms.specs.declared.kinds.Sort.TheVariants as sort
-use Rattle.sort_rules.specs.Sets.{Set, is_listed, integers, cells_of_node, closures_of_body}
+use Rattle.sort_rules.specs.Numbers.{is_listed}
+use Rattle.sort_rules.specs.Sets.{Set, integers, cells_of_node, closures_of_body}
 use Rattle.sort_rules.specs.Parts.{Component, Part, Unreached, Listed, Below, on_list, concatenation, overlay, union, when, join}
 use Rattle.sort_rules.specs.Tables.{Entry, DataIn, BindsIn, DataOut, BindsOut, Escaped, Contents, Mark, MarkedTable}
 use Rattle.sort_rules.specs.Values.{one, nothing, first_set, strays, clashes, value, wrong, items_value, items_wrong}

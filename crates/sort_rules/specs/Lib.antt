@@ -1,3 +1,4 @@
+pub mod Numbers
 pub mod Sets
 pub mod Parts
 pub mod Tables
@@ -16,3 +17,5 @@ pub mod Rows
 pub mod Tests
 pub mod Raising
 pub mod Views
+pub mod TokenOrder
+pub mod Puts

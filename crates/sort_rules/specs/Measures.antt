@@ -3,7 +3,7 @@ use Rattle.std.specs.Prelude.{ℕ, zero, suc, ◌+◌, Bool, false, ◌||◌, Li
 use Rattle.action_terms.specs.Information.{Token}
 use Rattle.action_terms.specs.Actions.{Yielder, BoundTo, StoredIn, OnTwo, OnOne, Item, Single, Them, Primitive, Give, EscapeWith, Check, Bind, Store, Send, Node, Simple, Enact, Apply, Branch, Action, node_at}
 use Rattle.action_terms.specs.Need.{Sizes}
-use Rattle.sort_rules.specs.Sets.{is_listed}
+use Rattle.sort_rules.specs.Numbers.{is_listed}
 use Rattle.sort_rules.specs.Parts.{same_token}
 use Rattle.sort_rules.specs.Tables.{DataIn, BindsIn, DataOut, BindsOut, Escaped, MarkedTable}
 use Rattle.sort_rules.specs.Demands.{closure_bodies}

@@ -1,7 +1,7 @@
 -- The procedures of an action: the main one, and the bodies of closures and of `unfolding`. They are told by numbers: what a node holds has a greater number than the node.
 use Rattle.std.specs.Prelude.{ℕ, zero, suc, Bool, false, ◌||◌, List, [], ◌∷◌, ◌++◌, Option, Some, None, nat_eq, if◌then◌else◌}
 use Rattle.action_terms.specs.Actions.{Node, Unfolding, Furthermore, Both, Phases, Either, Trapping, Branch, Action}
-use Rattle.sort_rules.specs.Sets.{is_listed}
+use Rattle.sort_rules.specs.Numbers.{is_listed}
 use Rattle.sort_rules.specs.Demands.{closures_at}
 
 -- the action parts of a node

@@ -2,7 +2,8 @@
 use Rattle.std.specs.Prelude.{◌≡◌, ◌⊎◌, ℕ, zero, suc, ◌+◌, ◌*◌, ◌<◌, ◌≤◌, Bool, true, false, List, [], ◌∷◌, length}
 use Rattle.action_terms.specs.Performances.{OneOf}
 use Rattle.action_terms.specs.Actions.{Action}
-use Rattle.sort_rules.specs.Sets.{Set, is_listed}
+use Rattle.sort_rules.specs.Numbers.{is_listed}
+use Rattle.sort_rules.specs.Sets.{Set}
 use Rattle.sort_rules.specs.Parts.{Component, Part, Unreached, Listed, Clash, Below, join, most_components}
 use Rattle.sort_rules.specs.Tables.{Entry, DataIn, BindsIn, DataOut, BindsOut, Escaped, Contents, Mark, MarkedTable, IsUnder}
 use Rattle.sort_rules.specs.Values.{nothing}

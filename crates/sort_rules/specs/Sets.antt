@@ -1,6 +1,7 @@
 -- Sets of data: integers, truth-values, the cells of `allocate` nodes, and the closures of bodies.
-use Rattle.std.specs.Prelude.{ℕ, Bool, true, false, ◌&&◌, ◌||◌, not, List, [], ◌∷◌, nat_lt, nat_eq, if◌then◌else◌, IsTrue}
+use Rattle.std.specs.Prelude.{ℕ, Bool, true, false, ◌&&◌, ◌||◌, not, List, [], ◌∷◌, IsTrue}
 use Rattle.action_terms.specs.Performances.{OneOf}
+use Rattle.sort_rules.specs.Numbers.{is_none, merged}
 use Rattle.action_terms.specs.declared.kinds.Sort.{Sort}
 use Rattle.action_terms.specs.declared.kinds.Sort.TheVariants as sort
 
@@ -27,28 +28,6 @@ Has s (AClosure k) = OneOf k s.abstractions
 -- the first set lies in the second
 pub record IsSubset (x y : Set) : Type 0 where
   pub each : (a : Atom) → Has x a → Has y a
-
--- ---- lists of numbers, ascending, each once
-
--- with one number more
-abbrev pub inserted : ℕ → List ℕ → List ℕ
-inserted n [] = n ∷ []
-inserted n (m ∷ ms) = if nat_lt n m then n ∷ m ∷ ms else if nat_lt m n then m ∷ inserted n ms else m ∷ ms
-
--- the numbers of both
-abbrev pub merged : List ℕ → List ℕ → List ℕ
-merged [] ys = ys
-merged (x ∷ xs) ys = merged xs (inserted x ys)
-
--- whether the number stands in the list
-abbrev pub is_listed : ℕ → List ℕ → Bool
-is_listed n [] = false
-is_listed n (m ∷ ms) = nat_eq n m || is_listed n ms
-
--- whether the list is empty
-abbrev pub is_none : List ℕ → Bool
-is_none [] = true
-is_none (x ∷ xs) = false
 
 -- ---- sets
 

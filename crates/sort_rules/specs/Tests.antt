@@ -1,15 +1,11 @@
 -- Tests of the order of parts, and of the demands at a node.
 use Rattle.std.specs.Prelude.{ℕ, Bool, true, false, ◌&&◌, List, [], ◌∷◌}
 use Rattle.action_terms.specs.Actions.{Action}
-use Rattle.sort_rules.specs.Sets.{Set, is_listed}
+use Rattle.sort_rules.specs.Numbers.{are_listed}
+use Rattle.sort_rules.specs.Sets.{Set}
 use Rattle.sort_rules.specs.Parts.{Component, Part, Unreached, Listed, Clash, same_token}
 use Rattle.sort_rules.specs.Tables.{MarkedTable}
 use Rattle.sort_rules.specs.Demands.{Demand, ◌⊒◌, demands}
-
--- each of the first list is in the second
-abbrev pub are_listed : List ℕ → List ℕ → Bool
-are_listed [] ys = true
-are_listed (x ∷ xs) ys = is_listed x ys && are_listed xs ys
 
 -- not the first without the second
 abbrev pub implies : Bool → Bool → Bool

@@ -1,14 +1,19 @@
 -- What contracts see of sets, rows and tables in memory.
-use Rattle.std.specs.Prelude.{List, [], map}
+use Rattle.std.specs.Prelude.{ℕ, List, [], map}
+use Rattle.std.specs.Borrow.{Bor}
 use Rattle.sort_rules.specs.Sets as meant
-use Rattle.sort_rules.specs.Parts.{Component, Part, Unreached, Listed}
+use Rattle.sort_rules.specs.Parts.{Component, Part, Unreached, Listed, Clash}
 use Rattle.sort_rules.specs.Rows.{SortRow, SortTable}
-use Rattle.sort_rules.specs.declared.table.Set.{Set}
+use Rattle.sort_rules.specs.declared.set.Set.{Set}
 use Rattle.sort_rules.specs.declared.table.TupleSort.{TupleSort}
 use Rattle.sort_rules.specs.declared.table.TupleSort.TheVariants as tuple
 use Rattle.sort_rules.specs.declared.table.BindSort.{BindSort}
 use Rattle.sort_rules.specs.declared.table.BindSort.TheVariants as binds
 use Rattle.sort_rules.specs.declared.table.Row.{Row}
+use Rattle.sort_rules.specs.declared.parts.MarkedTuple.{MarkedTuple}
+use Rattle.sort_rules.specs.declared.parts.MarkedTuple.TheVariants as marked_tuple
+use Rattle.sort_rules.specs.declared.parts.MarkedBinds.{MarkedBinds}
+use Rattle.sort_rules.specs.declared.parts.MarkedBinds.TheVariants as marked_binds
 
 -- a set without where its numbers lie
 abbrev pub set_of : Set → meant.Set
@@ -23,10 +28,26 @@ abbrev pub tuple_of : TupleSort → Part
 tuple_of tuple.Unreached = Unreached
 tuple_of (tuple.List sets) = Listed (map place_of sets.now)
 
+-- a token with its set
+abbrev pub pair_of : Bor (List ℕ) × Set → Component
+pair_of p = record { token = p.0.now; set = set_of p.1 }
+
 -- the part of bindings
 abbrev pub binds_of : BindSort → Part
 binds_of binds.Unreached = Unreached
-binds_of (binds.Map pairs) = Listed (map (λ p. record { token = p.0.now; set = set_of p.1 }) pairs.now)
+binds_of (binds.Map pairs) = Listed (map pair_of pairs.now)
+
+-- the parts of a marked table
+abbrev pub marked_tuple_of : MarkedTuple → Part
+marked_tuple_of marked_tuple.Unreached = Unreached
+marked_tuple_of (marked_tuple.List sets) = Listed (map place_of sets.now)
+marked_tuple_of marked_tuple.Clash = Clash
+
+-- and its bindings
+abbrev pub marked_binds_of : MarkedBinds → Part
+marked_binds_of marked_binds.Unreached = Unreached
+marked_binds_of (marked_binds.Map pairs) = Listed (map pair_of pairs.now)
+marked_binds_of marked_binds.Clash = Clash
 
 -- the row of a node
 abbrev pub row_of : Row → SortRow

@@ -2,7 +2,14 @@
 #![tactic(auto)]
 
 pub mod laws;
+pub mod maps;
 mod numbers;
+pub mod parts;
+pub mod set;
+pub mod sets;
 pub mod table;
+pub mod tuples;
 
-pub use table::{BindSort, Row, Set, Table, TupleSort};
+pub use parts::{MarkedBinds, MarkedTuple};
+pub use set::Set;
+pub use table::{BindSort, Row, Table, TupleSort};

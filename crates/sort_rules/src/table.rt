@@ -5,21 +5,9 @@ ghost use Rattle.sort_rules.specs.Shapes.{part_length};
 ghost use Rattle.sort_rules.specs.Measures.{width};
 ghost use Rattle.sort_rules.specs.Views.{set_of, tuple_of, binds_of, row_of, sort_table};
 
+use crate::set::Set;
 use std::cmp::max;
 use std::marker::Model;
-
-/// A set of data. The numbers ascend, each once.
-#[derive(Clone, Copy, Debug, PartialEq, Eq)]
-pub struct Set<'a> {
-    /// Whether it has the integers.
-    pub integer: bool,
-    /// Whether it has the truth-values.
-    pub truth: bool,
-    /// The `allocate` nodes whose cells it has.
-    pub cells: &'a [u32],
-    /// The roots of the bodies whose closures it has.
-    pub abstractions: &'a [u32],
-}
 
 /// What a tuple of data may be.
 #[derive(Clone, Copy, Debug, PartialEq, Eq)]
