@@ -1,6 +1,6 @@
 //! A table of one row.
-use sort_rules::{BindSort, Row, Table, TupleSort};
 use sort_rules::sets::atoms;
+use sort_rules::{BindSort, Row, Table, TupleSort};
 use std::test::Fail;
 
 #[test]
