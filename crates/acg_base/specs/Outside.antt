@@ -1,5 +1,5 @@
 -- What lies outside a request: contents by name, what was written, and counts of faults.
-use Rattle.std.specs.Prelude.{◌≡◌, ◌≢◌, ℕ, ◌+◌, ◌-◌, ◌^◌, ◌<◌, ◌≤◌, ◌==◌, ◌⊎◌, Bool, List, ◌++◌, length, min, take, Option}
+use Rattle.std.specs.Prelude.{◌≡◌, ◌≢◌, ℕ, ◌+◌, ◌-◌, ◌^◌, ◌<◌, ◌≤◌, ◌==◌, ◌⊎◌, Bool, List, ◌++◌, length, min, take, drop, Option}
 use Rattle.std.specs.List.{list_any}
 
 -- what a store has at each name: its bytes, or nothing where the name isn't there
@@ -26,6 +26,16 @@ pub record GainsAtMost (most : ℕ) (old new : List ℕ) : Type 0 where
 -- the new bytes are the old ones with a front of the piece behind them
 abbrev pub GainsFrontOf : List ℕ → List ℕ → List ℕ → Type 0
 GainsFrontOf piece old new = (count : ℕ) × (new ≡ old ++ take count piece)
+
+-- a read that was carried out: the name, the limit, and the bytes that were given
+pub record Reading : Type 0 where
+  pub name : List ℕ
+  pub limit : ℕ
+  pub given : List ℕ
+
+-- the read of a name with a limit that made the old bytes the new ones: what stands behind the old bytes was given
+abbrev pub reading_of : (name : List ℕ) (limit : ℕ) (old new : List ℕ) → Reading
+reading_of name limit old new = record { name = name; limit = limit; given = drop (length old) new }
 
 -- a count is greater after the call
 abbrev pub Grew : ℕ → ℕ → Type 0

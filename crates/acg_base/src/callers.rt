@@ -1,7 +1,7 @@
 //! A request over any store and any sink: what its caller is owed follows from the traits' clauses alone.
 
-ghost use Rattle.std.specs.Prelude.{◌≡◌, ◌↔◌, ◌++◌, Some, IsTrue, IsNone, IfSome, OnOk, OnErr, IsErrOf};
-ghost use Rattle.acg_base.specs.Outside.{SameContents, SameElsewhere, Grew, Rose, front};
+ghost use Rattle.std.specs.Prelude.{◌≡◌, ◌↔◌, [], ◌∷◌, ◌++◌, Some, IsTrue, IsNone, IfSome, OnOk, OnErr, IsErrOf};
+ghost use Rattle.acg_base.specs.Outside.{SameContents, SameElsewhere, Grew, Reading, counted, front};
 
 use crate::name::Name;
 use crate::sink::Sink;
@@ -37,18 +37,25 @@ pub fn copy<S: Store, K: Sink>(
     ensures printed { OnOk result (IsTrue (K.tells out.old) →
         K.written out.new ≡ K.written out.old ++ line.now) }
 
-    // Each fault is counted, and comes where its count grew.
+    // Each fault is counted once, and comes where its count grew.
     ensures read { IsErrOf result CopyError.Read →
-        Rose (S.failed_reads store.old) (S.failed_reads store.new) }
+        S.failed_reads store.new ≡ counted (S.failed_reads store.old) }
     ensures read_grew { Grew (S.failed_reads store.old) (S.failed_reads store.new) →
         IsErrOf result CopyError.Read }
     ensures write { IsErrOf result CopyError.Write →
-        Rose (S.failed_writes store.old) (S.failed_writes store.new) }
+        S.failed_writes store.new ≡ counted (S.failed_writes store.old) }
     ensures write_grew { Grew (S.failed_writes store.old) (S.failed_writes store.new) →
         IsErrOf result CopyError.Write }
-    ensures print { IsErrOf result CopyError.Print → Rose (K.faults out.old) (K.faults out.new) }
+    ensures print { IsErrOf result CopyError.Print → K.faults out.new ≡ counted (K.faults out.old) }
     ensures print_grew { Grew (K.faults out.old) (K.faults out.new) →
         IsErrOf result CopyError.Print }
+
+    // One file is read, once, and one line is written, once: nothing follows a failed write.
+    ensures one_reading { OnOk result (IsTrue (S.logs store.old) → IfSome (S.contents store.old from.now)
+        (λ bytes. IsTrue (S.tells store.old) → S.readings store.new ≡ S.readings store.old
+            ++ record { name = from.now; limit = limit; given = front limit bytes } ∷ [])) }
+    ensures one_line { OnOk result (K.writes out.new ≡ counted (K.writes out.old)) }
+    ensures last { IsErrOf result CopyError.Print → IsTrue (K.last_failed out.new) }
 
     // What stays, and what a sure store adds.
     ensures refused { IsErrOf result CopyError.Read → IsTrue (S.tells store.old) →

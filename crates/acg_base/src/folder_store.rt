@@ -9,7 +9,7 @@ use std::fs;
 use std::io::{Read, Write};
 use std::rt::Files;
 
-/// Files named by paths from the working folder. It tells no content and isn't sure.
+/// Files named by paths from the working folder. It tells no content, logs no read and isn't sure.
 #[derive(Drop)]
 pub struct FolderStore<R: Files + Drop> {
     rt: R,
@@ -83,11 +83,15 @@ fn write_file<R: Files>(rt: &R, path: &str, bytes: &[u8]) -> Result<(), StoreErr
 }
 
 impl<R: Files + Drop> Store for FolderStore<R> {
-    ghost use Rattle.std.specs.Prelude.{None, false};
+    ghost use Rattle.std.specs.Prelude.{[], None, false};
 
     ghost contents = { λ _ _. None };
 
     ghost tells = { λ _. false };
+
+    ghost readings = { λ _. [] };
+
+    ghost logs = { λ _. false };
 
     ghost failed_reads = { λ store. store.failed_reads };
 
@@ -112,4 +116,6 @@ impl<R: Files + Drop> Store for FolderStore<R> {
     }
 
     ghost sure_tells = { λ _ sure. sure };
+
+    ghost sure_logs = { λ _ sure. sure };
 }

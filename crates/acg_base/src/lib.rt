@@ -24,7 +24,7 @@ pub use limits::{
     LIMIT_SOURCE,
 };
 pub use list_sink::ListSink;
-pub use map_store::MapStore;
+pub use map_store::{LoggedRead, MapStore};
 pub use memory::Memory;
 pub use name::Name;
 pub use out_sink::OutSink;

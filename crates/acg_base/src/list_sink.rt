@@ -16,6 +16,7 @@ pub struct ListSink {
     failing: Vec<u32>,
     writes: u64,
     faults: u64,
+    last_failed: bool,
 }
 
 impl Model for ListSink {
@@ -30,6 +31,7 @@ impl Model for ListSink {
       failing = sink.failing.items;
       writes = sink.writes;
       faults = sink.faults;
+      last_failed = sink.last_failed;
     } };
 
     ghost invariant = { λ sink. (length sink.bytes.items ≤ sink.room) × (sink.room ≤ vec_capacity sink.bytes) };
@@ -37,7 +39,8 @@ impl Model for ListSink {
 
 impl ListSink {
     ghost use Rattle.std.specs.Prelude.{◌≡◌, IfOk};
-    ghost use Rattle.acg_base.specs.ListSinks.{fresh};
+    ghost use Rattle.std.specs.Result.{is_err};
+    ghost use Rattle.acg_base.specs.ListSinks.{fresh, write_fails, bytes_after};
 
     /// An empty sink with room for so many bytes. The writes of these numbers, from 0, are to fail.
     pub fn new(alloc: Global, room: usize, writes: Vec<u32>) -> Result<ListSink, Memory>
@@ -50,6 +53,7 @@ impl ListSink {
             failing: writes,
             writes: 0,
             faults: 0,
+            last_failed: false,
         })
     }
 
@@ -59,11 +63,25 @@ impl ListSink {
     {
         self.bytes.as_slice()
     }
+
+    // Appends the piece, or what fits of it. A write that is to fail appends nothing.
+    fn append(&mut self, piece: &[u8]) -> Result<(), SinkError>
+        ensures fails { is_err result ≡ write_fails self.old piece.now }
+        ensures appends { self.new ≡ record self.old { bytes = bytes_after self.old piece.now } }
+    {
+        if is_listed(self.failing.as_slice(), self.writes) {
+            return Err(SinkError::Failed);
+        }
+        let fits = piece.len().min(self.room - self.bytes.len());
+        if self.bytes.extend_from_slice(&piece[..fits]).is_err() || fits < piece.len() {
+            return Err(SinkError::Failed);
+        }
+        Ok(())
+    }
 }
 
 impl Sink for ListSink {
     ghost use Rattle.std.specs.Prelude.{◌≡◌, ◌↔◌, ◌≤◌, true, IsTrue, IsErrOf};
-    ghost use Rattle.acg_base.specs.Outside.{Rose};
     ghost use Rattle.acg_base.specs.ListSinks.{write_fails, after_write};
 
     ghost written = { λ sink. sink.bytes };
@@ -72,25 +90,23 @@ impl Sink for ListSink {
 
     ghost faults = { λ sink. sink.faults };
 
+    ghost writes = { λ sink. sink.writes };
+
+    ghost last_failed = { λ sink. sink.last_failed };
+
     /// Fails where the number of the write is listed, and then appends nothing, or where the piece
     /// passes the room, and then appends what fits. It counts the write.
     fn write(&mut self, piece: &[u8]) -> Result<(), SinkError>
         ensures fails { IsErrOf result SinkError.Failed ↔ IsTrue (write_fails self.old piece.now) }
-        ensures failed { IsErrOf result SinkError.Failed → Rose self.old.faults self.new.faults }
         ensures counts { self.old.faults ≤ self.new.faults }
         ensures after { self.new ≡ after_write self.old piece.now }
     {
-        let is_to_fail = is_listed(self.failing.as_slice(), self.writes);
+        let outcome = self.append(piece);
         self.writes = self.writes.saturating_add(1);
-        if is_to_fail {
+        self.last_failed = outcome.is_err();
+        if self.last_failed {
             self.faults = self.faults.saturating_add(1);
-            return Err(SinkError::Failed);
         }
-        let fits = piece.len().min(self.room - self.bytes.len());
-        if self.bytes.extend_from_slice(&piece[..fits]).is_err() || fits < piece.len() {
-            self.faults = self.faults.saturating_add(1);
-            return Err(SinkError::Failed);
-        }
-        Ok(())
+        outcome
     }
 }

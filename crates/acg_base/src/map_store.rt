@@ -11,12 +11,25 @@ use crate::store::{Store, StoreError};
 use std::alloc::Global;
 use std::marker::Model;
 
-/// Files in memory, with the numbers of the calls that are to fail.
+/// A read that was carried out.
+#[derive(Debug, Drop)]
+pub struct LoggedRead {
+    /// The name that was read.
+    pub name: Name,
+    /// The limit of the read, in bytes.
+    pub limit: u32,
+    /// The bytes that were given.
+    pub given: Vec<u8>,
+}
+
+/// Files in memory, with the numbers of the calls that are to fail, and a log of the reads that were
+/// carried out.
 ///
 /// Reads and writes are numbered apart, from 0. Of two files of one name the first counts.
 #[derive(Debug, Drop)]
 pub struct MapStore {
     alloc: Global,
+    log: Vec<LoggedRead>,
     files: Vec<(Name, Vec<u8>)>,
     failing_reads: Vec<u32>,
     failing_writes: Vec<u32>,
@@ -28,12 +41,13 @@ pub struct MapStore {
 
 impl Model for MapStore {
     ghost use Rattle.std.specs.Prelude.{map};
-    ghost use Rattle.acg_base.specs.MapStores.{MapState, plain_file};
+    ghost use Rattle.acg_base.specs.MapStores.{MapState, plain_file, plain_reading};
 
     ghost Value = { MapState };
 
     ghost view = { λ store. record {
       files = map plain_file store.files.items;
+      readings = map plain_reading store.log.items;
       failing_reads = store.failing_reads.items;
       failing_writes = store.failing_writes.items;
       reads = store.reads;
@@ -90,10 +104,10 @@ fn put(files: &mut Vec<(Name, Vec<u8>)>, name: Name, bytes: Vec<u8>) -> Result<(
 }
 
 impl MapStore {
-    ghost use Rattle.acg_base.specs.MapStores.{fresh, plain_file};
+    ghost use Rattle.acg_base.specs.MapStores.{fresh, plain_file, plain_reading};
 
     /// A store of these files. The reads and the writes of these numbers, from 0, are to fail; it is
-    /// sure where neither list has a number. Its writes take their memory from `alloc`.
+    /// sure where neither list has a number. Its writes and its log take their memory from `alloc`.
     pub fn new(
         alloc: Global,
         files: Vec<(Name, Vec<u8>)>,
@@ -104,6 +118,7 @@ impl MapStore {
     {
         MapStore {
             alloc,
+            log: Vec::new(alloc),
             files,
             failing_reads: reads,
             failing_writes: writes,
@@ -127,18 +142,29 @@ impl MapStore {
     {
         self.files.as_slice()
     }
+
+    /// Lends the reads that were carried out, in their order.
+    pub fn readings(&self) -> &[LoggedRead]
+        ensures { map plain_reading result.now ≡ self.now.readings }
+    {
+        self.log.as_slice()
+    }
 }
 
 #[tactic(auto, unfolding(crate::specs::Outside::front))]
 impl Store for MapStore {
     ghost use Rattle.std.specs.Prelude.{◌≡◌, ◌↔◌, ◌+◌, ◌≤◌, ◌++◌, ◌&&◌, ◌==◌, true, length, Some, IsTrue, IsErrOf, IfSome, OnOk, OnErr};
     ghost use Rattle.std.proofs.Common.{rules};
-    ghost use Rattle.acg_base.specs.Outside.{SameElsewhere, GainsAtMost, Rose, front};
-    ghost use Rattle.acg_base.specs.MapStores.{content_of, read_fails, write_fails, after_read, after_write};
+    ghost use Rattle.acg_base.specs.Outside.{SameElsewhere, GainsAtMost, reading_of, front};
+    ghost use Rattle.acg_base.specs.MapStores.{content_of, read_fails, write_fails, after_read, after_failed_read, after_write};
 
     ghost contents = { λ store. content_of store.files };
 
     ghost tells = { λ _. true };
+
+    ghost readings = { λ store. store.readings };
+
+    ghost logs = { λ _. true };
 
     ghost failed_reads = { λ store. store.failed_reads };
 
@@ -146,24 +172,31 @@ impl Store for MapStore {
 
     ghost sure = { λ store. (length store.failing_reads == 0) && (length store.failing_writes == 0) };
 
-    /// Fails where the number of the read is listed or the name isn't there, and counts the read.
+    /// Fails where the number of the read is listed or the name isn't there, and counts the read. Answers
+    /// `Memory` where `into` or the log can't grow.
     fn read(&mut self, name: &Name, limit: u32, into: &mut Vec<u8>) -> Result<(), StoreError>
         ensures fails { IsErrOf result StoreError.Failed ↔ IsTrue (read_fails self.old name.now) }
         ensures done { OnOk result (IfSome (content_of self.old.files name.now)
             (λ bytes. into.new.items ≡ into.old.items ++ front limit bytes)) }
         ensures bound { OnOk result (GainsAtMost (limit + 1) into.old.items into.new.items) }
         ensures err { OnErr result (into.new.items ≡ into.old.items) }
-        ensures failed { IsErrOf result StoreError.Failed →
-            Rose self.old.failed_reads self.new.failed_reads }
-        ensures reads { self.old.failed_reads ≤ self.new.failed_reads }
-        ensures after { self.new ≡ after_read self.old name.now }
+        ensures counts { self.old.failed_reads ≤ self.new.failed_reads }
+        ensures after { OnOk result (self.new ≡ after_read self.old name.now limit) }
+        ensures fault { OnErr result (self.new ≡ after_failed_read self.old name.now) }
     {
         let is_to_fail = is_listed(self.failing_reads.as_slice(), self.reads);
         self.reads = self.reads.saturating_add(1);
         match bytes_of(self.files.as_slice(), name) {
             Some(bytes) if !is_to_fail => {
                 let end = bytes.len().min(limit as usize + 1);
-                into.extend_from_slice(&bytes[..end])?;
+                let reading = LoggedRead {
+                    name: Name::new(self.alloc, name.text())?,
+                    limit,
+                    given: Vec::from_slice(self.alloc, &bytes[..end])?,
+                };
+                self.log.reserve(1)?;
+                into.extend_from_slice(reading.given.as_slice())?;
+                self.log.push_reserved(reading);
                 Ok(())
             }
             _ => {
@@ -179,9 +212,7 @@ impl Store for MapStore {
         ensures done { OnOk result (content_of self.new.files name.now ≡ Some bytes.now) }
         ensures others { SameElsewhere (content_of self.old.files) (content_of self.new.files) name.now }
         ensures err { OnErr result (self.new.files ≡ self.old.files) }
-        ensures failed { IsErrOf result StoreError.Failed →
-            Rose self.old.failed_writes self.new.failed_writes }
-        ensures writes { self.old.failed_writes ≤ self.new.failed_writes }
+        ensures counts { self.old.failed_writes ≤ self.new.failed_writes }
         ensures after { self.new ≡ after_write self.old self.new.files }
     {
         let is_to_fail = is_listed(self.failing_writes.as_slice(), self.writes);
@@ -196,4 +227,6 @@ impl Store for MapStore {
     }
 
     ghost sure_tells = { λ _ _. Prim.search rules };
+
+    ghost sure_logs = { λ _ _. Prim.search rules };
 }

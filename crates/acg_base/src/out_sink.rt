@@ -11,14 +11,22 @@ use std::io::Write;
 pub struct OutSink<R: Print + Drop> {
     rt: R,
     faults: u64,
+    writes: u64,
+    last_failed: bool,
 }
 
 impl<R: Print + Drop> OutSink<R> {
-    /// The standard output of the runtime, with no fault so far.
+    /// The standard output of the runtime, with no write so far.
     pub fn new(rt: R) -> OutSink<R>
-        ensures { ⟦<OutSink<R> as Sink>⟧.faults result ≡ 0 }
+        ensures faults { ⟦<OutSink<R> as Sink>⟧.faults result ≡ 0 }
+        ensures writes { ⟦<OutSink<R> as Sink>⟧.writes result ≡ 0 }
     {
-        OutSink { rt, faults: 0 }
+        OutSink {
+            rt,
+            faults: 0,
+            writes: 0,
+            last_failed: false,
+        }
     }
 }
 
@@ -44,9 +52,15 @@ impl<R: Print + Drop> Sink for OutSink<R> {
 
     ghost faults = { λ sink. sink.faults };
 
+    ghost writes = { λ sink. sink.writes };
+
+    ghost last_failed = { λ sink. sink.last_failed };
+
     fn write(&mut self, piece: &[u8]) -> Result<(), SinkError> {
         let outcome = print_all(&self.rt, piece);
-        if outcome.is_err() {
+        self.writes = self.writes.saturating_add(1);
+        self.last_failed = outcome.is_err();
+        if self.last_failed {
             self.faults = self.faults.saturating_add(1);
         }
         outcome

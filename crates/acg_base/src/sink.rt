@@ -1,7 +1,8 @@
 //! Where output goes.
 
-ghost use Rattle.std.specs.Prelude.{◌≡◌, ℕ, ◌≤◌, List, ◌++◌, Bool, IsTrue, IsErrOf, OnOk, OnErr};
-ghost use Rattle.acg_base.specs.Outside.{Grew, Rose, GainsFrontOf};
+ghost use Rattle.std.specs.Prelude.{◌≡◌, ℕ, ◌≤◌, List, ◌++◌, Bool, IsTrue, OnOk, OnErr};
+ghost use Rattle.std.specs.Result.{is_err};
+ghost use Rattle.acg_base.specs.Outside.{counted, GainsFrontOf};
 
 use thiserror::Error;
 
@@ -15,8 +16,10 @@ pub enum SinkError {
 
 /// Output, piece by piece.
 ///
-/// A sink may tell what was written, and counts its faults. The count never falls and grows only in
-/// a write that answers `Failed`, and no write changes whether the sink tells what was written.
+/// A sink may tell what was written. It counts its writes and its faults, and knows whether its last
+/// write failed. So where the last one failed and the faults are one more than before some calls, the
+/// failed write was the last of them, and no other failed. No write changes whether the sink tells what
+/// was written.
 pub trait Sink {
     // The bytes written so far, where the sink tells them.
     ghost written: { Self → List ℕ };
@@ -27,6 +30,12 @@ pub trait Sink {
     // How many writes failed.
     ghost faults: { Self → ℕ };
 
+    // How many writes there were.
+    ghost writes: { Self → ℕ };
+
+    // Whether the last write failed.
+    ghost last_failed: { Self → Bool };
+
     /// Appends the piece. Answers `Failed` where the sink fails: a front of the piece was then
     /// appended, which may be all of it or nothing. It takes no memory.
     fn write(&mut self, piece: &[u8]) -> Result<(), SinkError>
@@ -35,10 +44,12 @@ pub trait Sink {
         ensures part { OnErr result (IsTrue (tells self.old) →
             GainsFrontOf piece.now (written self.old) (written self.new)) }
 
-        // A fault is counted, and nothing else is.
-        ensures failed { IsErrOf result SinkError.Failed → Rose (faults self.old) (faults self.new) }
+        // Each write is counted, and each fault, and nothing else is.
+        ensures writes { writes self.new ≡ counted (writes self.old) }
+        ensures failed { OnErr result (faults self.new ≡ counted (faults self.old)) }
+        ensures passed { OnOk result (faults self.new ≡ faults self.old) }
         ensures counts { faults self.old ≤ faults self.new }
-        ensures grew { Grew (faults self.old) (faults self.new) → IsErrOf result SinkError.Failed }
+        ensures last { last_failed self.new ≡ is_err result }
 
         ensures tells_still { tells self.new ≡ tells self.old };
 }

@@ -1,7 +1,7 @@
 //! Where files are kept.
 
-ghost use Rattle.std.specs.Prelude.{◌≡◌, ◌↔◌, ℕ, ◌+◌, ◌≤◌, ◌++◌, Bool, Some, IsTrue, IsSome, IsNone, IfSome, IsErrOf, OnOk, OnErr};
-ghost use Rattle.acg_base.specs.Outside.{Contents, SameContents, SameElsewhere, Grew, Rose, GainsAtMost, front};
+ghost use Rattle.std.specs.Prelude.{◌≡◌, ◌↔◌, ℕ, ◌+◌, ◌≤◌, List, [], ◌∷◌, ◌++◌, Bool, Some, IsTrue, IsSome, IsNone, IfSome, IsErrOf, OnOk, OnErr};
+ghost use Rattle.acg_base.specs.Outside.{Contents, SameContents, SameElsewhere, Reading, reading_of, counted, GainsAtMost, front};
 ghost use Rattle.acg_base.specs.declared.store.StoreError.TheVariants.{Memory as OutOfMemory};
 
 use crate::memory::Memory;
@@ -46,15 +46,21 @@ impl From<Memory> for StoreError {
 
 /// Files by name.
 ///
-/// A store may tell what it has under each name, and counts its failed reads and its failed writes.
-/// No count falls, each grows only in a call of its kind that answers `Failed`, and no call changes
-/// whether the store tells its contents or whether it is sure.
+/// A store may tell what it has under each name, and may log its reads. It counts its failed reads and
+/// its failed writes: each count grows by one in a call of its kind that answers `Failed`, and in no
+/// other. No call changes whether the store tells its contents, whether it logs, or whether it is sure.
 pub trait Store {
     // What each name has, where the store tells it.
     ghost contents: { Self → Contents };
 
     // Whether the store tells its contents.
     ghost tells: { Self → Bool };
+
+    // The reads that were carried out, in their order, where the store logs them.
+    ghost readings: { Self → List Reading };
+
+    // Whether the store logs its reads.
+    ghost logs: { Self → Bool };
 
     // How many reads failed.
     ghost failed_reads: { Self → ℕ };
@@ -81,16 +87,22 @@ pub trait Store {
         ensures sure_reads { IsTrue (sure self.old) →
             (IsErrOf result StoreError.Failed ↔ IsNone (contents self.old name.now)) }
 
+        // A read that is carried out is logged, with what was given.
+        ensures logged { OnOk result (IsTrue (logs self.old) → readings self.new ≡
+            readings self.old ++ reading_of name.now limit into.old.items into.new.items ∷ []) }
+        ensures unlogged { OnErr result (readings self.new ≡ readings self.old) }
+
         // A fault is counted, and nothing else is.
         ensures failed { IsErrOf result StoreError.Failed →
-            Rose (failed_reads self.old) (failed_reads self.new) }
-        ensures reads { failed_reads self.old ≤ failed_reads self.new }
-        ensures grew { Grew (failed_reads self.old) (failed_reads self.new) →
-            IsErrOf result StoreError.Failed }
+            failed_reads self.new ≡ counted (failed_reads self.old) }
+        ensures passed { ¬ (IsErrOf result StoreError.Failed) →
+            failed_reads self.new ≡ failed_reads self.old }
+        ensures counts { failed_reads self.old ≤ failed_reads self.new }
         ensures writes { failed_writes self.new ≡ failed_writes self.old }
 
         ensures same { IsTrue (tells self.old) → SameContents (contents self.old) (contents self.new) }
         ensures tells_still { tells self.new ≡ tells self.old }
+        ensures logs_still { logs self.new ≡ logs self.old }
         ensures sure_still { sure self.new ≡ sure self.old };
 
     /// Makes `bytes` the content of the name, and leaves other names as they are.
@@ -108,17 +120,22 @@ pub trait Store {
         // A sure store's writes never fail.
         ensures sure_writes { IsTrue (sure self.old) → ¬ (IsErrOf result StoreError.Failed) }
 
-        // A fault is counted, and nothing else is.
+        // A fault is counted, and nothing else is. A write is no reading.
         ensures failed { IsErrOf result StoreError.Failed →
-            Rose (failed_writes self.old) (failed_writes self.new) }
-        ensures writes { failed_writes self.old ≤ failed_writes self.new }
-        ensures grew { Grew (failed_writes self.old) (failed_writes self.new) →
-            IsErrOf result StoreError.Failed }
+            failed_writes self.new ≡ counted (failed_writes self.old) }
+        ensures passed { ¬ (IsErrOf result StoreError.Failed) →
+            failed_writes self.new ≡ failed_writes self.old }
+        ensures counts { failed_writes self.old ≤ failed_writes self.new }
         ensures reads { failed_reads self.new ≡ failed_reads self.old }
+        ensures unlogged { readings self.new ≡ readings self.old }
 
         ensures tells_still { tells self.new ≡ tells self.old }
+        ensures logs_still { logs self.new ≡ logs self.old }
         ensures sure_still { sure self.new ≡ sure self.old };
 
     // A sure store tells its contents.
     ghost sure_tells: { (store : Self) → IsTrue (sure store) → IsTrue (tells store) };
+
+    // A sure store logs its reads.
+    ghost sure_logs: { (store : Self) → IsTrue (sure store) → IsTrue (logs store) };
 }

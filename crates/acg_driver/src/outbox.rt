@@ -14,6 +14,8 @@ const ROOM: usize = 12_587_009;
 pub(crate) struct Outbox {
     bytes: Vec<u8>,
     faults: u64,
+    writes: u64,
+    last_failed: bool,
     ghost fits: { length bytes.items ≤ ROOM },
     ghost taken: { ROOM ≤ vec_capacity bytes },
     // A write that doesn't fit fills the room.
@@ -28,7 +30,12 @@ impl Outbox {
         ensures { IfOk result (λ outbox. outbox.bytes.items ≡ []) }
     {
         let bytes = Vec::with_capacity(alloc, ROOM)?;
-        Ok(Outbox { bytes, faults: 0 })
+        Ok(Outbox {
+            bytes,
+            faults: 0,
+            writes: 0,
+            last_failed: false,
+        })
     }
 
     /// Lends the bytes that it holds.
@@ -56,10 +63,17 @@ impl Sink for Outbox {
 
     ghost faults = { λ outbox. outbox.faults };
 
+    ghost writes = { λ outbox. outbox.writes };
+
+    ghost last_failed = { λ outbox. outbox.last_failed };
+
     /// Fails where the piece passes the room, and then appends what fits.
     fn write(&mut self, piece: &[u8]) -> Result<(), SinkError> {
         let fits = piece.len().min(ROOM - self.bytes.len());
-        if self.bytes.extend_from_slice(&piece[..fits]).is_err() || fits < piece.len() {
+        self.writes = self.writes.saturating_add(1);
+        self.last_failed =
+            self.bytes.extend_from_slice(&piece[..fits]).is_err() || fits < piece.len();
+        if self.last_failed {
             self.faults = self.faults.saturating_add(1);
             return Err(SinkError::Failed);
         }
