@@ -5,7 +5,7 @@ ghost use Rattle.std.specs.Prelude.{◌≡◌, drop, IfOk};
 ghost use Rattle.std.specs.Vec.Iter.{into_iter_items};
 ghost use Rattle.acg.specs.Arguments.{words_of};
 
-use acg_base::{FolderStore, OutSink, Status, Words};
+use acg_base::{FolderStore, OutSink, Status, Words, WorkingFolder};
 use acg_driver::serve;
 use std::alloc::{AllocError, Global};
 use std::env::Args;
@@ -41,17 +41,10 @@ fn words_of(alloc: Global, args: io::Result<Args>) -> Result<Words, AllocError>
 }
 
 fn main(rt: HostRuntime) -> ExitCode {
-    let memory = ExitCode::from(Status::Memory.code());
     let Ok(words) = words_of(rt.alloc(), env::args(&rt)) else {
-        return memory;
+        return ExitCode::from(Status::Memory.code());
     };
-    let Ok(for_files) = rt.clone() else {
-        return memory;
-    };
-    let Ok(for_output) = rt.clone() else {
-        return memory;
-    };
-    let mut store = FolderStore::new(for_files);
-    let mut out = OutSink::new(for_output);
+    let mut store = FolderStore::new(WorkingFolder::new(&rt));
+    let mut out = OutSink::new(io::writer(&rt));
     ExitCode::from(serve(rt.alloc(), &words, &mut store, &mut out).code())
 }

@@ -3,3 +3,4 @@ pub mod Statuses
 pub mod MapStores
 pub mod ListSinks
 pub mod Decimals
+pub mod Transfers

@@ -39,6 +39,12 @@ abbrev pub place_in : List File → List ℕ → Option ℕ
 place_in [] name = None
 place_in (file ∷ files) name = if bytes_eq file.0 name then Some 0 else option_map suc (place_in files name)
 
+-- the files with these bytes as the content of the name: in the place of the first file of that name, or behind all others
+abbrev pub with_file : List File → (name bytes : List ℕ) → List File
+with_file [] name bytes = (name, bytes) ∷ []
+with_file (file ∷ files) name bytes =
+    if bytes_eq file.0 name then (name, bytes) ∷ files else file ∷ with_file files name bytes
+
 -- a store of these files at its start, with the numbers of the reads and writes that are to fail
 abbrev pub fresh : List File → List ℕ → List ℕ → MapState
 fresh files reads writes = record {

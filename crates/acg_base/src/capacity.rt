@@ -8,3 +8,12 @@ pub struct Capacity {
     /// Units of 16 bytes for cells and closures.
     pub units: u64,
 }
+
+/// The words of a stack where a request says none.
+pub const DEFAULT_STACK: u64 = 1_048_576;
+
+/// The units where a request says none.
+pub const DEFAULT_UNITS: u64 = 262_144;
+
+/// The instructions of a run where a request says none.
+pub const DEFAULT_BUDGET: u64 = 10_000_000;

@@ -1,30 +1,89 @@
-//! The files of the working folder.
+//! The files of a folder.
 
-ghost use Rattle.std.specs.Prelude.{◌≡◌, ◌+◌, OnOk, OnErr};
-ghost use Rattle.acg_base.specs.Outside.{GainsAtMost};
+ghost use Rattle.std.specs.Prelude.{◌≡◌, ◌+◌, ◌++◌, [], Bool, Some, IsTrue, IfOk, IfSome, OnOk, OnErr};
+ghost use Rattle.acg_base.specs.Outside.{Contents, GainsAtMost, front};
 
 use crate::name::Name;
 use crate::store::{Store, StoreError};
-use std::fs;
+use crate::transfer::{append_front, hand_on};
 use std::io::{Read, Write};
 use std::rt::Files;
+use std::{fs, io};
 
-/// Files named by paths from the working folder. It tells no content, logs no read and isn't sure.
+/// Files that are opened by name.
+pub trait Folder {
+    /// Reads an opened file.
+    type Reader: Read + Drop;
+    /// Writes a created file.
+    type Writer: Write + Drop;
+
+    // The bytes that a reader of each name gives, where the folder tells them.
+    ghost contents: { Self → Contents };
+
+    // Whether the folder tells its bytes.
+    ghost tells: { Self → Bool };
+
+    /// Opens the file of that name. Answers an error where it isn't there or can't be opened.
+    fn open(&self, name: &str) -> io::Result<Self::Reader>
+        ensures { IfOk result (λ reader. IsTrue (tells self.now) →
+            Self.Reader.remaining reader ≡ contents self.now name.now) };
+
+    /// Makes an empty file of that name, in the place of one that is there. Answers an error where it
+    /// can't be made.
+    fn create(&self, name: &str) -> io::Result<Self::Writer>
+        ensures { IfOk result (λ writer. IsTrue (tells self.now) → Self.Writer.contents writer ≡ Some []) };
+}
+
+/// The files that a runtime reaches, by paths from the working folder. It doesn't tell their bytes.
 #[derive(Drop)]
-pub struct FolderStore<R: Files + Drop> {
+pub struct WorkingFolder<R: Files + Drop> {
     rt: R,
+}
+
+impl<R: Files + Drop> WorkingFolder<R> {
+    /// The working folder of the runtime.
+    pub fn new(rt: R) -> WorkingFolder<R> {
+        WorkingFolder { rt }
+    }
+}
+
+impl<R: Files + Drop> Folder for WorkingFolder<R> {
+    ghost use Rattle.std.specs.Prelude.{None, false};
+
+    type Reader = R::File;
+    type Writer = R::File;
+
+    ghost contents = { λ _ _. None };
+
+    ghost tells = { λ _. false };
+
+    fn open(&self, name: &str) -> io::Result<R::File> {
+        fs::open(&self.rt, name)
+    }
+
+    fn create(&self, name: &str) -> io::Result<R::File> {
+        fs::create(&self.rt, name)
+    }
+}
+
+/// A store over a folder. It tells no content, logs no read and isn't sure.
+#[derive(Drop)]
+pub struct FolderStore<F: Folder + Drop> {
+    /// Where the files are.
+    pub folder: F,
     failed_reads: u64,
     failed_writes: u64,
 }
 
-impl<R: Files + Drop> FolderStore<R> {
-    /// The files that the runtime reaches, with no fault so far.
-    pub fn new(rt: R) -> FolderStore<R>
-        ensures reads { ⟦<FolderStore<R> as Store>⟧.failed_reads result ≡ 0 }
-        ensures writes { ⟦<FolderStore<R> as Store>⟧.failed_writes result ≡ 0 }
+impl<F: Folder + Drop> FolderStore<F> {
+    /// The files of the folder, with no fault so far.
+    pub fn new(folder: F) -> FolderStore<F>
+        ensures folder { result.folder ≡ folder }
+        ensures reads { ⟦<FolderStore<F> as Store>⟧.failed_reads result ≡ 0 }
+        ensures writes { ⟦<FolderStore<F> as Store>⟧.failed_writes result ≡ 0 }
     {
         FolderStore {
-            rt,
+            folder,
             failed_reads: 0,
             failed_writes: 0,
         }
@@ -32,58 +91,37 @@ impl<R: Files + Drop> FolderStore<R> {
 }
 
 // Appends at most `limit + 1` bytes of the file, or leaves `into` as it was.
-fn append_file<R: Files>(
-    rt: &R,
-    path: &str,
+fn append_file<F: Folder>(
+    folder: &F,
+    name: &str,
     limit: u32,
     into: &mut Vec<u8>,
 ) -> Result<(), StoreError>
+    ensures given { OnOk result (IsTrue (F.tells folder.now) → IfSome (F.contents folder.now name.now)
+        (λ bytes. into.new.items ≡ into.old.items ++ front limit bytes)) }
     ensures bound { OnOk result (GainsAtMost (limit + 1) into.old.items into.new.items) }
     ensures err { OnErr result (into.new.items ≡ into.old.items) }
 {
-    let before = into.len();
-    let Ok(mut file) = fs::open(rt, path) else {
-        return Err(StoreError::Failed);
-    };
-    let mut left = u64::from(limit) + 1;
-    let mut buffer = [0u8; 4096];
-    while left > 0 {
-        let want = left.min(4096) as usize;
-        match file.read(&mut buffer[..want]) {
-            Err(_) => {
-                into.truncate(before);
-                return Err(StoreError::Failed);
-            }
-            Ok(0) => break,
-            Ok(count) => {
-                if into.extend_from_slice(&buffer[..count]).is_err() {
-                    into.truncate(before);
-                    return Err(StoreError::Memory);
-                }
-                left -= count as u64;
-            }
-        }
+    match folder.open(name) {
+        Ok(mut reader) => append_front(&mut reader, limit, into),
+        Err(_) => Err(StoreError::Failed),
     }
-    Ok(())
 }
 
-// Makes the bytes the content of the file.
-fn write_file<R: Files>(rt: &R, path: &str, bytes: &[u8]) -> Result<(), StoreError> {
-    let Ok(mut file) = fs::create(rt, path) else {
-        return Err(StoreError::Failed);
-    };
-    let mut done = 0;
-    while done < bytes.len() {
-        match file.write(&bytes[done..]) {
-            Err(_) | Ok(0) => return Err(StoreError::Failed),
-            Ok(count) => done += count,
-        }
-    }
-    Ok(())
+// The writer of a new file of that name that was handed the bytes, or `None` where it failed.
+#[tactic(auto, using(crate::proofs::TransferLemmas::held))]
+fn write_file<F: Folder>(folder: &F, name: &str, bytes: &[u8]) -> Option<F::Writer>
+    ensures { IfSome result (λ writer. IsTrue (F.tells folder.now) →
+        F.Writer.contents writer ≡ Some bytes.now) }
+{
+    let mut writer = folder.create(name).ok()?;
+    hand_on(&mut writer, bytes).ok()?;
+    Some(writer)
 }
 
-impl<R: Files + Drop> Store for FolderStore<R> {
-    ghost use Rattle.std.specs.Prelude.{[], None, false};
+impl<F: Folder + Drop> Store for FolderStore<F> {
+    ghost use Rattle.std.specs.Prelude.{◌≡◌, ◌+◌, ◌≤◌, ◌++◌, [], None, false, IsTrue, IsErrOf, IfSome, OnOk, OnErr};
+    ghost use Rattle.acg_base.specs.Outside.{GainsAtMost, counted, front};
 
     ghost contents = { λ _ _. None };
 
@@ -99,8 +137,22 @@ impl<R: Files + Drop> Store for FolderStore<R> {
 
     ghost sure = { λ _. false };
 
-    fn read(&mut self, name: &Name, limit: u32, into: &mut Vec<u8>) -> Result<(), StoreError> {
-        let outcome = append_file(&self.rt, name.text(), limit, into);
+    /// Gives what a reader of that name gives.
+    fn read(&mut self, name: &Name, limit: u32, into: &mut Vec<u8>) -> Result<(), StoreError>
+        ensures given { OnOk result (IsTrue (F.tells self.old.folder) →
+            IfSome (F.contents self.old.folder name.now) (λ bytes.
+                into.new.items ≡ into.old.items ++ front limit bytes)) }
+        ensures bound { OnOk result (GainsAtMost (limit + 1) into.old.items into.new.items) }
+        ensures err { OnErr result (into.new.items ≡ into.old.items) }
+        ensures failed { IsErrOf result StoreError.Failed →
+            self.new.failed_reads ≡ counted self.old.failed_reads }
+        ensures passed { ¬ (IsErrOf result StoreError.Failed) →
+            self.new.failed_reads ≡ self.old.failed_reads }
+        ensures counts { self.old.failed_reads ≤ self.new.failed_reads }
+        ensures writes { self.new.failed_writes ≡ self.old.failed_writes }
+        ensures folder { self.new.folder ≡ self.old.folder }
+    {
+        let outcome = append_file(&self.folder, name.text(), limit, into);
         if outcome == Err(StoreError::Failed) {
             self.failed_reads = self.failed_reads.saturating_add(1);
         }
@@ -108,11 +160,13 @@ impl<R: Files + Drop> Store for FolderStore<R> {
     }
 
     fn write(&mut self, name: &Name, bytes: &[u8]) -> Result<(), StoreError> {
-        let outcome = write_file(&self.rt, name.text(), bytes);
-        if outcome == Err(StoreError::Failed) {
-            self.failed_writes = self.failed_writes.saturating_add(1);
+        match write_file(&self.folder, name.text(), bytes) {
+            Some(_) => Ok(()),
+            None => {
+                self.failed_writes = self.failed_writes.saturating_add(1);
+                Err(StoreError::Failed)
+            }
         }
-        outcome
     }
 
     ghost sure_tells = { λ _ sure. sure };

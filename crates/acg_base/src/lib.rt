@@ -14,11 +14,12 @@ mod out_sink;
 mod sink;
 mod status;
 mod store;
+mod transfer;
 mod words;
 
-pub use capacity::Capacity;
+pub use capacity::{Capacity, DEFAULT_BUDGET, DEFAULT_STACK, DEFAULT_UNITS};
 pub use decimal::{decimal_into, read_decimal, unsigned_into};
-pub use folder_store::FolderStore;
+pub use folder_store::{Folder, FolderStore, WorkingFolder};
 pub use limits::{
     LIMIT_ACTION, LIMIT_DESCRIPTION, LIMIT_IMAGE, LIMIT_INPUT, LIMIT_LEXEMES, LIMIT_NODES,
     LIMIT_SOURCE,
@@ -27,13 +28,18 @@ pub use list_sink::ListSink;
 pub use map_store::{LoggedRead, MapStore};
 pub use memory::Memory;
 pub use name::Name;
-pub use out_sink::OutSink;
+pub use out_sink::{OutSink, Telling};
 pub use sink::{Sink, SinkError};
 pub use status::Status;
 pub use store::{Store, StoreError};
+pub use transfer::{append_front, hand_on};
 pub use words::Words;
 
 #[cfg(test)]
 mod callers;
+#[cfg(test)]
+mod own_faults;
+#[cfg(test)]
+mod streams;
 #[cfg(test)]
 mod tests;

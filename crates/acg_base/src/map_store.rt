@@ -1,9 +1,8 @@
 //! A store in memory.
 
-ghost use Rattle.std.specs.Prelude.{◌≡◌, ◌↔◌, ◌+◌, ◌<◌, ◌++◌, [], map, length, Some, IsTrue, IsErrOf, IfSome, OnOk, OnErr};
+ghost use Rattle.std.specs.Prelude.{◌≡◌, ◌↔◌, ◌+◌, ◌<◌, ◌++◌, [], map, length, IsErrOf, IfSome, OnOk, OnErr};
 ghost use Rattle.std.specs.Option.{option_copied};
-ghost use Rattle.acg_base.specs.Outside.{SameElsewhere};
-ghost use Rattle.acg_base.specs.MapStores.{plain_file, content_of, place_in};
+ghost use Rattle.acg_base.specs.MapStores.{plain_file, content_of, place_in, with_file};
 
 use crate::call_numbers::is_listed;
 use crate::name::Name;
@@ -85,9 +84,8 @@ fn bytes_of<'a>(files: &'a [(Name, Vec<u8>)], name: &Name) -> Option<&'a [u8]>
 // Makes `bytes` the content of the name.
 #[tactic(auto, using(crate::proofs::FilesLemmas::files))]
 fn put(files: &mut Vec<(Name, Vec<u8>)>, name: Name, bytes: Vec<u8>) -> Result<(), StoreError>
-    ensures done { OnOk result (content_of (map plain_file files.new.items) name ≡ Some bytes.items) }
-    ensures others { OnOk result (SameElsewhere (content_of (map plain_file files.old.items))
-        (content_of (map plain_file files.new.items)) name) }
+    ensures done { OnOk result (map plain_file files.new.items ≡
+        with_file (map plain_file files.old.items) name bytes.items) }
     ensures err { OnErr result (files.new.items ≡ files.old.items) }
     ensures memory { ¬ (IsErrOf result StoreError.Failed) }
 {
@@ -151,12 +149,12 @@ impl MapStore {
     }
 }
 
-#[tactic(auto, unfolding(crate::specs::Outside::front))]
+#[tactic(auto, unfolding(crate::specs::Outside::front), using(crate::proofs::FilesLemmas::contents))]
 impl Store for MapStore {
     ghost use Rattle.std.specs.Prelude.{◌≡◌, ◌↔◌, ◌+◌, ◌≤◌, ◌++◌, ◌&&◌, ◌==◌, true, length, Some, IsTrue, IsErrOf, IfSome, OnOk, OnErr};
     ghost use Rattle.std.proofs.Common.{rules};
     ghost use Rattle.acg_base.specs.Outside.{SameElsewhere, GainsAtMost, reading_of, front};
-    ghost use Rattle.acg_base.specs.MapStores.{content_of, read_fails, write_fails, after_read, after_failed_read, after_write};
+    ghost use Rattle.acg_base.specs.MapStores.{content_of, with_file, read_fails, write_fails, after_read, after_failed_read, after_write};
 
     ghost contents = { λ store. content_of store.files };
 
@@ -211,9 +209,9 @@ impl Store for MapStore {
         ensures fails { IsErrOf result StoreError.Failed ↔ IsTrue (write_fails self.old) }
         ensures done { OnOk result (content_of self.new.files name.now ≡ Some bytes.now) }
         ensures others { SameElsewhere (content_of self.old.files) (content_of self.new.files) name.now }
-        ensures err { OnErr result (self.new.files ≡ self.old.files) }
         ensures counts { self.old.failed_writes ≤ self.new.failed_writes }
-        ensures after { self.new ≡ after_write self.old self.new.files }
+        ensures after { OnOk result (self.new ≡ after_write self.old (with_file self.old.files name.now bytes.now)) }
+        ensures err { OnErr result (self.new ≡ after_write self.old self.old.files) }
     {
         let is_to_fail = is_listed(self.failing_writes.as_slice(), self.writes);
         self.writes = self.writes.saturating_add(1);

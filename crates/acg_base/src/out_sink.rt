@@ -1,28 +1,52 @@
-//! Standard output.
+//! Output to a writer of the library, as standard output is.
 
-ghost use Rattle.std.specs.Prelude.{◌≡◌};
+ghost use Rattle.std.specs.Prelude.{◌≡◌, Bool, true, false, refl};
+ghost use Rattle.std.specs.Option.{is_some};
 
 use crate::sink::{Sink, SinkError};
-use std::io;
-use std::io::Write;
+use crate::transfer::hand_on;
+use std::io::{Printer, Write};
 
-/// Standard output. It doesn't tell what was written.
+/// A writer whose type says whether the bytes that it holds are known.
+pub trait Telling: Write {
+    // Whether they are known.
+    ghost tells: { Bool };
+
+    // They are known of each writer of the type, or of none.
+    ghost known: { (writer : Self) → is_some (Self.contents writer) ≡ tells };
+}
+
+/// Of standard output nothing is known.
+impl<P: Print> Telling for Printer<'_, P> {
+    ghost tells = { false };
+
+    ghost known = { λ _. refl };
+}
+
+/// A vector tells its bytes.
+impl Telling for Vec<u8> {
+    ghost tells = { true };
+
+    ghost known = { λ _. refl };
+}
+
+/// A sink that hands each piece to a writer. It tells what was written where the writer's type does.
 #[derive(Drop)]
-pub struct OutSink<R: Print + Drop> {
-    rt: R,
+pub struct OutSink<W: Telling + Drop> {
+    writer: W,
     faults: u64,
     writes: u64,
     last_failed: bool,
 }
 
-impl<R: Print + Drop> OutSink<R> {
-    /// The standard output of the runtime, with no write so far.
-    pub fn new(rt: R) -> OutSink<R>
-        ensures faults { ⟦<OutSink<R> as Sink>⟧.faults result ≡ 0 }
-        ensures writes { ⟦<OutSink<R> as Sink>⟧.writes result ≡ 0 }
+impl<W: Telling + Drop> OutSink<W> {
+    /// A sink over the writer, with no write so far.
+    pub fn new(writer: W) -> OutSink<W>
+        ensures faults { ⟦<OutSink<W> as Sink>⟧.faults result ≡ 0 }
+        ensures writes { ⟦<OutSink<W> as Sink>⟧.writes result ≡ 0 }
     {
         OutSink {
-            rt,
+            writer,
             faults: 0,
             writes: 0,
             last_failed: false,
@@ -30,25 +54,14 @@ impl<R: Print + Drop> OutSink<R> {
     }
 }
 
-// Writes the whole piece.
-fn print_all<R: Print>(rt: &R, piece: &[u8]) -> Result<(), SinkError> {
-    let mut out = io::writer(rt);
-    let mut done = 0;
-    while done < piece.len() {
-        match out.write(&piece[done..]) {
-            Err(_) | Ok(0) => return Err(SinkError::Failed),
-            Ok(count) => done += count,
-        }
-    }
-    Ok(())
-}
+#[tactic(auto, using(crate::proofs::TransferLemmas::known))]
+impl<W: Telling + Drop> Sink for OutSink<W> {
+    ghost use Rattle.std.specs.Prelude.{[]};
+    ghost use Rattle.std.specs.Option.{unwrap_or};
 
-impl<R: Print + Drop> Sink for OutSink<R> {
-    ghost use Rattle.std.specs.Prelude.{[], false};
+    ghost written = { λ sink. unwrap_or (W.contents sink.writer) [] };
 
-    ghost written = { λ _. [] };
-
-    ghost tells = { λ _. false };
+    ghost tells = { λ _. W.tells };
 
     ghost faults = { λ sink. sink.faults };
 
@@ -57,7 +70,7 @@ impl<R: Print + Drop> Sink for OutSink<R> {
     ghost last_failed = { λ sink. sink.last_failed };
 
     fn write(&mut self, piece: &[u8]) -> Result<(), SinkError> {
-        let outcome = print_all(&self.rt, piece);
+        let outcome = hand_on(&mut self.writer, piece);
         self.writes = self.writes.saturating_add(1);
         self.last_failed = outcome.is_err();
         if self.last_failed {

@@ -3,11 +3,11 @@
 use crate::callers::{CopyError, copy};
 use crate::{
     FolderStore, ListSink, MapStore, Name, OutSink, Sink, SinkError, Status, Store, StoreError,
-    Words, decimal_into, read_decimal, unsigned_into,
+    Words, WorkingFolder, decimal_into, read_decimal, unsigned_into,
 };
 use std::alloc::Global;
-use std::fs;
 use std::test::Fail;
+use std::{fs, io};
 
 #[test]
 fn decimals_are_read_and_written(rt: HostRuntime) {
@@ -120,6 +120,29 @@ fn each_listed_read_fails(rt: HostRuntime) -> Result<(), Fail> {
 }
 
 #[test]
+fn a_store_in_memory_logs_what_it_gave(rt: HostRuntime) -> Result<(), Fail> {
+    let mut store = MapStore::new(
+        rt.alloc(),
+        two_files(rt.alloc())?,
+        vec![in rt.alloc(); 1]?,
+        Vec::new(rt.alloc()),
+    );
+    let mut into = Vec::new(rt.alloc());
+    for text in ["a", "b", "c", "b"] {
+        let name = Name::new(rt.alloc(), text).ok().ok_or("memory")?;
+        let _given = store.read(&name, 1, &mut into);
+    }
+    let log = store.readings();
+    assert_eq!(rt; log.len(), 2);
+    assert_eq!(rt; log[0].name.bytes(), b"a".as_slice());
+    assert_eq!(rt; log[0].given.as_slice(), b"on".as_slice());
+    assert_eq!(rt; log[1].name.bytes(), b"b".as_slice());
+    assert_eq!(rt; log[1].limit, 1);
+    assert_eq!(rt; log[1].given.as_slice(), b"tw".as_slice());
+    Ok(())
+}
+
+#[test]
 fn each_listed_write_fails(rt: HostRuntime) -> Result<(), Fail> {
     let name = Name::new(rt.alloc(), "b").ok().ok_or("memory")?;
     for failing in 0..3 {
@@ -191,7 +214,7 @@ fn a_folder_keeps_what_is_written(rt: HostRuntime) -> Result<(), Fail> {
     let name = Name::new(rt.alloc(), "folder_store.test")
         .ok()
         .ok_or("memory")?;
-    let mut store = FolderStore::new(rt.clone()?);
+    let mut store = FolderStore::new(WorkingFolder::new(&rt));
     store.write(&name, b"longer than three")?;
     store.write(&name, b"three")?;
     let mut into = Vec::from_slice(rt.alloc(), b"to ")?;
@@ -206,7 +229,7 @@ fn a_folder_keeps_what_is_written(rt: HostRuntime) -> Result<(), Fail> {
 
 #[test]
 fn standard_output_takes_a_piece(rt: HostRuntime) -> Result<(), Fail> {
-    let mut out = OutSink::new(rt.clone()?);
+    let mut out = OutSink::new(io::writer(&rt));
     assert_eq!(rt; out.write(b"a line\n"), Ok(()));
     assert_eq!(rt; out.write(b""), Ok(()));
     Ok(())
