@@ -67,4 +67,5 @@ content-with_file-other (f ∷ files) name bytes other apart =
     ] refl
 
 pub ruleset files = (set-with_file, push-with_file)
+
 pub ruleset contents = (content-with_file, content-with_file-other)

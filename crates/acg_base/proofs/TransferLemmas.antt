@@ -59,4 +59,5 @@ pub told-front : (old new : Option (List ℕ)) (piece : List ℕ) (told : Bool) 
 told-front old new piece told e t h = (h.0, told-all old new (take h.0 piece) told e t h.1)
 
 pub ruleset known = (told-all, told-front)
+
 pub ruleset held = (held-all)

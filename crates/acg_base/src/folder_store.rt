@@ -51,6 +51,7 @@ impl<R: Files + Drop> Folder for WorkingFolder<R> {
     ghost use Rattle.std.specs.Prelude.{None, false};
 
     type Reader = R::File;
+
     type Writer = R::File;
 
     ghost contents = { λ _ _. None };
@@ -141,7 +142,7 @@ impl<F: Folder + Drop> Store for FolderStore<F> {
     fn read(&mut self, name: &Name, limit: u32, into: &mut Vec<u8>) -> Result<(), StoreError>
         ensures given { OnOk result (IsTrue (F.tells self.old.folder) →
             IfSome (F.contents self.old.folder name.now) (λ bytes.
-                into.new.items ≡ into.old.items ++ front limit bytes)) }
+            into.new.items ≡ into.old.items ++ front limit bytes)) }
         ensures bound { OnOk result (GainsAtMost (limit + 1) into.old.items into.new.items) }
         ensures err { OnErr result (into.new.items ≡ into.old.items) }
         ensures failed { IsErrOf result StoreError.Failed →

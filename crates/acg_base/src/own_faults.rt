@@ -14,6 +14,7 @@ struct WornStore {
     failed_writes: u64,
 }
 
+#[tactic(auto, unfolding(crate::specs::Outside::front))]
 impl Store for WornStore {
     ghost use Rattle.std.specs.Prelude.{[], true, false, Some, None, if◌then◌else◌};
     ghost use Rattle.std.specs.Str.{bytes_eq};
@@ -81,7 +82,11 @@ impl Sink for HalfSink {
 
     fn write(&mut self, piece: &[u8]) -> Result<(), SinkError> {
         let is_short = piece.len() <= self.most;
-        let end = if is_short { piece.len() } else { piece.len() / 2 };
+        let end = if is_short {
+            piece.len()
+        } else {
+            piece.len() / 2
+        };
         self.writes = self.writes.saturating_add(1);
         self.last_failed = self.bytes.extend_from_slice(&piece[..end]).is_err() || !is_short;
         if self.last_failed {
@@ -110,12 +115,28 @@ fn a_copy_answers_the_faults_of_others(rt: HostRuntime) -> Result<(), Fail> {
         last_failed: false,
     };
     assert_eq!(rt;
-        copy(rt.alloc(), &mut store, &mut out, &from, &from, 9, b"copied\n"),
+        copy(
+            rt.alloc(),
+            &mut store,
+            &mut out,
+            &from,
+            &from,
+            9,
+            b"copied\n"
+        ),
         Err(CopyError::Write)
     );
     assert_eq!(rt; store.content.len(), 0);
     assert_eq!(rt;
-        copy(rt.alloc(), &mut store, &mut out, &from, &from, 9, b"copied\n"),
+        copy(
+            rt.alloc(),
+            &mut store,
+            &mut out,
+            &from,
+            &from,
+            9,
+            b"copied\n"
+        ),
         Err(CopyError::Read)
     );
     assert_eq!(rt; store.failed_reads, 1);

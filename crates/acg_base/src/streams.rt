@@ -21,6 +21,7 @@ impl<'a> Folder for Page<'a> {
     ghost use Rattle.std.specs.Prelude.{Some, true};
 
     type Reader = &'a [u8];
+
     type Writer = Vec<u8>;
 
     ghost contents = { λ page _. Some page.bytes.now };

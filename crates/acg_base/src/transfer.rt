@@ -10,11 +10,7 @@ use crate::store::StoreError;
 use std::io::{Read, Write};
 
 // Appends what one read gives, of at most so many bytes. It gives none only at the end.
-fn append_some<R: Read>(
-    reader: &mut R,
-    most: u64,
-    into: &mut Vec<u8>,
-) -> Result<usize, StoreError>
+fn append_some<R: Read>(reader: &mut R, most: u64, into: &mut Vec<u8>) -> Result<usize, StoreError>
     requires { 0 < most }
     ensures err { OnErr result (into.new.items ≡ into.old.items) }
     ensures grows { MatchResult result
