@@ -114,7 +114,3 @@ is-send-not_empty machine address size h = send-some-not_empty machine address s
 
 pub is-send-sends : (machine : MachineValue) (address size : ℕ) (input : List ℕ) → IsSend machine address size → StepSends machine input
 is-send-sends machine address size input h = send-some-sends machine address size input h.bytes h.at h.some h.read
-
--- a count that doesn't fall and didn't grow
-pub settled : (old new : ℕ) → old ≤ new → (old < new → ⊥) → new ≡ old
-settled old new h k = omega (arith, k)

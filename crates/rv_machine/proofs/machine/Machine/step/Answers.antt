@@ -1,5 +1,6 @@
 use Rattle.std.proofs.Common.{rules, ◌≡◌, refl}
-use Rattle.rv_machine.proofs.StepsLemmas.{is-send-not_empty, is-send-sends, settled}
+use Rattle.acg_base.proofs.CountLemmas.{counted-rose}
+use Rattle.rv_machine.proofs.StepsLemmas.{is-send-not_empty, is-send-sends}
 use Rattle.rv_machine.specs.Machines.{left, sent}
 use Rattle.rv_machine.proofs.machine.Machine.step.Goals as goal
 
@@ -36,7 +37,7 @@ returns-in-Err-Failed g c =
       idle = λ _ e. absurd (e refl);
       told = λ e. absurd (cc);
       part = λ _ tells. rw (← lent) (write.part tells);
-      rose = λ _. write.failed (search rules);
+      rose = λ _. counted-rose _ _ write.failed;
       still = λ e. absurd (e refl);
       counts = write.counts;
       tells_still = write.tells_still;
@@ -65,7 +66,7 @@ returns-in-Ok g c =
       told = λ _ tells. rw (← lent) (write.done tells);
       part = λ e. absurd (cc);
       rose = λ e. absurd (cc);
-      still = λ _. settled _ _ write.counts (λ more. let fails = write.grew more in cc);
+      still = λ _. write.passed;
       counts = write.counts;
       tells_still = write.tells_still;
     })
