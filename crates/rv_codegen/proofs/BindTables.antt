@@ -8,19 +8,10 @@ use Rattle.action_terms.specs.Steps.{united, joined, chained, handed_binds}
 use Rattle.action_terms.specs.Performances.{OneOf}
 use Rattle.rv_asm.specs.DataWords.{Heap}
 use Rattle.rv_codegen.proofs.Holding.{Slot, HoldsBinds}
-use Rattle.rv_codegen.proofs.Tokens.{Order, Less, More, Same, order, found_before, found_behind, found_here, found_other, lt_irrefl, lt_asym, lt_trans, Ascending}
+use Rattle.rv_codegen.proofs.Tokens.{bind_less, bind_more, bind_same, Order, Less, More, Same, order, found_before, found_behind, found_here, found_other, lt_irrefl, lt_asym, lt_trans, Ascending}
 use Rattle.rv_codegen.proofs.Overlaid.{overlaid-second, overlaid-first, holds-overlaid, AreOver}
 
 -- ---- tokens ascend in what is bound and overlaid
-
-bind_first : (t u : Token) (x y : Datum) (b : Binds) → token_lt t u ≡ true → bind t x (Bound u y b) ≡ Bound t x (Bound u y b)
-bind_first t u x y b e = rw e refl
-
-bind_later : (t u : Token) (x y : Datum) (b : Binds) → token_lt u t ≡ true → bind t x (Bound u y b) ≡ Bound u y (bind t x b)
-bind_later t u x y b e = let f = lt_asym u t e in rw (f, e) refl
-
-bind_here : (t : Token) (x y : Datum) (b : Binds) → bind t x (Bound t y b) ≡ Bound t x b
-bind_here t x y b = let e = lt_irrefl t in rw e refl
 
 is-bound : (v t : Token) (x z : Datum) (b : Binds) → lookup v (bind t x b) ≡ Some z → (v ≡ t) ⊎ (lookup v b ≡ Some z)
 is-bound v t x z b e = by (order v t)
@@ -43,9 +34,9 @@ ascending-bind t x (Bound u y rest) asc = by (ascending-bind t x rest asc.1) (or
         at (Same g) = subst (λ w. token_lt t w ≡ true) (sym g) f
 
     by : Ascending (bind t x rest) → Order t u → Ascending (bind t x (Bound u y rest))
-    by ih (Less f) = subst Ascending (sym (bind_first t u x y rest f)) (first f, asc)
-    by ih (More f) = subst Ascending (sym (bind_later t u x y rest f)) (λ v z e. ⊎_elim (λ q. subst (λ w. token_lt u w ≡ true) (sym q) f) (λ q. asc.0 v z q) (is-bound v t x z rest e), ih)
-    by ih (Same f) = subst (λ w. Ascending (bind w x (Bound u y rest))) (sym f) (subst Ascending (sym (bind_here u x y rest)) asc)
+    by ih (Less f) = subst Ascending (sym (bind_less t u x y rest f)) (first f, asc)
+    by ih (More f) = subst Ascending (sym (bind_more t u x y rest f)) (λ v z e. ⊎_elim (λ q. subst (λ w. token_lt u w ≡ true) (sym q) f) (λ q. asc.0 v z q) (is-bound v t x z rest e), ih)
+    by ih (Same f) = subst (λ w. Ascending (bind w x (Bound u y rest))) (sym f) (subst Ascending (sym (bind_same u x y rest)) asc)
 
 pub ascending-overlaid : (b1 b2 : Binds) → Ascending b1 → Ascending b2 → Ascending (overlaid b1 b2)
 ascending-overlaid NoBinds b2 a1 a2 = a2

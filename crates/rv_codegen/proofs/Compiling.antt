@@ -210,6 +210,7 @@ module _ (x : Subject) (ok : IsCompilable x.action) (labels : LabelsStand (actio
     closed = λ h. h;
     completed = subst (λ i. Has (code s) (address_of (spot s.items i)) (exit_with 0)) (sym (root-exit x.action ok.tree ok.some)) stood.completed;
     failed = stood.failed;
+    escaped = stood.escaped;
     send = stood.send;
   }
 

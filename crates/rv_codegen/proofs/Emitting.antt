@@ -8,7 +8,7 @@ use Rattle.rv_asm.specs.declared.item.Item.TheVariants.{Plain, Mark, Jump, Addre
 use Rattle.rv_asm.proofs.Constants.{length-load_constant}
 use Rattle.rv_asm.proofs.Labels.{total-append}
 use Rattle.rv_codegen.specs.Blocks.{first_label, joint_of, front_of, start_of, stop_of, opening, prelude, entries}
-use Rattle.rv_codegen.specs.Marks.{AreFresh}
+use Rattle.rv_codegen.specs.Marks.{extended, AreFresh}
 use Rattle.rv_codegen.proofs.Fresh.{fresh-mark, fresh-plain, fresh-opening, total-plain}
 
 -- what an `Ok` tells tells what follows from it
@@ -48,11 +48,11 @@ stop-fresh s s1 k fresh e = subst (λ z. is_placed z.items (stop_of k) ≡ false
 pub total-opened : (s s1 : Listing) (k : ℕ) → s1 ≡ record s { items = s.items ++ opening k } → total s1.items ≡ total s.items
 total-opened s s1 k e = ap (λ z. total z.items) e ∙ total-append s.items (opening k) ∙ omega arith
 
--- 9 instructions come first, and 13 are those of the entries
-pub total-whole : (s0 s1 s2 s3 : Listing) (n : ℕ) → s1 ≡ record s0 { items = prelude } → total s2.items ≤ total s1.items + 14 * n → s3 ≡ record s2 { items = s2.items ++ entries n } → total s3.items ≤ 22 + 14 * n
+-- 9 instructions come first, and 16 are those of the entries
+pub total-whole : (s0 s1 s2 s3 : Listing) (n : ℕ) → s1 ≡ record s0 { items = prelude } → total s2.items ≤ total s1.items + 14 * n → s3 ≡ record s2 { items = s2.items ++ entries n } → total s3.items ≤ 25 + 14 * n
 total-whole s0 s1 s2 s3 n first nodes last =
     let a : total s1.items ≡ 9 = ap (λ z. total z.items) first in
-    let b : total s3.items ≡ total s2.items + 13 = ap (λ z. total z.items) last ∙ total-append s2.items (entries n) in
+    let b : total s3.items ≡ total s2.items + 16 = ap (λ z. total z.items) last ∙ total-append s2.items (entries n) in
     omega (arith, a, b, nodes)
 
 -- ---- labels that are still to be placed, and lengths, as pieces are appended
@@ -76,9 +76,6 @@ sends-short s s1 s2 s3 s4 word l m e1 e2 e3 e4 =
     let c : total s3.items ≡ total s2.items + 2 = ap (λ z. total z.items) e3 ∙ total-append s2.items (Jump m ∷ []) in
     let d : total s4.items ≡ total s3.items + 0 = ap (λ z. total z.items) e4 ∙ total-append s3.items (Mark l ∷ []) in
     omega (arith, a, b, c, d, length-load_constant 10 word)
-
-abbrev extended : Listing → List Item → Listing
-extended s is = record s { items = s.items ++ is }
 
 -- one piece and then another
 pub both-appended : (s s1 s2 : Listing) (a b b' : List Item) → s1 ≡ record s { items = s.items ++ a } → s2 ≡ record s1 { items = s1.items ++ b } → b ≡ b' → s2 ≡ record s { items = s.items ++ (a ++ b') }

@@ -84,14 +84,14 @@ module _ (g : Listed) (graph : IsGraph g) (works : List Work) (same : action_of_
     }
 
     -- the image of the words is right
-    pub generated-right : (words : List ℕ) → LabelsStand (action_items (action_of_works works)) → total (action_items (action_of_works works)) ≤ 22 + 14 * length works → map Some words ≡ map encode (code_of (action_items (action_of_works works))) → (stack units : ℕ) → 1 ≤ stack → stack ≤ 16777216 → 1 ≤ units → units ≤ 4194304 → IsRight (compiled_image (instruction_bytes words) stack units) (node_count g) (subject_of g stack units)
+    pub generated-right : (words : List ℕ) → LabelsStand (action_items (action_of_works works)) → total (action_items (action_of_works works)) ≤ 25 + 14 * length works → map Some words ≡ map encode (code_of (action_items (action_of_works works))) → (stack units : ℕ) → 1 ≤ stack → stack ≤ 16777216 → 1 ≤ units → units ≤ 4194304 → IsRight (compiled_image (instruction_bytes words) stack units) (node_count g) (subject_of g stack units)
     generated-right words labels short encoded stack units s_low s u_low u =
         let a = action_of g in
         let items = action_items a in
         let code = code_of items in
         let same_items : action_items (action_of_works works) ≡ items = ap action_items same in
         let stand : LabelsStand items = subst LabelsStand same_items labels in
-        let few_items : total items ≤ 22 + 14 * length works = subst (λ z. total z ≤ 22 + 14 * length works) same_items short in
+        let few_items : total items ≤ 25 + 14 * length works = subst (λ z. total z ≤ 25 + 14 * length works) same_items short in
         let known = words-encoded words code (subst (λ z. map Some words ≡ map encode (code_of z)) same_items encoded) in
         let x = subject_of g stack units in
         let size_is : length (code_bytes code) ≡ 4 * total items = length-code_bytes code ∙ ap (λ n. 4 * n) (length-code (spot items) 0 items) in

@@ -1,5 +1,5 @@
 -- What words of a frame stand for: data at offsets, and bindings at slots.
-use Rattle.std.proofs.Common.{◌≡◌, ℕ, ◌+◌, List, [], ◌∷◌, ◌++◌, get_or, Some, sym, subst}
+use Rattle.std.proofs.Common.{◌≡◌, ℕ, zero, suc, ◌+◌, List, [], ◌∷◌, ◌++◌, get_or, Some, sym, subst}
 use Rattle.std.specs.Prelude.{slice_get}
 use Rattle.action_terms.specs.Information.{Token, Datum, Number, Truth, CellOf, Closure, Binds, Data}
 use Rattle.action_terms.specs.Bindings.{lookup}
@@ -8,6 +8,11 @@ use Rattle.rv_asm.specs.DataWords.{Heap, PlacedClosure, StandsFor}
 -- the word at an offset, in words, of the frame that begins at word f of the region
 abbrev pub word_at : List ℕ → (f offset : ℕ) → ℕ
 word_at words f offset = get_or words (f + offset) 0
+
+-- so many offsets in a row, from one on
+abbrev pub in_row : (first n : ℕ) → List ℕ
+in_row first zero = []
+in_row first (suc n) = first ∷ in_row (first + 1) n
 
 -- the words at the offsets stand for the data, one for each
 abbrev pub Holds : ℕ → Heap → List ℕ → ℕ → List ℕ → Data → Type 0

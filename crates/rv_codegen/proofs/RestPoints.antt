@@ -8,7 +8,7 @@ use Rattle.rv_asm.proofs.Labels.{spot_le-total}
 use Rattle.rv_asm.proofs.Moments.{Advances, Stops}
 use Rattle.action_terms.specs.Information.{Binds, Data, Storage, World}
 use Rattle.action_terms.specs.Actions.{Join, Chain, AndThen, Then, Hence, Before, Both, Phases, Node, node_at}
-use Rattle.action_terms.specs.Acting.{Done, Fail, Tree, Run, Ended}
+use Rattle.action_terms.specs.Acting.{Done, Esc, Fail, Tree, Run, Ended}
 use Rattle.action_terms.specs.Need.{units, node_yielder_count}
 use Rattle.action_terms.specs.Performances.{OneOf, messages_bytes}
 use Rattle.action_terms.specs.Steps.{Step, run_steps, open_steps}
@@ -17,9 +17,10 @@ use Rattle.action_terms.proofs.Parts.{Reaches}
 use Rattle.rv_codegen.proofs.Around.{Chains, IsPlaced, InOrder, Shares, HandsOver, Given, Receives, Leaves, BindsLeft, Around}
 use Rattle.rv_codegen.proofs.BindTables.{ChainBinds, JoinBinds}
 use Rattle.rv_codegen.proofs.Configurations.{Configuration, depth, performances}
+use Rattle.rv_codegen.proofs.Holding.{Holds, in_row}
 use Rattle.rv_codegen.proofs.InputLeft.{Left}
 use Rattle.rv_codegen.proofs.NodeParts.{IsNode, IsPartOf}
-use Rattle.rv_codegen.proofs.Settings.{Point, Went, Setting, code, point, start, exit, failure, frame_words}
+use Rattle.rv_codegen.proofs.Settings.{Point, Went, Setting, code, point, start, exit, failure, escape, frame_words}
 use Rattle.rv_codegen.proofs.Units.{Units, units-kept}
 
 module _ (s : Setting) where
@@ -74,10 +75,21 @@ module _ (s : Setting) where
     pub at : state.pc ≡ address_of (failure s).place
     pub rank_is : rank ≡ (failure s).rank
 
+  -- node k has escaped with data, at the entry for escapes: register 10 has the address of the data, which stand in a row
+  pub record EscapesAt (steps : List Step) (cells : Storage) (rank : ℕ) (state : WordState) (fs : List Frame) (d : Data) : Type 0 where
+    pub k : ℕ
+    pub here : Stays steps cells state fs k
+    pub at : state.pc ≡ address_of (escape s).place
+    pub rank_is : rank ≡ (escape s).rank
+    pub source : ℕ
+    pub source_at : state.registers 10 ≡ s.base + 8 * source
+    pub held : Holds s.base here.heap here.words source (in_row 0 (length d)) d
+
   abbrev pub RestsAt : List Step → Storage → (rank : ℕ) → WordState → List Frame → Tree → Type 0
   RestsAt steps cells rank state fs (Run k d b) = RunsAt steps cells rank state fs k d b
   RestsAt steps cells rank state fs (Ended (Done d b)) = DoneAt steps cells rank state fs d b
   RestsAt steps cells rank state fs (Ended Fail) = FailsAt steps cells rank state fs
+  RestsAt steps cells rank state fs (Ended (Esc d)) = EscapesAt steps cells rank state fs d
   RestsAt steps cells rank state fs _ = ⊥
 
   pub record IsAt (rank : ℕ) (state : WordState) (c : Configuration) : Type 0 where

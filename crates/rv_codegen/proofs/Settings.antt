@@ -8,7 +8,7 @@ use Rattle.rv_asm.proofs.Registers.{put-other}
 use Rattle.action_terms.specs.Actions.{Action}
 use Rattle.action_terms.specs.Information.{Token}
 use Rattle.action_terms.specs.Need.{Sizes}
-use Rattle.rv_codegen.specs.Blocks.{fail_label, front_of, start_of, stop_of}
+use Rattle.rv_codegen.specs.Blocks.{fail_label, escape_label, front_of, start_of, stop_of}
 use Rattle.rv_codegen.proofs.Holding.{Slot, ApartSlots}
 use Rattle.rv_codegen.proofs.Jumps.{jumped, jump-runs}
 
@@ -142,6 +142,10 @@ exit s k = point s (get_or s.exits k 0)
 -- the entry for failures
 abbrev pub failure : Setting → Point
 failure s = point s fail_label
+
+-- the entry for escapes
+abbrev pub escape : Setting → Point
+escape s = point s escape_label
 
 -- the words of the frame in which a node is performed
 abbrev pub frame_words : Setting → ℕ → ℕ

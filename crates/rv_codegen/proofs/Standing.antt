@@ -8,7 +8,7 @@ use Rattle.rv_asm.specs.WordMachine.{Has}
 use Rattle.rv_asm.specs.declared.item.Item.{Item}
 use Rattle.rv_asm.specs.declared.item.Item.TheVariants.{Plain, Mark}
 use Rattle.action_terms.specs.Actions.{Node, Action}
-use Rattle.rv_codegen.specs.Blocks.{fail_label, send_label, end_label, joint_of, front_of, start_of, round_up, prelude, opening, block, blocks_from, send_entry, entries, exits_of, action_items, body}
+use Rattle.rv_codegen.specs.Blocks.{fail_label, escape_label, send_label, end_label, joint_of, front_of, start_of, round_up, prelude, opening, block, blocks_from, send_entry, entries, exits_of, action_items, body}
 use Rattle.rv_codegen.proofs.Walk.{Cursor, cursor-start, cursor-within, over, over-mark, mark-at, plain-stands, over-plain, address-stands, over-address}
 
 -- the labels of a node's opening stand before what follows it
@@ -80,6 +80,7 @@ pub record Stood (items : List Item) (a : Action) : Type 0 where
   pub root : spot items (start_of 0) ≡ 9
   pub completed : Has (code_of items) (address_of (spot items (front_of (length a)))) (exit_with 0)
   pub failed : Has (code_of items) (address_of (spot items fail_label)) (exit_with 1)
+  pub escaped : Has (code_of items) (address_of (spot items escape_label)) (exit_with 2)
   pub send : Has (code_of items) (address_of (spot items send_label)) send_entry
   pub end : spot items end_label ≡ total items
 
@@ -90,25 +91,29 @@ action-stands a items same labels =
     let c1 = over-address items 0 3 end_label (map Plain round_up ++ nodes) c0 in
     let c2 : Cursor items 9 nodes = over-plain items 2 round_up nodes c1 in
     let zero : length a ≡ 0 + length a = omega arith in
-    let c9 : Cursor items 9 (blocks_from 0 (exits_of a) a ++ entries (0 + length a)) = subst (λ n. Cursor items 9 (blocks_from 0 (exits_of a) a ++ entries n)) zero c2 in
+    let c_nodes : Cursor items 9 (blocks_from 0 (exits_of a) a ++ entries (0 + length a)) = subst (λ n. Cursor items 9 (blocks_from 0 (exits_of a) a ++ entries n)) zero c2 in
     let first = begins items labels (exits_of a) a 0 in
-    let all = all-stand items labels (exits_of a) a 0 9 c9 in
+    let all = all-stand items labels (exits_of a) a 0 9 c_nodes in
     let ends = opens items labels (length a) all.last _ (subst (λ n. Cursor items all.last (entries n)) (sym zero) all.cursor) in
     let n1 = all.last in
     let sending = map Plain send_entry ++ Mark end_label ∷ [] in
-    let failing = map Plain (exit_with 1) ++ (Mark send_label ∷ sending) in
+    let escaping = map Plain (exit_with 2) ++ (Mark send_label ∷ sending) in
+    let failing = map Plain (exit_with 1) ++ (Mark escape_label ∷ escaping) in
     let c3 = over-plain items n1 (exit_with 0) (Mark fail_label ∷ failing) ends.cursor in
     let c4 = over-mark items (n1 + 3) fail_label failing c3 in
-    let c5 = over-plain items (n1 + 3) (exit_with 1) (Mark send_label ∷ sending) c4 in
-    let c6 = over-mark items (n1 + 3 + 3) send_label sending c5 in
-    let c7 = over-plain items (n1 + 3 + 3) send_entry (Mark end_label ∷ []) c6 in
+    let c5 = over-plain items (n1 + 3) (exit_with 1) (Mark escape_label ∷ escaping) c4 in
+    let c6 = over-mark items (n1 + 3 + 3) escape_label escaping c5 in
+    let c7 = over-plain items (n1 + 3 + 3) (exit_with 2) (Mark send_label ∷ sending) c6 in
+    let c8 = over-mark items (n1 + 3 + 3 + 3) send_label sending c7 in
+    let c9 = over-plain items (n1 + 3 + 3 + 3) send_entry (Mark end_label ∷ []) c8 in
     record {
       each = λ k x e. let z : 0 + k ≡ k = omega arith in subst (λ m. NodeStands items (exits_of a) m x) z (all.each k x e);
       address = address-stands items 0 3 end_label (map Plain round_up ++ nodes) c0;
       round = plain-stands items 2 round_up nodes c1;
-      root = (opens items labels 0 9 first.behind (subst (Cursor items 9) first.is c9)).start;
+      root = (opens items labels 0 9 first.behind (subst (Cursor items 9) first.is c_nodes)).start;
       completed = subst (λ m. Has (code_of items) (address_of m) (exit_with 0)) (sym ends.front) (plain-stands items n1 (exit_with 0) (Mark fail_label ∷ failing) ends.cursor);
-      failed = subst (λ m. Has (code_of items) (address_of m) (exit_with 1)) (sym (mark-at items labels (n1 + 3) fail_label failing c3)) (plain-stands items (n1 + 3) (exit_with 1) (Mark send_label ∷ sending) c4);
-      send = subst (λ m. Has (code_of items) (address_of m) send_entry) (sym (mark-at items labels (n1 + 3 + 3) send_label sending c5)) (plain-stands items (n1 + 3 + 3) send_entry (Mark end_label ∷ []) c6);
-      end = mark-at items labels (n1 + 3 + 3 + 7) end_label [] c7 ∙ omega (arith, cursor-within items (n1 + 3 + 3 + 7) (Mark end_label ∷ []) c7);
+      failed = subst (λ m. Has (code_of items) (address_of m) (exit_with 1)) (sym (mark-at items labels (n1 + 3) fail_label failing c3)) (plain-stands items (n1 + 3) (exit_with 1) (Mark escape_label ∷ escaping) c4);
+      escaped = subst (λ m. Has (code_of items) (address_of m) (exit_with 2)) (sym (mark-at items labels (n1 + 3 + 3) escape_label escaping c5)) (plain-stands items (n1 + 3 + 3) (exit_with 2) (Mark send_label ∷ sending) c6);
+      send = subst (λ m. Has (code_of items) (address_of m) send_entry) (sym (mark-at items labels (n1 + 3 + 3 + 3) send_label sending c7)) (plain-stands items (n1 + 3 + 3 + 3) send_entry (Mark end_label ∷ []) c8);
+      end = mark-at items labels (n1 + 3 + 3 + 3 + 7) end_label [] c9 ∙ omega (arith, cursor-within items (n1 + 3 + 3 + 3 + 7) (Mark end_label ∷ []) c9);
     }

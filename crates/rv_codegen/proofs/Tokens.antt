@@ -2,6 +2,7 @@
 use Rattle.std.proofs.Common.{◌≡◌, ◌≢◌, ◌⊎◌, ℕ, ◌<◌, [], ◌∷◌, Some, None, refl, sym, ap, ap₂, ◌∙◌, subst, arith, inl, inr, ⊎_elim, Bool, true, false, ltb, lt-ltb}
 use Rattle.std.specs.Prelude.{if◌then◌else◌}
 use Rattle.std.proofs.lemmas.Bool.{le-ltb, ltb-true, ltb-false}
+use Rattle.rv_code.proofs.Bools.{true-or-false}
 use Rattle.action_terms.specs.Information.{Token, Datum, Binds, NoBinds, Bound}
 use Rattle.action_terms.specs.Bindings.{token_lt, bind, lookup}
 
@@ -12,11 +13,6 @@ if_true false x y e = absurd (cc)
 if_false : {X : Type 0} (b : Bool) (x y : X) → b ≡ false → (if b then x else y) ≡ y
 if_false false x y e = refl
 if_false true x y e = absurd (cc)
-
--- one of two
-pub either : (b : Bool) → (b ≡ true) ⊎ (b ≡ false)
-either true = inl refl
-either false = inr refl
 
 pub lt_irrefl : (t : Token) → token_lt t t ≡ false
 lt_irrefl [] = refl
@@ -30,12 +26,12 @@ lt_asym (x ∷ s) (y ∷ t) h = ⊎_elim
     (λ p. ⊎_elim
     (λ q. absurd (let a = ltb-true x y p in let b = ltb-true y x q in omega arith))
     (λ q. if_false (ltb y x) true (if ltb x y then false else token_lt t s) q ∙ if_true (ltb x y) false (token_lt t s) p)
-    (either (ltb y x)))
+    (true-or-false (ltb y x)))
     (λ p. ⊎_elim
     (λ q. absurd (let e = sym (if_false (ltb x y) true (if ltb y x then false else token_lt s t) p ∙ if_true (ltb y x) false (token_lt s t) q) ∙ h in cc))
     (λ q. if_false (ltb y x) true (if ltb x y then false else token_lt t s) q ∙ if_false (ltb x y) false (token_lt t s) p ∙ lt_asym s t (sym (if_false (ltb x y) true (if ltb y x then false else token_lt s t) p ∙ if_false (ltb y x) false (token_lt s t) q) ∙ h))
-    (either (ltb y x)))
-    (either (ltb x y))
+    (true-or-false (ltb y x)))
+    (true-or-false (ltb x y))
 
 pub lt_same : (s t : Token) → token_lt s t ≡ false → token_lt t s ≡ false → s ≡ t
 lt_same [] [] h k = refl
@@ -47,8 +43,8 @@ lt_same (x ∷ s) (y ∷ t) h k = ⊎_elim
     (λ q. absurd (let e = sym (if_true (ltb y x) true (if ltb x y then false else token_lt t s) q) ∙ k in cc))
     (λ q. let a = ltb-false x y p in let b = ltb-false y x q in let e : x ≡ y = omega arith in
     ap₂ (λ u v. u ∷ v) e (lt_same s t (sym (if_false (ltb x y) true (if ltb y x then false else token_lt s t) p ∙ if_false (ltb y x) false (token_lt s t) q) ∙ h) (sym (if_false (ltb y x) true (if ltb x y then false else token_lt t s) q ∙ if_false (ltb x y) false (token_lt t s) p) ∙ k)))
-    (either (ltb y x)))
-    (either (ltb x y))
+    (true-or-false (ltb y x)))
+    (true-or-false (ltb x y))
 
 -- the three cases of a token's first byte
 pub lt_trans : (r s t : Token) → token_lt r s ≡ true → token_lt s t ≡ true → token_lt r t ≡ true
@@ -73,8 +69,8 @@ lt_trans (x ∷ r) (y ∷ s) (z ∷ t) h k =
         (λ p. ⊎_elim
         (λ q. absurd (let e = sym (if_false (ltb x y) true (if ltb y x then false else token_lt r s) p ∙ if_true (ltb y x) false (token_lt r s) q) ∙ h in cc))
         (λ q. let a = ltb-false x y p in let b = ltb-false y x q in inr (omega arith, sym (if_false (ltb x y) true (if ltb y x then false else token_lt r s) p ∙ if_false (ltb y x) false (token_lt r s) q) ∙ h))
-        (either (ltb y x)))
-        (either (ltb x y))
+        (true-or-false (ltb y x)))
+        (true-or-false (ltb x y))
 
 -- ---- what is found
 pub found_before : (t u : Token) (y : Datum) (b : Binds) → token_lt t u ≡ true → lookup t (Bound u y b) ≡ None
@@ -93,15 +89,15 @@ pub data Order (s t : Token) : Type 0 where
   Same : s ≡ t → Order s t
 
 pub order : (s t : Token) → Order s t
-order s t = ⊎_elim Less (λ p. ⊎_elim More (λ q. Same (lt_same s t p q)) (either (token_lt t s))) (either (token_lt s t))
+order s t = ⊎_elim Less (λ p. ⊎_elim More (λ q. Same (lt_same s t p q)) (true-or-false (token_lt t s))) (true-or-false (token_lt s t))
 
-bind_less : (u v : Token) (x y : Datum) (b : Binds) → token_lt u v ≡ true → bind u x (Bound v y b) ≡ Bound u x (Bound v y b)
+pub bind_less : (u v : Token) (x y : Datum) (b : Binds) → token_lt u v ≡ true → bind u x (Bound v y b) ≡ Bound u x (Bound v y b)
 bind_less u v x y b e = if_true (token_lt u v) (Bound u x (Bound v y b)) (if token_lt v u then Bound v y (bind u x b) else Bound u x b) e
 
-bind_more : (u v : Token) (x y : Datum) (b : Binds) → token_lt v u ≡ true → bind u x (Bound v y b) ≡ Bound v y (bind u x b)
+pub bind_more : (u v : Token) (x y : Datum) (b : Binds) → token_lt v u ≡ true → bind u x (Bound v y b) ≡ Bound v y (bind u x b)
 bind_more u v x y b e = if_false (token_lt u v) (Bound u x (Bound v y b)) (if token_lt v u then Bound v y (bind u x b) else Bound u x b) (lt_asym v u e) ∙ if_true (token_lt v u) (Bound v y (bind u x b)) (Bound u x b) e
 
-bind_same : (u : Token) (x y : Datum) (b : Binds) → bind u x (Bound u y b) ≡ Bound u x b
+pub bind_same : (u : Token) (x y : Datum) (b : Binds) → bind u x (Bound u y b) ≡ Bound u x b
 bind_same u x y b = if_false (token_lt u u) (Bound u x (Bound u y b)) (if token_lt u u then Bound u y (bind u x b) else Bound u x b) (lt_irrefl u) ∙ if_false (token_lt u u) (Bound u y (bind u x b)) (Bound u x b) (lt_irrefl u)
 
 pub found_bound : (u : Token) (x : Datum) (b : Binds) → lookup u (bind u x b) ≡ Some x

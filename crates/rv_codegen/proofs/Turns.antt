@@ -11,7 +11,7 @@ use Rattle.rv_asm.proofs.Calls.{before_exit, before_exit-runs, exit-stops}
 use Rattle.rv_asm.proofs.Moments.{quiet-stop}
 use Rattle.action_terms.specs.Information.{Binds, Data, World}
 use Rattle.action_terms.specs.Actions.{NumberLiteral, And, AndThen, Primitive, Complete, Failing, Send, Node, Simple, Enact, Apply, Unfolding, Unfold, Furthermore, Both, Phases, Either, Trapping, Branch, node_at}
-use Rattle.action_terms.specs.Acting.{Done, Fail, Tree, Run, Ended}
+use Rattle.action_terms.specs.Acting.{Done, End, Esc, Fail, Tree, Run, Ended}
 use Rattle.action_terms.specs.Performances.{messages_bytes}
 use Rattle.action_terms.specs.Steps.{Step, failed}
 use Rattle.action_terms.proofs.Contexts.{Frame, InCalled, InParLeft, InParRight, InFirst, InSecond, InOr, InCut, InTrap, InOver, InTail, plug}
@@ -19,15 +19,15 @@ use Rattle.action_terms.proofs.Parts.{Reaches, EachPasses, reaches-rise}
 use Rattle.rv_codegen.specs.Blocks.{send_label, stop_of, send_entry}
 use Rattle.rv_codegen.specs.Works.{is_built_node}
 use Rattle.rv_codegen.proofs.Around.{Chains, Around}
-use Rattle.rv_codegen.proofs.Configurations.{Configuration, depth, performances}
+use Rattle.rv_codegen.proofs.Configurations.{Configuration, EndCode, depth, performances}
 use Rattle.rv_codegen.proofs.Ending.{LeavesNone, complete-goes, fail-goes}
 use Rattle.rv_codegen.proofs.InputLeft.{Left}
 use Rattle.rv_codegen.proofs.Joins.{both-start, left-done, right-done}
 use Rattle.rv_codegen.proofs.NodeParts.{IsNode, IsTailOf, Calls, tail-part, part-node}
 use Rattle.rv_codegen.proofs.Phases.{phases-start, first-done, second-done}
-use Rattle.rv_codegen.proofs.RestPoints.{Laid, RestsAt, RunsAt, DoneAt, FailsAt, IsAt, GoesOn, Starting, StartGoesOn}
+use Rattle.rv_codegen.proofs.RestPoints.{Laid, RestsAt, RunsAt, DoneAt, FailsAt, EscapesAt, IsAt, GoesOn, Starting, StartGoesOn}
 use Rattle.rv_codegen.proofs.Sending.{send-goes}
-use Rattle.rv_codegen.proofs.Settings.{Setting, code, point, start, exit, failure}
+use Rattle.rv_codegen.proofs.Settings.{Setting, code, point, start, exit, failure, escape}
 use Rattle.rv_codegen.proofs.Standing.{NodeStands}
 
 -- ---- what is not built yet
@@ -59,6 +59,7 @@ module _ (s : Setting) where
     pub closed : s.Opens → ⊥
     pub completed : Has (code s) (address_of (exit s 0).place) (exit_with 0)
     pub failed : Has (code s) (address_of (failure s).place) (exit_with 1)
+    pub escaped : Has (code s) (address_of (escape s).place) (exit_with 2)
     pub send : Has (code s) (address_of (point s send_label).place) send_entry
 
   module _ (it : Compiled) where
@@ -84,42 +85,62 @@ module _ (s : Setting) where
     run-goes x (Phases AndThen l r) e stands b = phases-start s it.laid x AndThen l r e
     run-goes x _ e stands b = absurd (let r : false ≡ true = b in cc)
 
-    -- ---- a failure: no alternative is open, and the run ends with code 1
+    -- ---- no alternative and no trap is open: a failure or an escape passes all frames
 
-    passes : (heap : Heap) (words : List ℕ) (fs : List Frame) (f k : ℕ) (c : Chains) → Around s heap words fs f k c → EachPasses Fail fs
-    passes heap words [] f k c h = tt
-    passes heap words (InParLeft n y ∷ fs) f k c h = (tt, passes heap words fs f n c h.1)
-    passes heap words (InParRight n x ∷ fs) f k c h = (tt, passes heap words fs f n c h.1)
-    passes heap words (InFirst n d b ∷ fs) f k c h = (tt, passes heap words fs f n c h.1)
-    passes heap words (InSecond n d b ∷ fs) f k c h = (tt, passes heap words fs f n c h.1)
-    passes heap words (InOr k2 d b ∷ fs) f k c h = absurd (unbuilt h.0 (Either k k2) h.2.node tt refl)
-    passes heap words (InCut ∷ fs) f k c h = (tt, passes heap words fs f h.0 c h.4)
-    passes heap words (InTrap n b ∷ fs) f k c h = (tt, passes heap words fs f n _ h.2)
-    passes heap words (InTail n ∷ fs) f k c h = (tt, passes heap words fs f n c h.1)
-    passes heap words (InCalled c' ∷ fs) f k c h = (tt, passes heap words fs h.1 h.0 c h.3)
-    passes heap words (InOver b ∷ fs) f k c h = (tt, passes heap words fs f h.0 c h.2)
+    fail-passes : (heap : Heap) (words : List ℕ) (fs : List Frame) (f k : ℕ) (c : Chains) → Around s heap words fs f k c → EachPasses Fail fs
+    fail-passes heap words [] f k c h = tt
+    fail-passes heap words (InParLeft n y ∷ fs) f k c h = (tt, fail-passes heap words fs f n c h.1)
+    fail-passes heap words (InParRight n x ∷ fs) f k c h = (tt, fail-passes heap words fs f n c h.1)
+    fail-passes heap words (InFirst n d b ∷ fs) f k c h = (tt, fail-passes heap words fs f n c h.1)
+    fail-passes heap words (InSecond n d b ∷ fs) f k c h = (tt, fail-passes heap words fs f n c h.1)
+    fail-passes heap words (InOr k2 d b ∷ fs) f k c h = absurd (unbuilt h.0 (Either k k2) h.2.node tt refl)
+    fail-passes heap words (InCut ∷ fs) f k c h = (tt, fail-passes heap words fs f h.0 c h.4)
+    fail-passes heap words (InTrap n b ∷ fs) f k c h = (tt, fail-passes heap words fs f n _ h.2)
+    fail-passes heap words (InTail n ∷ fs) f k c h = (tt, fail-passes heap words fs f n c h.1)
+    fail-passes heap words (InCalled c' ∷ fs) f k c h = (tt, fail-passes heap words fs h.1 h.0 c h.3)
+    fail-passes heap words (InOver b ∷ fs) f k c h = (tt, fail-passes heap words fs f h.0 c h.2)
+
+    escape-passes : (e : Data) (heap : Heap) (words : List ℕ) (fs : List Frame) (f k : ℕ) (c : Chains) → Around s heap words fs f k c → EachPasses (Esc e) fs
+    escape-passes e heap words [] f k c h = tt
+    escape-passes e heap words (InParLeft n y ∷ fs) f k c h = (tt, escape-passes e heap words fs f n c h.1)
+    escape-passes e heap words (InParRight n x ∷ fs) f k c h = (tt, escape-passes e heap words fs f n c h.1)
+    escape-passes e heap words (InFirst n d b ∷ fs) f k c h = (tt, escape-passes e heap words fs f n c h.1)
+    escape-passes e heap words (InSecond n d b ∷ fs) f k c h = (tt, escape-passes e heap words fs f n c h.1)
+    escape-passes e heap words (InOr k2 d b ∷ fs) f k c h = (tt, escape-passes e heap words fs f h.0 h.1 h.3)
+    escape-passes e heap words (InCut ∷ fs) f k c h = (tt, escape-passes e heap words fs f h.0 c h.4)
+    escape-passes e heap words (InTrap n b ∷ fs) f k c h = absurd (unbuilt n (Trapping k h.1.r) h.1.node tt refl)
+    escape-passes e heap words (InTail n ∷ fs) f k c h = (tt, escape-passes e heap words fs f n c h.1)
+    escape-passes e heap words (InCalled c' ∷ fs) f k c h = (tt, escape-passes e heap words fs h.1 h.0 c h.3)
+    escape-passes e heap words (InOver b ∷ fs) f k c h = (tt, escape-passes e heap words fs f h.0 c h.2)
+
+    -- the run ends where the whole action has
+    broken-goes : (steps : List Step) (fs : List Frame) (z : End) (w : World) (state : WordState) (rank exit : ℕ) → exit < 256 → EndCode (Ended z) exit → Has (code s) state.pc (exit_with exit) → state.output ≡ messages_bytes w.output → EachPasses z fs → Reaches s.action s.input steps (plug fs (Ended z)) w → GoesOn s rank state (record { steps = steps; frames = fs; focus = Ended z; world = w })
+    broken-goes steps fs z w state rank exit few ends has shown all reached =
+        let risen = reaches-rise s.action s.input steps fs [] z w all (subst (λ y. Reaches s.action s.input steps (plug y (Ended z)) w) (sym (append-nil fs)) reached) in
+        let more = mul-le-mul_left s.factor risen.more in
+        inr
+        (quiet-stop s.base (code s) (performances s) depth (IsAt s) state (record { steps = steps; frames = fs; focus = Ended z; world = w })
+        (record {
+          count = 2;
+          to = before_exit s.base (code s) exit state;
+          last = record { steps = risen.all; frames = []; focus = Ended z; world = w };
+          exit = exit;
+          runs = before_exit-runs s.base (code s) exit state few has;
+          quiet = refl;
+          output = shown;
+          exits = exit-stops s.base (code s) exit state few has;
+          reached = risen.reached;
+          ends = inl (refl, ends);
+          paid = omega (arith, s.ample, more);
+        }))
 
     fails-goes : (steps : List Step) (fs : List Frame) (w : World) (state : WordState) (rank : ℕ) → state.output ≡ messages_bytes w.output → FailsAt s steps w.cells rank state fs → Reaches s.action s.input steps (plug fs failed) w → GoesOn s rank state (record { steps = steps; frames = fs; focus = failed; world = w })
     fails-goes steps fs w state rank shown x reached =
-        let has : Has (code s) state.pc (exit_with 1) = subst (λ q. Has (code s) q (exit_with 1)) (sym x.at) it.failed in
-        let all = passes x.here.heap x.here.words fs x.here.f x.k x.here.chains x.here.around in
-        let risen = reaches-rise s.action s.input steps fs [] Fail w all (subst (λ z. Reaches s.action s.input steps (plug z failed) w) (sym (append-nil fs)) reached) in
-        let more = mul-le-mul_left s.factor risen.more in
-        inr
-        (quiet-stop s.base (code s) (performances s) depth (IsAt s) state (record { steps = steps; frames = fs; focus = failed; world = w })
-        (record {
-          count = 2;
-          to = before_exit s.base (code s) 1 state;
-          last = record { steps = risen.all; frames = []; focus = failed; world = w };
-          exit = 1;
-          runs = before_exit-runs s.base (code s) 1 state (omega arith) has;
-          quiet = refl;
-          output = shown;
-          exits = exit-stops s.base (code s) 1 state (omega arith) has;
-          reached = risen.reached;
-          ends = inl (refl, refl);
-          paid = omega (arith, s.ample, more);
-        }))
+        broken-goes steps fs Fail w state rank 1 (omega arith) refl (subst (λ q. Has (code s) q (exit_with 1)) (sym x.at) it.failed) shown (fail-passes x.here.heap x.here.words fs x.here.f x.k x.here.chains x.here.around) reached
+
+    escapes-goes : (steps : List Step) (fs : List Frame) (e : Data) (w : World) (state : WordState) (rank : ℕ) → state.output ≡ messages_bytes w.output → EscapesAt s steps w.cells rank state fs e → Reaches s.action s.input steps (plug fs (Ended (Esc e))) w → GoesOn s rank state (record { steps = steps; frames = fs; focus = Ended (Esc e); world = w })
+    escapes-goes steps fs e w state rank shown x reached =
+        broken-goes steps fs (Esc e) w state rank 2 (omega arith) refl (subst (λ q. Has (code s) q (exit_with 2)) (sym x.at) it.escaped) shown (escape-passes e x.here.heap x.here.words fs x.here.f x.k x.here.chains x.here.around) reached
 
     -- ---- a part has completed, by what stands around it
 
@@ -171,4 +192,5 @@ module _ (s : Setting) where
             (run-goes x (node_at s.action k) refl (it.each k rests.here.node) (it.built k rests.here.node))
         go steps fs (Ended (Done d b)) w rests shown left r = done-goes steps fs w state rank d b shown left rests r
         go steps fs (Ended Fail) w rests shown left r = fails-goes steps fs w state rank shown rests r
+        go steps fs (Ended (Esc e)) w rests shown left r = escapes-goes steps fs e w state rank shown rests r
         go steps fs _ w rests shown left r = absurd rests

@@ -14,31 +14,41 @@ use Rattle.action_terms.specs.Actions.{NumberLiteral, And, AndThen, Complete, Fa
 
 -- ---- labels
 
--- the labels of the entries, and that of the end of the code
+-- the entry for failures
 abbrev pub fail_label : ℕ
 fail_label = 0
 
-abbrev pub send_label : ℕ
-send_label = 1
+-- the entry for escapes
+abbrev pub escape_label : ℕ
+escape_label = 1
 
+-- the entry that sends
+abbrev pub send_label : ℕ
+send_label = 2
+
+-- the end of the code
 abbrev pub end_label : ℕ
-end_label = 2
+end_label = 3
 
 -- how many labels there are before those of nodes
 abbrev pub first_label : ℕ
-first_label = 3
+first_label = 4
 
--- the labels of node k, in the order in which they stand: where the part before it ends in code, where the part before it goes
--- on, where the node starts, and the place behind what it calls
+-- A node has four labels, in the order in which they stand.
+
+-- where the part before node k ends in code
 abbrev pub joint_of : ℕ → ℕ
 joint_of k = first_label + 4 * k
 
+-- where the part before node k goes on
 abbrev pub front_of : ℕ → ℕ
 front_of k = first_label + 1 + 4 * k
 
+-- where node k starts
 abbrev pub start_of : ℕ → ℕ
 start_of k = first_label + 2 + 4 * k
 
+-- the place behind what node k calls
 abbrev pub stop_of : ℕ → ℕ
 stop_of k = first_label + 3 + 4 * k
 
@@ -69,6 +79,7 @@ with_exits (Both j l r) k exits = slice_set (slice_set exits l (front_of r)) r (
 with_exits (Phases q l r) k exits = slice_set (slice_set exits l (front_of r)) r (slice_index exits k)
 with_exits _ k exits = exits
 
+-- so it is for the nodes from number k on
 abbrev pub exits_from : ℕ → Action → List ℕ → List ℕ
 exits_from k [] exits = exits
 exits_from k (n ∷ a) exits = exits_from (suc k) a (with_exits n k exits)
@@ -117,12 +128,15 @@ blocks_from k exits (n ∷ a) = block k (slice_index exits k) n ++ blocks_from (
 abbrev pub send_entry : List Inst
 send_entry = send_word 10 0 ++ Jalr 0 1 (pos 0) ∷ []
 
--- what stands behind the last of so many nodes: the exits of an action that has completed and of one that has failed, and
--- the entry that sends
+-- what stands behind the last of so many nodes: the exits of an action that has completed, of one that has failed and of one
+-- that has escaped, and the entry that sends
 abbrev pub entries : (nodes : ℕ) → List Item
 entries nodes =
     opening nodes
-    ++ (map Plain (exit_with 0) ++ (Mark fail_label ∷ (map Plain (exit_with 1) ++ (Mark send_label ∷ (map Plain send_entry ++ Mark end_label ∷ [])))))
+    ++ (map Plain (exit_with 0)
+    ++ ((Mark fail_label ∷ map Plain (exit_with 1))
+    ++ ((Mark escape_label ∷ map Plain (exit_with 2))
+    ++ (Mark send_label ∷ (map Plain send_entry ++ Mark end_label ∷ [])))))
 
 -- the code of an action: the first instructions, from which the run comes to the root, the nodes, and the entries
 abbrev pub action_items : Action → List Item

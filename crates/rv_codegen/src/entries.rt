@@ -1,11 +1,12 @@
 //! The first instructions, and the entries that stand behind the code of the nodes.
 
-ghost use Rattle.std.specs.Prelude.{◌≡◌, ◌+◌, ◌*◌, ◌<◌, ◌≤◌, [], ◌++◌, OnOk, length, map};
+ghost use Rattle.std.specs.Prelude.{◌≡◌, ◌+◌, ◌*◌, ◌<◌, ◌≤◌, [], ◌++◌, ◌∷◌, OnOk, length, map};
 ghost use Rattle.rv_code.specs.declared.instruction.Inst.TheVariants.{OpImm};
 ghost use Rattle.rv_code.specs.declared.instruction.OpImmOp.TheVariants.{Addi};
-ghost use Rattle.rv_asm.specs.declared.item.Item.TheVariants.{Plain};
-ghost use Rattle.rv_codegen.specs.Blocks.{fail_label, send_label, end_label, first_label, round_up, prelude, send_entry, opening, entries};
-ghost use Rattle.rv_codegen.specs.Marks.{AreFresh};
+ghost use Rattle.rv_asm.specs.Pieces.{exit_with};
+ghost use Rattle.rv_asm.specs.declared.item.Item.TheVariants.{Plain, Mark};
+ghost use Rattle.rv_codegen.specs.Blocks.{fail_label, escape_label, send_label, end_label, first_label, round_up, prelude, send_entry, opening, entries};
+ghost use Rattle.rv_codegen.specs.Marks.{extended, AreFresh, EntriesFresh};
 
 use crate::labels::NodeLabels;
 use acg_base::Memory;
@@ -31,9 +32,11 @@ pub(crate) const ARGUMENT: Reg = Reg(10);
 #[derive(Clone, Copy)]
 pub(crate) struct Entries {
     pub(crate) fail: Label,
+    pub(crate) escape: Label,
     pub(crate) send: Label,
     pub(crate) end: Label,
     ghost fail_is: { fail ≡ fail_label },
+    ghost escape_is: { escape ≡ escape_label },
     ghost send_is: { send ≡ send_label },
     ghost end_is: { end ≡ end_label },
 }
@@ -45,6 +48,7 @@ pub(crate) fn make_entries(asm: &mut Asm) -> Result<Entries, Memory>
 {
     Ok(Entries {
         fail: asm.label()?,
+        escape: asm.label()?,
         send: asm.label()?,
         end: asm.label()?,
     })
@@ -64,7 +68,7 @@ fn add_immediate(rd: Reg, imm: i32) -> Inst
 
 /// Appends what rounds the address of the code's end up to that of the region, and finds the stack.
 fn append_round_up(asm: &mut Asm) -> Result<(), Memory>
-    ensures { OnOk result (asm.new ≡ record asm.old { items = asm.old.items ++ map Plain round_up }) }
+    ensures { OnOk result (asm.new ≡ extended asm.old (map Plain round_up)) }
 {
     asm.emit(add_immediate(REGION, 2047))?;
     asm.emit(add_immediate(REGION, 2047))?;
@@ -106,7 +110,7 @@ pub(crate) fn append_prelude(asm: &mut Asm, entries: &Entries) -> Result<(), Mem
 
 /// Appends the entry that sends.
 fn append_send(asm: &mut Asm) -> Result<(), Memory>
-    ensures { OnOk result (asm.new ≡ record asm.old { items = asm.old.items ++ map Plain send_entry }) }
+    ensures { OnOk result (asm.new ≡ extended asm.old (map Plain send_entry)) }
 {
     send_word(asm, ARGUMENT, 0)?;
     asm.emit(Inst::Jalr {
@@ -122,11 +126,23 @@ pub(crate) fn append_opening(asm: &mut Asm, labels: NodeLabels<'_>, k: usize)
     requires within { 4 * k + 3 < length labels.row.now }
     requires made { first_label + length labels.row.now ≤ asm.old.labels }
     requires fresh { AreFresh k asm.old.items }
-    ensures { asm.new ≡ record asm.old { items = asm.old.items ++ opening k } }
+    ensures { asm.new ≡ extended asm.old (opening k) }
 {
     asm.place(labels.joint(k));
     asm.place(labels.front(k));
     asm.place(labels.start(k));
+}
+
+/// Appends an entry that ends the run with a code.
+fn append_exit(asm: &mut Asm, label: Label, code: u8) -> Result<(), Memory>
+    requires made { label < asm.old.labels }
+    requires entry { label < first_label }
+    requires fresh { EntriesFresh label asm.old.items }
+    ensures items { OnOk result (asm.new ≡ extended asm.old (Mark label ∷ map Plain (exit_with code))) }
+    ensures fresh { OnOk result (EntriesFresh (label + 1) asm.new.items) }
+{
+    asm.place(label);
+    exit_with(asm, code)
 }
 
 /// Appends what stands behind the last node, whose number is one below this.
@@ -140,12 +156,12 @@ pub(crate) fn append_entries(
     requires within { 4 * nodes + 3 < length labels.row.now }
     requires made { first_label + length labels.row.now ≤ asm.old.labels }
     requires fresh { AreFresh nodes asm.old.items }
-    ensures { OnOk result (asm.new ≡ record asm.old { items = asm.old.items ++ entries nodes }) }
+    ensures { OnOk result (asm.new ≡ extended asm.old (entries nodes)) }
 {
     append_opening(asm, labels, nodes);
     exit_with(asm, 0)?;
-    asm.place(labels_of.fail);
-    exit_with(asm, 1)?;
+    append_exit(asm, labels_of.fail, 1)?;
+    append_exit(asm, labels_of.escape, 2)?;
     asm.place(labels_of.send);
     append_send(asm)?;
     asm.place(labels_of.end);

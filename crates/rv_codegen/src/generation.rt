@@ -5,7 +5,7 @@ ghost use Rattle.rv_code.specs.Encode.{encode};
 ghost use Rattle.rv_asm.specs.Arrivals.{LabelsStand};
 ghost use Rattle.rv_asm.specs.Assembly.{total, code_of};
 ghost use Rattle.rv_codegen.specs.Blocks.{first_label, blocks_from, exits_of, action_items};
-ghost use Rattle.rv_codegen.specs.Marks.{AreFresh};
+ghost use Rattle.rv_codegen.specs.Marks.{extended, AreFresh};
 ghost use Rattle.rv_asm.specs.Conventions.{instruction_bytes};
 ghost use Rattle.action_terms.specs.Meaning.{action_of};
 ghost use Rattle.rv_codegen.specs.Works.{action_of_works, HasPartsBelow, FitsWord, unbuilt};
@@ -36,7 +36,7 @@ fn append_nodes(
     requires exits { length exits.now ≡ length works.now }
     requires exits_made { All (λ l. l < asm.old.labels) exits.now }
     requires fresh { AreFresh 0 asm.old.items }
-    ensures items { OnOk result (asm.new ≡ record asm.old { items = asm.old.items ++ blocks_from 0 exits.now (action_of_works works.now) }) }
+    ensures items { OnOk result (asm.new ≡ extended asm.old (blocks_from 0 exits.now (action_of_works works.now))) }
     ensures fresh { OnOk result (AreFresh (length works.now) asm.new.items) }
     ensures short { OnOk result (total asm.new.items ≤ total asm.old.items + 14 * length works.now) }
     ensures fits { OnOk result (All FitsWord works.now) }
@@ -62,7 +62,7 @@ fn append_action(
     requires exits { exits.now ≡ exits_of (action_of_works works.now) }
     requires exits_len { length exits.now ≡ length works.now }
     ensures items { OnOk result (asm.new.items ≡ action_items (action_of_works works.now)) }
-    ensures short { OnOk result (total asm.new.items ≤ 22 + 14 * length works.now) }
+    ensures short { OnOk result (total asm.new.items ≤ 25 + 14 * length works.now) }
     ensures fits { OnOk result (All FitsWord works.now) }
 {
     append_prelude(asm, entries)?;
@@ -76,7 +76,7 @@ fn assemble(alloc: Global, works: &[Work]) -> Result<Code, Memory>
     requires few { length works.now ≤ 65536 }
     ensures words { IfOk result (λ code. map Some code.words.items ≡ map encode (code_of (action_items (action_of_works works.now)))) }
     ensures labels { OnOk result (LabelsStand (action_items (action_of_works works.now))) }
-    ensures short { OnOk result (total (action_items (action_of_works works.now)) ≤ 22 + 14 * length works.now) }
+    ensures short { OnOk result (total (action_items (action_of_works works.now)) ≤ 25 + 14 * length works.now) }
     ensures fits { OnOk result (All FitsWord works.now) }
 {
     let mut asm = Asm::new(alloc)?;

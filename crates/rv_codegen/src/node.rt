@@ -3,7 +3,7 @@
 ghost use Rattle.std.specs.Prelude.{◌≡◌, ℕ, ◌+◌, ◌*◌, ◌/◌, ◌-◌, ◌<◌, ◌≤◌, ◌++◌, OnOk, false, length};
 ghost use Rattle.rv_asm.specs.Assembly.{total, is_placed};
 ghost use Rattle.rv_codegen.specs.Blocks.{first_label, stop_of, goes, leaves, sends, body, block};
-ghost use Rattle.rv_codegen.specs.Marks.{AreFresh, PlacesStop};
+ghost use Rattle.rv_codegen.specs.Marks.{extended, AreFresh, PlacesStop};
 ghost use Rattle.rv_codegen.specs.Works.{node_of_work, HasPartsBelow, FitsWord};
 
 use crate::entries::{ARGUMENT, Entries, RETURN, append_opening};
@@ -17,7 +17,7 @@ use rv_asm::{Asm, Label};
 #[tactic(auto, using(crate::proofs::Fresh::freshness))]
 fn append_way(asm: &mut Asm, next: Label, label: Label) -> Result<(), Memory>
     requires { label < asm.old.labels }
-    ensures items { OnOk result (asm.new ≡ record asm.old { items = asm.old.items ++ goes next label }) }
+    ensures items { OnOk result (asm.new ≡ extended asm.old (goes next label)) }
     ensures marks { OnOk result ((k : ℕ) → PlacesStop k asm.old.items asm.new.items) }
     ensures short { OnOk result (total asm.new.items ≤ total asm.old.items + 2) }
 {
@@ -39,7 +39,7 @@ fn append_sends(
     requires within { 4 * k + 3 < length labels.row.now }
     requires made { first_label + length labels.row.now ≤ asm.old.labels }
     requires stop { is_placed asm.old.items (stop_of k) ≡ false }
-    ensures items { OnOk result (asm.new ≡ record asm.old { items = asm.old.items ++ sends k word }) }
+    ensures items { OnOk result (asm.new ≡ extended asm.old (sends k word)) }
     ensures marks { OnOk result (PlacesStop k asm.old.items asm.new.items) }
     ensures short { OnOk result (total asm.new.items ≤ total asm.old.items + 12) }
 {
@@ -64,7 +64,7 @@ fn append_sending(
     requires made { first_label + length labels.row.now ≤ asm.old.labels }
     requires exit { exit < asm.old.labels }
     requires stop { is_placed asm.old.items (stop_of k) ≡ false }
-    ensures items { OnOk result (asm.new ≡ record asm.old { items = asm.old.items ++ (sends k word ++ leaves k exit) }) }
+    ensures items { OnOk result (asm.new ≡ extended asm.old (sends k word ++ leaves k exit)) }
     ensures marks { OnOk result (PlacesStop k asm.old.items asm.new.items) }
     ensures short { OnOk result (total asm.new.items ≤ total asm.old.items + 14) }
 {
@@ -88,7 +88,7 @@ fn append_body(
     requires parts { HasPartsBelow (length labels.row.now / 4 - 1) work }
     requires exit { exit < asm.old.labels }
     requires stop { is_placed asm.old.items (stop_of k) ≡ false }
-    ensures items { OnOk result (asm.new ≡ record asm.old { items = asm.old.items ++ body k exit (node_of_work work) }) }
+    ensures items { OnOk result (asm.new ≡ extended asm.old (body k exit (node_of_work work))) }
     ensures marks { OnOk result (PlacesStop k asm.old.items asm.new.items) }
     ensures short { OnOk result (total asm.new.items ≤ total asm.old.items + 14) }
     ensures fits { OnOk result (FitsWord work) }
@@ -120,7 +120,7 @@ pub(crate) fn append_node(
     requires parts { HasPartsBelow (length labels.row.now / 4 - 1) work }
     requires exit { exit < asm.old.labels }
     requires fresh { AreFresh k asm.old.items }
-    ensures items { OnOk result (asm.new ≡ record asm.old { items = asm.old.items ++ block k exit (node_of_work work) }) }
+    ensures items { OnOk result (asm.new ≡ extended asm.old (block k exit (node_of_work work))) }
     ensures fresh { OnOk result (AreFresh (k + 1) asm.new.items) }
     ensures short { OnOk result (total asm.new.items ≤ total asm.old.items + 14) }
     ensures fits { OnOk result (FitsWord work) }

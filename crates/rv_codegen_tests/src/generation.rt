@@ -1,9 +1,11 @@
 //! The code of an action with a node of each built kind, and the first node of another.
 
+use acg_base::ListSink;
 use action_terms::pushed::Pushed;
 use action_terms::{Graph, GraphBuilder, Kind, NewAction, NewYielder, YKind};
 use bumpalo::Bump;
 use rv_codegen::{first_unbuilt, generate, instructions_per_step};
+use rv_machine::{Image, Input, Machine, Run, Segment};
 use std::alloc::Global;
 use std::process::Abort;
 use std::test::Fail;
@@ -40,12 +42,12 @@ fn graph_of<'a>(
 
 // The words of (send 7 and send -1) and then (complete and fail). They are those that llvm-mc gives
 // for the first instructions, the blocks and the entries written in its notation.
-const WORDS: [u32; 34] = [
-    0x00000197, 0x08818193, 0x7ff18193, 0x7ff18193, 0x00118193, 0x00c1d193, 0x00c19193, 0x00001137,
-    0x00310133, 0x00700513, 0x00000097, 0x01008093, 0x00000f97, 0x03cf8067, 0xfff00513, 0x00000097,
-    0x01008093, 0x00000f97, 0x028f8067, 0x00000f97, 0x014f8067, 0x00000513, 0x05d00893, 0x00000073,
-    0x00100513, 0x05d00893, 0x00000073, 0x00a1b023, 0x00018593, 0x00800613, 0x04000893, 0x00100513,
-    0x00000073, 0x00008067,
+const WORDS: [u32; 37] = [
+    0x00000197, 0x09418193, 0x7ff18193, 0x7ff18193, 0x00118193, 0x00c1d193, 0x00c19193, 0x00001137,
+    0x00310133, 0x00700513, 0x00000097, 0x01008093, 0x00000f97, 0x048f8067, 0xfff00513, 0x00000097,
+    0x01008093, 0x00000f97, 0x034f8067, 0x00000f97, 0x014f8067, 0x00000513, 0x05d00893, 0x00000073,
+    0x00100513, 0x05d00893, 0x00000073, 0x00200513, 0x05d00893, 0x00000073, 0x00a1b023, 0x00018593,
+    0x00800613, 0x04000893, 0x00100513, 0x00000073, 0x00008067,
 ];
 
 #[test]
@@ -78,7 +80,7 @@ fn count_words(rt: &impl Abort, alloc: Global, nodes: &[Pushed<'_>]) -> Result<u
     Ok(code.words.len())
 }
 
-// A chain of three sends has 9 words before it and 13 behind it. A send of a small number has one word for the
+// A chain of three sends has 9 words before it and 16 behind it. A send of a small number has one word for the
 // number, two for the address to return to and two for the jump to the entry, and no jump stands between the parts,
 // however they are grouped.
 #[test]
@@ -95,7 +97,7 @@ fn no_jump_between_sends(rt: HostRuntime) -> Result<(), Fail> {
     ];
     assert_eq!(rt;
         count_words(&rt, rt.alloc(), &to_the_right)?,
-        9 + 3 * (1 + 2 + 2) + 13
+        9 + 3 * (1 + 2 + 2) + 16
     );
 
     let to_the_left = [
@@ -110,8 +112,65 @@ fn no_jump_between_sends(rt: HostRuntime) -> Result<(), Fail> {
     ];
     assert_eq!(rt;
         count_words(&rt, rt.alloc(), &to_the_left)?,
-        9 + 3 * (1 + 2 + 2) + 13
+        9 + 3 * (1 + 2 + 2) + 16
     );
+    Ok(())
+}
+
+// The image of code, in a region for one word of the stack and one unit.
+fn image_of(rt: &impl Abort, alloc: Global, words: &[u32]) -> Result<Image, Fail> {
+    let mut bytes = Vec::new(alloc);
+    for word in words {
+        bytes.extend_from_slice(&word.to_le_bytes())?;
+    }
+    let size = bytes.len() as u64;
+    assert!(rt; size <= 4096);
+    let mut segments = Vec::new(alloc);
+    segments.push(Segment {
+        address: 65536,
+        flags: 1,
+        bytes,
+        size,
+    })?;
+    segments.push(Segment {
+        address: 69632,
+        flags: 6,
+        bytes: Vec::new(alloc),
+        size: 4096 + 8 + 16,
+    })?;
+    Ok(Image {
+        entry: 65536,
+        segments,
+    })
+}
+
+// send 1 and then (send 2 and then send 3), performed: 9 instructions come to the root. A send takes one for the
+// number, two for the address to return to, two for the jump to the entry and seven there. An exit takes two, and
+// a third that doesn't return. Nothing is done between the sends.
+#[test]
+fn instructions_of_three_sends(rt: HostRuntime) -> Result<(), Fail> {
+    let arena = Bump::new(rt.alloc());
+    let nodes = [
+        action(Kind::AndThen),
+        action(Kind::Send),
+        yielder(YKind::Number(1)),
+        action(Kind::AndThen),
+        action(Kind::Send),
+        yielder(YKind::Number(2)),
+        action(Kind::Send),
+        yielder(YKind::Number(3)),
+    ];
+    let graph = graph_of(&rt, rt.alloc(), &arena, &nodes)?;
+    assert!(rt; first_unbuilt(&graph).is_none());
+    let code = generate(rt.alloc(), &graph)?;
+    let image = image_of(&rt, rt.alloc(), code.words.as_slice())?;
+    let mut machine = Machine::load(rt.alloc(), image).ok().ok_or("memory")?;
+    let mut input = Input { bytes: b"", at: 0 };
+    let mut sink = ListSink::new(rt.alloc(), 24, Vec::new(rt.alloc()))
+        .ok()
+        .ok_or("memory")?;
+    assert_eq!(rt; machine.run(1000, &mut input, &mut sink), Run::Exited { code: 0 });
+    assert_eq!(rt; machine.taken(), 9 + 3 * (1 + 2 + 2 + 7) + 2);
     Ok(())
 }
 

@@ -14,4 +14,4 @@ returns-clause-labels c = subst (λ items. OnOk c.finish.result (LabelsStand ite
 
 pub returns-clause-short : goal.returns-clause-short
 returns-clause-short c =
-    OnOk-always _ c.finish.result (subst (λ items. total items ≤ 22 + 14 * length c.args.works.now) c.in_ok-append_action.ensures.items c.in_ok-append_action.ensures.short)
+    OnOk-always _ c.finish.result (subst (λ items. total items ≤ 25 + 14 * length c.args.works.now) c.in_ok-append_action.ensures.items c.in_ok-append_action.ensures.short)
