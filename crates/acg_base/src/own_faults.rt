@@ -18,6 +18,7 @@ struct WornStore {
 impl Store for WornStore {
     ghost use Rattle.std.specs.Prelude.{[], true, false, Some, None, if◌then◌else◌};
     ghost use Rattle.std.specs.Str.{bytes_eq};
+    ghost use Rattle.std.proofs.Common.{rules};
 
     ghost contents = { λ store name. if bytes_eq name store.name then Some store.content.items else None };
 
@@ -52,7 +53,7 @@ impl Store for WornStore {
         Err(StoreError::Failed)
     }
 
-    ghost sure_tells = { λ _ sure. sure };
+    ghost sure_tells = { λ _ _. Prim.search rules };
 
     ghost sure_logs = { λ _ sure. sure };
 }
