@@ -8,3 +8,4 @@ pub mod RunsLemmas
 pub mod SentLaws
 pub mod SilentLaws
 pub mod StepsLemmas
+pub mod TableLaws

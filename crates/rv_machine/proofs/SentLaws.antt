@@ -42,10 +42,10 @@ first-true : (a b : Bool) → (a && b) ≡ true → a ≡ true
 first-true true b h = refl
 first-true false b h = h
 
-put_at-length : (xs bs : List ℕ) (i : ℕ) → i + length bs ≤ length xs → length (put_at xs i bs) ≡ length xs
+pub put_at-length : (xs bs : List ℕ) (i : ℕ) → i + length bs ≤ length xs → length (put_at xs i bs) ≡ length xs
 put_at-length xs bs i h = simp (length-append, length-take, length-drop) (omega arith)
 
-holds-flag : (flag address size : ℕ) (s : Segment) → holds flag address size s ≡ true → has_flag s.flags flag ≡ true
+pub holds-flag : (flag address size : ℕ) (s : Segment) → holds flag address size s ≡ true → has_flag s.flags flag ≡ true
 holds-flag flag address size s h = first-true (has_flag s.flags flag) _ h
 
 written-within : (n : ℕ) (segments : List Segment) (address size i : ℕ) (bytes : List ℕ) → Within n segments →

@@ -1,3 +1,5 @@
 pub mod Machines
 pub mod Effects
 pub mod Stepping
+pub mod Memory
+pub mod Kept

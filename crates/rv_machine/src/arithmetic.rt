@@ -2,6 +2,7 @@
 
 ghost use Rattle.std.specs.Prelude.{◌≡◌, ◌<◌, ◌≤◌, ◌^◌, ◌+◌, ◌-◌, ◌*◌, nat_lt, if◌then◌else◌};
 ghost use Rattle.rv_code.specs.Arithmetic.{wrap, operation, immediate_operation, shift_operation, is_taken, upper_value, signed_word, word, unsigned, load_size, extended, store_size};
+ghost use Rattle.rv_machine.specs.Memory.{IsSize};
 
 use rv_code::{BranchOp, LoadOp, OpImmOp, OpOp, ShiftOp, StoreOp, UpperOp};
 
@@ -127,6 +128,7 @@ fn remuw(a: u64, b: u64) -> u64
 }
 
 /// What an operation on two registers gives.
+#[inline(always)]
 pub(crate) fn operation(op: OpOp, a: u64, b: u64) -> u64
     ensures { result ≡ operation op a b }
 {
@@ -163,6 +165,7 @@ pub(crate) fn operation(op: OpOp, a: u64, b: u64) -> u64
 }
 
 /// What an operation on a register and an immediate gives.
+#[inline(always)]
 pub(crate) fn immediate_operation(op: OpImmOp, a: u64, immediate: i32) -> u64
     ensures { result ≡ immediate_operation op a immediate }
 {
@@ -179,6 +182,7 @@ pub(crate) fn immediate_operation(op: OpImmOp, a: u64, immediate: i32) -> u64
 }
 
 /// What a shift by a constant amount gives.
+#[inline(always)]
 pub(crate) fn shift_operation(op: ShiftOp, a: u64, amount: u8) -> u64
     requires { amount < 64 }
     ensures { result ≡ shift_operation op a amount }
@@ -194,6 +198,7 @@ pub(crate) fn shift_operation(op: ShiftOp, a: u64, amount: u8) -> u64
 }
 
 /// Whether a branch is taken.
+#[inline(always)]
 pub(crate) fn is_taken(op: BranchOp, a: u64, b: u64) -> bool
     ensures { result ≡ is_taken op a b }
 {
@@ -208,6 +213,7 @@ pub(crate) fn is_taken(op: BranchOp, a: u64, b: u64) -> bool
 }
 
 /// What an instruction with an upper immediate gives.
+#[inline(always)]
 pub(crate) fn upper_value(op: UpperOp, pc: u64, immediate: i32) -> u64
     ensures { result ≡ upper_value op pc immediate }
 {
@@ -231,6 +237,7 @@ fn sign_extended(number: u64, sign: u64) -> u64
 }
 
 /// What a load makes of the number that its bytes spell.
+#[inline(always)]
 pub(crate) fn extended(op: LoadOp, number: u64) -> u64
     requires { number < 2 ^ (8 * load_size op) }
     ensures { result ≡ extended op number }
@@ -244,9 +251,10 @@ pub(crate) fn extended(op: LoadOp, number: u64) -> u64
 }
 
 /// How many bytes a load reads.
+#[inline(always)]
 pub(crate) fn load_size(op: LoadOp) -> u64
-    ensures size { result ≡ load_size op }
-    ensures range { (0 < result) × (result ≤ 8) }
+    ensures is { result ≡ load_size op }
+    ensures size { IsSize result }
 {
     match op {
         LoadOp::Lb | LoadOp::Lbu => 1,
@@ -257,9 +265,10 @@ pub(crate) fn load_size(op: LoadOp) -> u64
 }
 
 /// How many bytes a store writes.
+#[inline(always)]
 pub(crate) fn store_size(op: StoreOp) -> u64
-    ensures size { result ≡ store_size op }
-    ensures range { (0 < result) × (result ≤ 8) }
+    ensures is { result ≡ store_size op }
+    ensures size { IsSize result }
 {
     match op {
         StoreOp::Sb => 1,
@@ -270,6 +279,7 @@ pub(crate) fn store_size(op: StoreOp) -> u64
 }
 
 /// The address at an offset from another.
+#[inline(always)]
 pub(crate) fn offset(address: u64, immediate: i32) -> u64
     ensures { result ≡ wrap (address + unsigned immediate) }
 {

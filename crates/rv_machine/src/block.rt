@@ -2,15 +2,17 @@
 
 ghost use Rattle.std.specs.Prelude.{◌≡◌, ◌+◌, ◌-◌, ◌*◌, ◌^◌, ◌<◌, ◌≤◌, Some, None, IfSome, IfNone, IfOk, min, All, length, map, take, drop, option_map};
 ghost use Rattle.rv_code.specs.Bytes.{number_of, bytes_of, put_at};
-ghost use Rattle.rv_code.specs.Machine.{holds, holder, read_bytes, written_in, write_bytes};
+ghost use Rattle.rv_code.specs.Machine.{has_flag, holds, holder, read_bytes, written_in, write_bytes};
 ghost use Rattle.std.specs.Bool.{OnTrue, OnFalse};
 ghost use Rattle.rv_code.specs.Machine.{Segment as SegmentValue};
 ghost use Rattle.rv_code.specs.Images.{filled};
 ghost use Rattle.rv_machine.specs.Machines.{left};
+ghost use Rattle.rv_machine.specs.Memory.{IsSize, IsFixed};
 
 use crate::image::Segment;
 use crate::input::Input;
 use acg_base::Memory;
+use rv_code::{Inst, decode};
 use std::alloc::Global;
 use std::marker::Model;
 
@@ -32,6 +34,7 @@ impl Model for Block {
 
 impl Block {
     // Whether the block has the flag, and the bytes from an address on.
+    #[inline(always)]
     fn holds(&self, flag: u32, address: u64, size: u64) -> bool
         requires { 0 < flag }
         ensures { result ≡ holds flag address size self.now }
@@ -43,7 +46,15 @@ impl Block {
             && address - self.address <= length - size
     }
 
+    // Whether the block has the flag W.
+    fn is_writable(&self) -> bool
+        ensures { result ≡ has_flag self.now.flags 2 }
+    {
+        self.flags / 2 % 2 == 1
+    }
+
     // Lends the bytes from an address on.
+    #[inline(always)]
     fn bytes_at(&self, address: u64, size: u64) -> &[u8]
         requires low { self.now.address ≤ address }
         requires high { address + size ≤ self.now.address + length self.now.bytes }
@@ -56,7 +67,9 @@ impl Block {
     }
 
     // Writes the bytes that spell a number from an address on.
+    #[inline(always)]
     fn write_number(&mut self, address: u64, size: u64, number: u64)
+        requires size { IsSize size }
         requires low { self.old.address ≤ address }
         requires high { address + size ≤ self.old.address + length self.old.bytes }
         ensures { self.new ≡ record self.old { bytes = put_at self.old.bytes (address - self.old.address) (bytes_of size number) } }
@@ -108,16 +121,22 @@ pub(crate) fn filled_all(alloc: Global, segments: Vec<Segment>) -> Result<Vec<Bl
     Ok(blocks)
 }
 
-// The number that at most eight bytes spell, the lowest first.
-#[tactic(auto, unfolding(rv_code::specs::Bytes::number_of))]
+// The number that one, two, four or eight bytes spell, the lowest first.
+#[tactic(auto, using(crate::proofs::NumbersLemmas::numbers))]
+#[inline(always)]
 fn number(bytes: &[u8]) -> u64
-    requires { length bytes.now ≤ 8 }
+    requires { IsSize (length bytes.now) }
     ensures is { result ≡ number_of bytes.now }
     ensures small { result < 2 ^ (8 * length bytes.now) }
 {
-    match bytes.split_first() {
-        None => 0,
-        Some((first, rest)) => u64::from(*first) + 256 * number(rest),
+    match bytes {
+        [b0, b1, b2, b3, b4, b5, b6, b7] => {
+            u64::from_le_bytes([*b0, *b1, *b2, *b3, *b4, *b5, *b6, *b7])
+        }
+        [b0, b1, b2, b3] => u64::from(u32::from_le_bytes([*b0, *b1, *b2, *b3])),
+        [b0, b1] => u64::from(u16::from_le_bytes([*b0, *b1])),
+        [b0] => u64::from(*b0),
+        _ => unreachable!(),
     }
 }
 
@@ -133,17 +152,25 @@ fn word(bytes: &[u8]) -> u32
         + 0x100_0000 * u32::from(bytes[3])
 }
 
-// Writes the bytes of a number, the lowest first.
-fn spell(out: &mut [u8], mut number: u64)
+// Writes the one, two, four or eight bytes of a number, the lowest first.
+#[inline(always)]
+fn spell(out: &mut [u8], number: u64)
+    requires { IsSize (length out.old) }
     ensures { out.new ≡ bytes_of (length out.old) number }
 {
-    for byte in out.iter_mut() {
-        *byte = (number % 256) as u8;
-        number /= 256;
+    if out.len() == 8 {
+        out.copy_from_slice(&number.to_le_bytes());
+    } else if out.len() == 4 {
+        out.copy_from_slice(&((number % 0x1_0000_0000) as u32).to_le_bytes());
+    } else if out.len() == 2 {
+        out.copy_from_slice(&((number % 0x1_0000) as u16).to_le_bytes());
+    } else {
+        out[0] = (number % 0x100) as u8;
     }
 }
 
 /// The number of the first block that has the flag, and the bytes from an address on.
+#[inline(always)]
 pub(crate) fn find(blocks: &[Block], flag: u32, address: u64, size: u64) -> Option<usize>
     requires { 0 < flag }
     ensures is { result ≡ holder blocks.now flag address size }
@@ -155,6 +182,7 @@ pub(crate) fn find(blocks: &[Block], flag: u32, address: u64, size: u64) -> Opti
 }
 
 /// Lends the bytes from an address on, where they lie in one block with the flag.
+#[inline(always)]
 pub(crate) fn bytes_at(blocks: &[Block], flag: u32, address: u64, size: u64) -> Option<&[u8]>
     requires { 0 < flag }
     ensures bytes { option_map (λ bytes. bytes.now) result ≡ read_bytes blocks.now flag address size }
@@ -165,8 +193,9 @@ pub(crate) fn bytes_at(blocks: &[Block], flag: u32, address: u64, size: u64) -> 
 }
 
 /// The number that the bytes from an address on spell, where they lie in one block with the flag R.
+#[inline(always)]
 pub(crate) fn read_number(blocks: &[Block], address: u64, size: u64) -> Option<u64>
-    requires { size ≤ 8 }
+    requires { IsSize size }
     ensures number { result ≡ option_map number_of (read_bytes blocks.now 4 address size) }
     ensures small { IfSome result (λ number. number < 2 ^ (8 * size)) }
 {
@@ -187,7 +216,9 @@ pub(crate) fn read_word(blocks: &[Block], address: u64) -> Option<u32>
 }
 
 /// Writes the bytes that spell a number from an address on. False where they don't lie in one block with the flag W.
+#[inline(always)]
 pub(crate) fn write_number(blocks: &mut [Block], address: u64, size: u64, number: u64) -> bool
+    requires { IsSize size }
     ensures written { OnTrue result (write_bytes blocks.old address (bytes_of size number) ≡ Some blocks.new) }
     ensures missing { OnFalse result (write_bytes blocks.old address (bytes_of size number) ≡ None) }
     ensures stays { OnFalse result (blocks.new ≡ blocks.old) }
@@ -198,6 +229,37 @@ pub(crate) fn write_number(blocks: &mut [Block], address: u64, size: u64, number
             blocks[index].write_number(address, size, number);
             true
         }
+    }
+}
+
+/// The same as `read_number`, by code of its own for each size.
+#[inline(always)]
+pub(crate) fn read_sized(blocks: &[Block], address: u64, size: u64) -> Option<u64>
+    requires { IsSize size }
+    ensures number { result ≡ option_map number_of (read_bytes blocks.now 4 address size) }
+    ensures small { IfSome result (λ number. number < 2 ^ (8 * size)) }
+{
+    match size {
+        8 => read_number(blocks, address, 8),
+        4 => read_number(blocks, address, 4),
+        2 => read_number(blocks, address, 2),
+        _ => read_number(blocks, address, 1),
+    }
+}
+
+/// The same as `write_number`, by code of its own for each size.
+#[inline(always)]
+pub(crate) fn write_sized(blocks: &mut [Block], address: u64, size: u64, number: u64) -> bool
+    requires { IsSize size }
+    ensures written { OnTrue result (write_bytes blocks.old address (bytes_of size number) ≡ Some blocks.new) }
+    ensures missing { OnFalse result (write_bytes blocks.old address (bytes_of size number) ≡ None) }
+    ensures stays { OnFalse result (blocks.new ≡ blocks.old) }
+{
+    match size {
+        8 => write_number(blocks, address, 8, number),
+        4 => write_number(blocks, address, 4, number),
+        2 => write_number(blocks, address, 2, number),
+        _ => write_number(blocks, address, 1, number),
     }
 }
 
@@ -224,4 +286,26 @@ pub(crate) fn receive(
             Some(count)
         }
     }
+}
+
+/// The instruction at an address, where its 4 bytes lie in one block with the flag X that can't be written.
+pub(crate) fn fixed(blocks: &[Block], address: u64) -> Option<Option<Inst>>
+    ensures { IfSome result (λ entry. IsFixed blocks.now address entry) }
+{
+    let index = find(blocks, 1, address, 4)?;
+    let block = &blocks[index];
+    if block.is_writable() {
+        return None;
+    }
+    Some(decode(word(block.bytes_at(address, 4))))
+}
+
+/// The address of the first block with the flag X, and how many words it has.
+pub(crate) fn code_place(blocks: &[Block]) -> (u64, u64) {
+    for block in blocks {
+        if block.flags % 2 == 1 {
+            return (block.address, block.bytes.len() as u64 / 4);
+        }
+    }
+    (0, 0)
 }

@@ -8,6 +8,7 @@ mod image;
 mod input;
 mod machine;
 mod registers;
+mod table;
 
 pub use answers::{Quiet, QuietEnd, Run, Step};
 pub use image::{Image, Segment};

@@ -4,7 +4,7 @@ use crate::answers::{Quiet, QuietEnd, Run, Step, Turn};
 use crate::block::Block;
 use crate::image::Image;
 use crate::input::Input;
-use crate::{arithmetic, block, registers};
+use crate::{arithmetic, block, registers, table};
 use acg_base::{Memory, Sink, SinkError};
 use rv_code::{BranchOp, Cause, Inst, LoadOp, Reg, StoreOp, decode};
 use std::alloc::Global;
@@ -19,6 +19,10 @@ pub struct Machine {
     registers: [u64; 32],
     blocks: Vec<Block>,
     taken: u64,
+    // The instructions of the words from an address on, decoded once: of the first segment with the flag X, where it can't
+    // be written.
+    code: Vec<Option<Inst>>,
+    code_address: u64,
 }
 
 impl Model for Machine {
@@ -32,19 +36,25 @@ impl Model for Machine {
       segments = machine.blocks.items;
       taken = machine.taken;
     } };
+
+    ghost use Rattle.rv_machine.specs.Kept.{IsKept};
+
+    ghost invariant = { λ machine. IsKept machine.registers machine.blocks.items
+        machine.code_address machine.code.items };
 }
 
 impl Machine {
-    ghost use Rattle.std.specs.Prelude.{◌≡◌, ◌≢◌, ℕ, ◌+◌, ◌-◌, ◌%◌, ◌≤◌, ◌&&◌, min, nat_eq, if◌then◌else◌, IfSome, IfNone, option_map, take, length, IfOk, IfErr, OnOk, OnErr, List, [], Some, None};
+    ghost use Rattle.std.specs.Prelude.{◌≡◌, ◌≢◌, ℕ, ◌+◌, ◌-◌, ◌*◌, ◌%◌, ◌^◌, ◌<◌, ◌≤◌, ◌&&◌, min, nat_eq, if◌then◌else◌, IfSome, IfNone, option_map, take, length, IfOk, IfErr, OnOk, OnErr, List, [], Some, None};
     ghost use Rattle.std.specs.Bool.{OnTrue, OnFalse};
     ghost use Rattle.acg_base.specs.Outside.{counted};
     ghost use Rattle.rv_code.specs.Arithmetic.{wrap, unsigned, load_size, extended, store_size};
-    ghost use Rattle.rv_code.specs.Bytes.{bytes_of};
+    ghost use Rattle.rv_code.specs.Bytes.{number_of, bytes_of};
     ghost use Rattle.rv_code.specs.Machine.{register, with_register, read_bytes, write_bytes, written_in, holder, jumps, loads, stores, execute, step, Ran, Trapped};
     ghost use Rattle.rv_code.specs.Images.{started};
     ghost use Rattle.rv_code.specs.declared.cause.Cause.{Cause as CauseValue};
     ghost use Rattle.rv_machine.specs.Machines.{left, state_of, loaded_machine, sent, Steps, StepTraps};
     ghost use Rattle.rv_machine.specs.Effects.{Does, Fetches, AtCall, AtReceive, AtSend, IsSend, AmountFits, Turns};
+    ghost use Rattle.rv_machine.specs.Memory.{IsSize};
     ghost use Rattle.rv_machine.specs.Stepping.{Stepped, RanWithin, RanQuietly, PassedOver};
 
     /// The machine before the first instruction of an image. Takes all memory of the run.
@@ -53,11 +63,14 @@ impl Machine {
         ensures started { IfOk result (λ machine. (input : List ℕ) → state_of machine input [] ≡ started image input) }
     {
         let blocks = block::filled_all(alloc, image.segments)?;
+        let (code_address, code) = table::decoded(alloc, blocks.as_slice());
         Ok(Machine {
             pc: image.entry,
             registers: [0; 32],
             blocks,
             taken: 0,
+            code,
+            code_address,
         })
     }
 
@@ -68,6 +81,7 @@ impl Machine {
         self.taken
     }
 
+    #[inline(always)]
     fn register(&self, number: Reg) -> u64
         ensures { result ≡ register self.now.registers number }
     {
@@ -75,6 +89,7 @@ impl Machine {
     }
 
     // The address at an offset from what a register holds.
+    #[inline(always)]
     fn address(&self, base: Reg, imm: i32) -> u64
         ensures { result ≡ wrap (register self.now.registers base + unsigned imm) }
     {
@@ -82,6 +97,7 @@ impl Machine {
     }
 
     // Goes on behind the instruction.
+    #[inline(always)]
     fn go_on(&mut self)
         ensures { self.new ≡ record self.old { pc = wrap (self.old.pc + 4) } }
     {
@@ -89,6 +105,7 @@ impl Machine {
     }
 
     // Goes on behind the instruction, with a register set.
+    #[inline(always)]
     fn set(&mut self, rd: Reg, value: u64)
         ensures { self.new ≡ record self.old {
           pc = wrap (self.old.pc + 4);
@@ -100,6 +117,7 @@ impl Machine {
     }
 
     // Goes to a target, with a register set to the address behind the instruction.
+    #[inline(always)]
     fn jump(&mut self, rd: Reg, target: u64) -> Result<(), Cause>
         ensures { Does result self.old self.new (λ s. jumps s rd target) }
     {
@@ -112,6 +130,31 @@ impl Machine {
         Ok(())
     }
 
+    // The number that the bytes from an address on spell, where they can be read.
+    #[inline(always)]
+    fn number_at(&self, address: u64, size: u64) -> Option<u64>
+        requires { IsSize size }
+        ensures number { result ≡ option_map number_of (read_bytes self.now.segments 4 address size) }
+        ensures small { IfSome result (λ number. number < 2 ^ (8 * size)) }
+    {
+        block::read_sized(self.blocks.as_slice(), address, size)
+    }
+
+    // Writes the bytes that spell a number from an address on. False where they can't be written.
+    #[inline(always)]
+    fn write_number(&mut self, address: u64, size: u64, number: u64) -> bool
+        requires { IsSize size }
+        ensures written { OnTrue result
+            (write_bytes self.old.segments address (bytes_of size number) ≡ Some self.new.segments) }
+        ensures others { self.new ≡ record self.old { segments = self.new.segments } }
+        ensures missing { OnFalse result
+            (write_bytes self.old.segments address (bytes_of size number) ≡ None) }
+        ensures stays { OnFalse result (self.new ≡ self.old) }
+    {
+        block::write_sized(self.blocks.as_mut_slice(), address, size, number)
+    }
+
+    #[inline(always)]
     fn load_at(&mut self, op: LoadOp, rd: Reg, address: u64) -> Result<(), Cause>
         ensures { Does result self.old self.new (λ s. if nat_eq (address % load_size op) 0
             then loads s rd (extended op) (read_bytes s.segments 4 address (load_size op)) else Trapped CauseValue.Load) }
@@ -120,7 +163,7 @@ impl Machine {
         if address % size != 0 {
             return Err(Cause::Load);
         }
-        match block::read_number(self.blocks.as_slice(), address, size) {
+        match self.number_at(address, size) {
             None => Err(Cause::Load),
             Some(number) => {
                 self.set(rd, arithmetic::extended(op, number));
@@ -129,6 +172,7 @@ impl Machine {
         }
     }
 
+    #[inline(always)]
     fn store_at(&mut self, op: StoreOp, address: u64, value: u64) -> Result<(), Cause>
         ensures { Does result self.old self.new (λ s. if nat_eq (address % store_size op) 0
             then stores s (write_bytes s.segments address (bytes_of (store_size op) value)) else Trapped CauseValue.Store) }
@@ -137,16 +181,17 @@ impl Machine {
         if address % size != 0 {
             return Err(Cause::Store);
         }
-        if !block::write_number(self.blocks.as_mut_slice(), address, size, value) {
+        if !self.write_number(address, size, value) {
             return Err(Cause::Store);
         }
         self.pc = self.pc.wrapping_add(4);
         Ok(())
     }
 
-    // The instruction at the pc.
+    // The instruction at the pc, decoded from its word.
     #[tactic(auto, unfolding(rv_code::specs::Machine::step))]
-    fn fetch(&self) -> Result<Inst, Cause>
+    #[inline(never)]
+    fn decode_next(&self) -> Result<Inst, Cause>
         ensures next { Fetches result self.now }
         ensures amount { IfOk result (λ inst. AmountFits inst) }
     {
@@ -162,7 +207,23 @@ impl Machine {
         }
     }
 
+    // The instruction at the pc.
+    #[inline(always)]
+    fn fetch(&self) -> Result<Inst, Cause>
+        ensures next { Fetches result self.now }
+        ensures amount { IfOk result (λ inst. AmountFits inst) }
+    {
+        match table::place(self.pc, self.code_address, self.code.len()) {
+            None => self.decode_next(),
+            Some(place) => match self.code[place] {
+                None => Err(Cause::Undefined),
+                Some(inst) => Ok(inst),
+            },
+        }
+    }
+
     // Does a branch.
+    #[inline(always)]
     fn branch(&mut self, op: BranchOp, rs1: Reg, rs2: Reg, imm: i32) -> Result<(), Cause>
         ensures { Does result self.old self.new (λ s. execute (Inst.Branch op rs1 rs2 imm) s) }
     {
@@ -176,6 +237,7 @@ impl Machine {
     }
 
     // Does an instruction that isn't a call: `call` does those.
+    #[inline(always)]
     fn execute(&mut self, inst: Inst) -> Result<(), Cause>
         requires plain { inst ≢ Inst.Ecall }
         requires amount { AmountFits inst }
@@ -300,6 +362,7 @@ impl Machine {
     }
 
     // Does one instruction that sends nothing, and doesn't count it.
+    #[inline(always)]
     fn turn(&mut self, input: &mut Input<'_>) -> Turn
         ensures { Turns result self.old input.old self.new input.new }
     {
