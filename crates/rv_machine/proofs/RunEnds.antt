@@ -28,9 +28,9 @@ module _ {K : Type 0} (written : K → List ℕ) (faults : K → ℕ) (tells : K
     wrote = λ _. rw (sent_in-none old (left input)) (sym (append-nil (written out)));
   }
 
-module _ {K : Type 0} (written : K → List ℕ) (faults : K → ℕ) (tells : K → Bool) (n : ℕ) (old : MachineValue) (input : InputValue) (out : K) (m : MachineValue) (i : InputValue) (k : K) (before : RanSo written faults tells n old input out m i k) where
+module _ {K : Type 0} (written : K → List ℕ) (faults writes : K → ℕ) (tells last_failed : K → Bool) (n : ℕ) (old : MachineValue) (input : InputValue) (out : K) (m : MachineValue) (i : InputValue) (k : K) (before : RanSo written faults tells n old input out m i k) where
   -- one more instruction
-  pub goes-on : (new : MachineValue) (rest : InputValue) (gained : K) → Stepped written faults tells step.Ran m i k new rest gained →
+  pub goes-on : (new : MachineValue) (rest : InputValue) (gained : K) → Stepped written faults writes tells last_failed step.Ran m i k new rest gained →
       RanSo written faults tells (n + 1) old input out new rest gained
   goes-on new rest gained h =
       let steps = h.ran refl in
@@ -51,7 +51,7 @@ module _ {K : Type 0} (written : K → List ℕ) (faults : K → ℕ) (tells : K
       }
 
   -- all instructions ran
-  pub ends-all : RanWithin written faults tells n run.Budget old input out m i k
+  pub ends-all : RanWithin written faults writes tells last_failed n run.Budget old input out m i k
   ends-all = record {
     all = λ _. (before.runs, before.counted);
     fewer = λ h. absurd (h refl);
@@ -61,7 +61,7 @@ module _ {K : Type 0} (written : K → List ℕ) (faults : K → ℕ) (tells : K
     bytes = before.bytes;
     told = λ _ told. before.wrote told;
     part = λ e. absurd (cc);
-    rose = λ e. absurd (cc);
+    failed = λ e. absurd (cc);
     still = λ _. before.still;
     counts = omega (arith, before.still);
     tells_still = before.telling;
@@ -69,8 +69,8 @@ module _ {K : Type 0} (written : K → List ℕ) (faults : K → ℕ) (tells : K
 
   -- the next instruction exits
   pub ends-exit : (most code : ℕ) (new : MachineValue) (rest : InputValue) (gained : K) → n < most →
-      Stepped written faults tells (step.Exited code) m i k new rest gained →
-      RanWithin written faults tells most (run.Exited code) old input out new rest gained
+      Stepped written faults writes tells last_failed (step.Exited code) m i k new rest gained →
+      RanWithin written faults writes tells last_failed most (run.Exited code) old input out new rest gained
   ends-exit most code new rest gained h s =
       let stays = s.stays (λ e. cc) in
       let exits = s.exited code refl in
@@ -86,7 +86,7 @@ module _ {K : Type 0} (written : K → List ℕ) (faults : K → ℕ) (tells : K
         bytes = before.bytes;
         told = λ _ told. rw (sent_in-exit n most old (left input) m (left i) code before.runs exits h) (before.wrote told);
         part = λ e. absurd (cc);
-        rose = λ e. absurd (cc);
+        failed = λ e. absurd (cc);
         still = λ _. before.still;
         counts = omega (arith, before.still);
         tells_still = before.telling;
@@ -94,8 +94,8 @@ module _ {K : Type 0} (written : K → List ℕ) (faults : K → ℕ) (tells : K
 
   -- the next instruction traps
   pub ends-trap : (most : ℕ) (cause : Cause) (pc : ℕ) (new : MachineValue) (rest : InputValue) (gained : K) → n < most →
-      Stepped written faults tells (step.Trapped cause pc) m i k new rest gained →
-      RanWithin written faults tells most (run.Trapped cause pc) old input out new rest gained
+      Stepped written faults writes tells last_failed (step.Trapped cause pc) m i k new rest gained →
+      RanWithin written faults writes tells last_failed most (run.Trapped cause pc) old input out new rest gained
   ends-trap most cause pc new rest gained h s =
       let stays = s.stays (λ e. cc) in
       let traps = s.trapped cause pc refl in
@@ -111,7 +111,7 @@ module _ {K : Type 0} (written : K → List ℕ) (faults : K → ℕ) (tells : K
         bytes = before.bytes;
         told = λ _ told. rw (sent_in-trap n most old (left input) m (left i) cause before.runs traps.0 h) (before.wrote told);
         part = λ e. absurd (cc);
-        rose = λ e. absurd (cc);
+        failed = λ e. absurd (cc);
         still = λ _. before.still;
         counts = omega (arith, before.still);
         tells_still = before.telling;
@@ -119,8 +119,8 @@ module _ {K : Type 0} (written : K → List ℕ) (faults : K → ℕ) (tells : K
 
   -- the sink fails at the next instruction
   pub ends-fault : (most : ℕ) (new : MachineValue) (rest : InputValue) (gained : K) → n < most →
-      Stepped written faults tells step.SinkFault m i k new rest gained →
-      RanWithin written faults tells most run.SinkFault old input out new rest gained
+      Stepped written faults writes tells last_failed step.SinkFault m i k new rest gained →
+      RanWithin written faults writes tells last_failed most run.SinkFault old input out new rest gained
   ends-fault most new rest gained h s =
       let stays = s.stays (λ e. cc) in
       let fault = s.fault refl in
@@ -135,7 +135,7 @@ module _ {K : Type 0} (written : K → List ℕ) (faults : K → ℕ) (tells : K
         told = λ e. absurd (e refl);
         part = λ _ told.
             (n, (h, (before.runs, (before.counted, rw (← before.wrote told) (s.part refl (rw before.telling told))))));
-        rose = λ _. rw (← before.still) (s.rose refl);
+        failed = λ _. rw (← before.still) (s.failed refl);
         still = λ e. absurd (e refl);
         counts = omega (arith, before.still, s.counts);
         tells_still = s.tells_still ∙ before.telling;

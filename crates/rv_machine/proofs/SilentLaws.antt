@@ -10,7 +10,7 @@ use Rattle.rv_code.specs.declared.cause.Cause.{Cause}
 use Rattle.rv_code.specs.declared.cause.Cause.TheVariants.{Call as CauseCall}
 use Rattle.rv_code.specs.declared.instruction.Inst.{Inst}
 use Rattle.rv_code.specs.declared.instruction.Inst.TheVariants.{Op, OpImm, Shift, Load, Store, Branch, Upper, Jal, Jalr, Fence, Ecall, Ebreak}
-use Rattle.rv_machine.specs.Machines.{MachineValue, state_of, output_behind, sent, Steps}
+use Rattle.rv_machine.specs.Machines.{MachineValue, state_of, output_behind, sent, Steps, StepExits, StepTraps}
 use Rattle.rv_machine.specs.Effects.{Fetches, AtCall}
 
 -- ---- instructions that aren't calls
@@ -168,3 +168,16 @@ pub sent-steps : (old new : MachineValue) (input : List ℕ) → (sent old ≡ [
 unfolding sent
 sent-steps old new input h e =
     λ output. rw e (ran-same old input output (step (state_of old [] [])) (step (state_of old input output)) h (step-same old input output))
+
+-- an instruction that exits or traps sends nothing
+pub exits-silent : (machine : MachineValue) (input : List ℕ) (code : ℕ) → StepExits machine input code → (sent machine ≡ [] → ⊥) → ⊥
+exits-silent machine input code exits h =
+    let ran = sent-steps machine (passed machine) input h refl [] in
+    let exited = exits [] in
+    cc
+
+pub traps-silent : (machine : MachineValue) (input : List ℕ) (cause : Cause) → StepTraps machine input cause → (sent machine ≡ [] → ⊥) → ⊥
+traps-silent machine input cause traps h =
+    let ran = sent-steps machine (passed machine) input h refl [] in
+    let trapped = traps [] in
+    cc

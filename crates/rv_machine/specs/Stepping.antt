@@ -1,5 +1,5 @@
 -- What a step and a run do to a machine, its input and its sink.
-use Rattle.std.specs.Prelude.{◌≡◌, ◌≢◌, ℕ, ◌<◌, ◌≤◌, Bool, IsTrue, List, [], ◌++◌}
+use Rattle.std.specs.Prelude.{◌≡◌, ◌≢◌, ℕ, ◌<◌, ◌≤◌, Bool, true, IsTrue, List, [], ◌++◌}
 use Rattle.acg_base.specs.Outside.{Rose, counted, GainsFrontOf}
 use Rattle.rv_code.specs.declared.cause.Cause.{Cause}
 use Rattle.rv_machine.specs.declared.answers.Step.{Step}
@@ -10,9 +10,9 @@ use Rattle.rv_machine.specs.declared.answers.Quiet.{Quiet}
 use Rattle.rv_machine.specs.declared.answers.QuietEnd.TheVariants as quiet
 use Rattle.rv_machine.specs.Machines.{MachineValue, InputValue, left, sent, sent_in, Steps, StepExits, StepTraps, StepSends, Runs, RunsBelow, IsCounted, RunExits, RunTraps}
 
--- what one instruction does. A sink, which has these members, gets what it sends: no other instruction writes to it.
+-- what one instruction does. A sink, which has these members, gets what it sends, in one write: no other instruction writes to it.
 -- A fault of the sink comes only at an instruction that runs by the definition and sends bytes
-pub record Stepped {K : Type 0} (written : K → List ℕ) (faults : K → ℕ) (tells : K → Bool) (result : Step) (old : MachineValue) (input : InputValue) (out : K) (new : MachineValue) (rest : InputValue) (gained : K) : Type 0 where
+pub record Stepped {K : Type 0} (written : K → List ℕ) (faults writes : K → ℕ) (tells last_failed : K → Bool) (result : Step) (old : MachineValue) (input : InputValue) (out : K) (new : MachineValue) (rest : InputValue) (gained : K) : Type 0 where
   pub ran : result ≡ step.Ran → Steps old (left input) new (left rest)
   pub exited : (code : ℕ) → result ≡ step.Exited code → StepExits old (left input) code
   pub trapped : (cause : Cause) (pc : ℕ) → result ≡ step.Trapped cause pc →
@@ -26,6 +26,9 @@ pub record Stepped {K : Type 0} (written : K → List ℕ) (faults : K → ℕ) 
   pub told : result ≡ step.Ran → IsTrue (tells out) → written gained ≡ written out ++ sent old
   pub part : result ≡ step.SinkFault → IsTrue (tells out) →
       GainsFrontOf (sent old) (written out) (written gained)
+  pub once : sent old ≢ [] → writes gained ≡ counted (writes out)
+  pub failed : result ≡ step.SinkFault →
+      (faults gained ≡ counted (faults out)) × (last_failed gained ≡ true)
   pub rose : result ≡ step.SinkFault → Rose (faults out) (faults gained)
   pub still : result ≢ step.SinkFault → faults gained ≡ faults out
   pub counts : faults out ≤ faults gained
@@ -41,7 +44,7 @@ WroteBelow n old input new rest before behind =
 -- what a run of at most so many instructions does. Where fewer ran, the machine and the input stand before the one that
 -- ended the run. The sink gets what the run sends, or a front of it where it fails, which comes only at an instruction
 -- that runs by the definition and sends bytes
-pub record RanWithin {K : Type 0} (written : K → List ℕ) (faults : K → ℕ) (tells : K → Bool) (most : ℕ) (result : Run) (old : MachineValue) (input : InputValue) (out : K) (new : MachineValue) (rest : InputValue) (gained : K) : Type 0 where
+pub record RanWithin {K : Type 0} (written : K → List ℕ) (faults writes : K → ℕ) (tells last_failed : K → Bool) (most : ℕ) (result : Run) (old : MachineValue) (input : InputValue) (out : K) (new : MachineValue) (rest : InputValue) (gained : K) : Type 0 where
   pub all : result ≡ run.Budget → Runs most old (left input) new (left rest) × IsCounted most old new
   pub fewer : result ≢ run.Budget → RunsBelow most old (left input) new (left rest)
   pub exited : (code : ℕ) → result ≡ run.Exited code →
@@ -54,7 +57,8 @@ pub record RanWithin {K : Type 0} (written : K → List ℕ) (faults : K → ℕ
       written gained ≡ written out ++ sent_in most old (left input)
   pub part : result ≡ run.SinkFault → IsTrue (tells out) →
       WroteBelow most old (left input) new (left rest) (written out) (written gained)
-  pub rose : result ≡ run.SinkFault → Rose (faults out) (faults gained)
+  pub failed : result ≡ run.SinkFault →
+      (faults gained ≡ counted (faults out)) × (last_failed gained ≡ true)
   pub still : result ≢ run.SinkFault → faults gained ≡ faults out
   pub counts : faults out ≤ faults gained
   pub tells_still : tells gained ≡ tells out

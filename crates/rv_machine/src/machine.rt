@@ -446,7 +446,7 @@ impl Machine {
     /// and `Trapped`: nothing has changed, so a further call answers the same. `SinkFault`: the sink failed at the
     /// bytes of a call 64 and may have got a front of them; the machine and the input haven't changed.
     pub fn step<K: Sink>(&mut self, input: &mut Input<'_>, out: &mut K) -> Step
-        ensures { Stepped K.written K.faults K.tells result
+        ensures { Stepped K.written K.faults K.writes K.tells K.last_failed result
             self.old input.old out.old self.new input.new out.new }
     {
         match self.turn(input) {
@@ -471,7 +471,7 @@ impl Machine {
     /// `Budget` comes exactly where all of them ran. Otherwise the machine and the input stand before the
     /// instruction that exited, trapped or met a fault of the sink, as `step` leaves them.
     pub fn run<K: Sink>(&mut self, budget: u64, input: &mut Input<'_>, out: &mut K) -> Run
-        ensures { RanWithin K.written K.faults K.tells budget result
+        ensures { RanWithin K.written K.faults K.writes K.tells K.last_failed budget result
             self.old input.old out.old self.new input.new out.new }
     {
         for _i in 0..budget {

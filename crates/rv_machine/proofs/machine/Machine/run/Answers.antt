@@ -7,24 +7,24 @@ loop-i-init g c = begins _ _ _ c.args.self.now c.args.input.now c.args.out.now
 
 pub loop-i-preserved : goal.loop-i-preserved
 loop-i-preserved g c =
-    goes-on _ _ _ c.loop-i._i _ _ _ _ _ _ c.loop-i.invariant c.step.new.self c.step.new.input c.step.new.out c.in-Ran.ensures
+    goes-on _ _ _ _ _ c.loop-i._i _ _ _ _ _ _ c.loop-i.invariant c.step.new.self c.step.new.input c.step.new.out c.in-Ran.ensures
 
 pub returns-in-Exited : goal.returns-in-Exited
 returns-in-Exited g c =
-    ends-exit _ _ _ c.loop-i._i _ _ _ _ _ _ c.loop-i.invariant c.args.budget c.in-Exited.code c.step.new.self c.step.new.input c.step.new.out
+    ends-exit _ _ _ _ _ c.loop-i._i _ _ _ _ _ _ c.loop-i.invariant c.args.budget c.in-Exited.code c.step.new.self c.step.new.input c.step.new.out
     c.loop-i-test.true c.in-Exited.ensures
 
 pub returns-in-Trapped : goal.returns-in-Trapped
 returns-in-Trapped g c =
-    ends-trap _ _ _ c.loop-i._i _ _ _ _ _ _ c.loop-i.invariant c.args.budget c.in-Trapped.cause c.in-Trapped.pc c.step.new.self c.step.new.input
+    ends-trap _ _ _ _ _ c.loop-i._i _ _ _ _ _ _ c.loop-i.invariant c.args.budget c.in-Trapped.cause c.in-Trapped.pc c.step.new.self c.step.new.input
     c.step.new.out c.loop-i-test.true c.in-Trapped.ensures
 
 pub returns-in-SinkFault : goal.returns-in-SinkFault
 returns-in-SinkFault g c =
-    ends-fault _ _ _ c.loop-i._i _ _ _ _ _ _ c.loop-i.invariant c.args.budget c.step.new.self c.step.new.input c.step.new.out c.loop-i-test.true
+    ends-fault _ _ _ _ _ c.loop-i._i _ _ _ _ _ _ c.loop-i.invariant c.args.budget c.step.new.self c.step.new.input c.step.new.out c.loop-i-test.true
     c.in-SinkFault.ensures
 
 pub returns : goal.returns
 returns g c =
     let all : c.loop-i._i ≡ c.args.budget = omega arith in
-    rw (← all) (ends-all _ _ _ c.loop-i._i _ _ _ _ _ _ c.loop-i.invariant)
+    rw (← all) (ends-all _ _ _ _ _ c.loop-i._i _ _ _ _ _ _ c.loop-i.invariant)

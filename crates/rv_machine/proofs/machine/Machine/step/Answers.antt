@@ -1,6 +1,7 @@
 use Rattle.std.proofs.Common.{rules, ◌≡◌, refl}
 use Rattle.acg_base.proofs.CountLemmas.{counted-rose}
 use Rattle.rv_machine.proofs.StepsLemmas.{is-send-not_empty, is-send-sends}
+use Rattle.rv_machine.proofs.SilentLaws.{exits-silent, traps-silent}
 use Rattle.rv_machine.specs.Machines.{left, sent}
 use Rattle.rv_machine.proofs.machine.Machine.step.Goals as goal
 
@@ -37,6 +38,8 @@ returns-in-Err-Failed g c =
       idle = λ _ e. absurd (e refl);
       told = λ e. absurd (cc);
       part = λ _ tells. rw (← lent) (write.part tells);
+      once = λ _. write.writes;
+      failed = λ _. (write.failed, write.last);
       rose = λ _. counted-rose _ _ write.failed;
       still = λ e. absurd (e refl);
       counts = write.counts;
@@ -65,8 +68,27 @@ returns-in-Ok g c =
       idle = λ e. absurd (e refl);
       told = λ _ tells. rw (← lent) (write.done tells);
       part = λ e. absurd (cc);
+      once = λ _. write.writes;
+      failed = λ e. absurd (cc);
       rose = λ e. absurd (cc);
       still = λ _. write.passed;
       counts = write.counts;
       tells_still = write.tells_still;
     })
+
+pub returns-in-Ran : goal.returns-in-Ran
+returns-in-Ran g c =
+    let silent = c.in-Ran.ensures.silent refl in
+    search rules
+
+pub returns-in-Exited : goal.returns-in-Exited
+returns-in-Exited g c =
+    let exits = c.in-Exited.ensures.exited c.in-Exited.code refl in
+    let once = exits-silent c.args.self.now (left c.args.input.now) c.in-Exited.code exits in
+    search rules
+
+pub returns-in-Trapped : goal.returns-in-Trapped
+returns-in-Trapped g c =
+    let traps = c.in-Trapped.ensures.trapped c.in-Trapped.cause refl in
+    let once = traps-silent c.args.self.now (left c.args.input.now) c.in-Trapped.cause traps in
+    search rules
