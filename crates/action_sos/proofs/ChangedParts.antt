@@ -10,7 +10,7 @@ use Rattle.action_sos.specs.Views.{end_of, frame_of}
 use Rattle.action_sos.specs.Kept.{weight}
 use Rattle.action_sos.specs.Moves.{running}
 use Rattle.action_sos.specs.Plans.{or_none, next_parts, left_behind}
-use Rattle.action_sos.specs.declared.datum.End.{End}
+use Rattle.action_sos.specs.declared.ends.End.{End}
 use Rattle.action_sos.specs.declared.moves.Next.{Next}
 use Rattle.action_sos.specs.declared.moves.Next.TheVariants as next
 use Rattle.action_sos.specs.declared.moves.Received.{Received}

@@ -7,13 +7,13 @@ use Rattle.action_sos.specs.Parts.{Part as PartMeant, IsTree, IsTreeBut, closed_
 use Rattle.action_sos.specs.Views.{end_of, part_of, parts_of}
 use Rattle.action_sos.specs.Kept.{IsCounted, weight}
 use Rattle.action_sos.specs.Plans.{next_parts, left_behind}
-use Rattle.action_sos.specs.declared.datum.End.{End}
+use Rattle.action_sos.specs.declared.ends.End.{End}
 use Rattle.action_sos.specs.declared.moves.Next.{Next}
 use Rattle.action_sos.specs.declared.moves.Next.TheVariants as next
 use Rattle.action_sos.specs.declared.part.Part.{Part}
 use Rattle.action_sos.proofs.CountedParts.{depth-frames}
-use Rattle.action_sos.proofs.KeptInMemory.{part_of-kept, shut-kept}
-use Rattle.action_sos.proofs.PartsClosed.{length-closed_before}
+use Rattle.action_sos.proofs.KeptInMemory.{part_of-kept}
+use Rattle.action_sos.proofs.PartsClosed.{length-closed_before, shut-kept}
 use Rattle.action_sos.proofs.ChangedParts.{changed-tree, ended-tree, changed-weight}
 use Rattle.action_sos.proofs.ChangedInMemory.{parts-at, tree-at}
 

@@ -18,14 +18,6 @@ abbrev pub IsGoingTree : Tree → Type 0
 IsGoingTree (Ended z) = ⊥
 IsGoingTree _ = Unit {0}
 
-pub IsGoingTree-not_ended : (t : Tree) (z : End) → IsGoingTree t → t ≡ Ended z → ⊥
-IsGoingTree-not_ended (Ended z') z g e = g
-IsGoingTree-not_ended _ z g e = cc
-
-pub not_ended-IsGoingTree : (t : Tree) → ((z : End) → t ≡ Ended z → ⊥) → IsGoingTree t
-not_ended-IsGoingTree (Ended z) h = h z refl
-not_ended-IsGoingTree _ h = tt
-
 -- ---- a part that goes on makes nothing of the whole
 
 any-going : (t : Tree) → IsGoingTree t → after_any t ≡ []
@@ -111,9 +103,6 @@ IsTreeFrame-kept _ kept = tt
 pub wrap-going : (f : Frame) (t : Tree) → IsTreeFrame f → IsGoingTree (wrap f t)
 wrap-going (InTail n) t h = absurd h
 wrap-going _ t h = tt
-
-pub wrap-going_tail : (n : ℕ) (t : Tree) → IsGoingTree t → IsGoingTree (wrap (InTail n) t)
-wrap-going_tail n t g = g
 
 pub inside-going : (fs : List Frame) (t : Tree) → All IsKeptFrame fs → IsGoingTree t → IsGoingTree (inside fs t)
 inside-going [] t kept g = g

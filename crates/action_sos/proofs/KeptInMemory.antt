@@ -1,6 +1,6 @@
 -- The frames of a part in memory are frames of an acting tree: each part beside has ended.
-use Rattle.std.proofs.Common.{ℕ, zero, suc, Bool, true, List, [], ◌∷◌, All, sym, subst, map}
-use Rattle.std.proofs.lemmas.List.Elements.{All-nil, All-cons, All-head, All-tail, All-append, All-map, All-weaker}
+use Rattle.std.proofs.Common.{ℕ, zero, suc, true, List, [], ◌∷◌, All, sym, subst}
+use Rattle.std.proofs.lemmas.List.Elements.{All-nil, All-cons, All-head, All-tail, All-append}
 use Rattle.action_terms.proofs.Contexts.{Frame as FrameMeant, shut_if}
 use Rattle.action_sos.specs.Parts.{IsKeptFrame, AreKept}
 use Rattle.action_sos.specs.Views.{frame_of, frames_step, frames_of, closed_first, part_of}
@@ -47,6 +47,3 @@ closed_first-kept (suc n) (f ∷ fs) kept =
 
 pub part_of-kept : (p : Part) → AreKept (part_of p)
 part_of-kept p = closed_first-kept p.closed (frames_of p.frames) (frames_of-kept p.frames)
-
-pub shut-kept : (q : Bool) (fs : List FrameMeant) → All IsKeptFrame fs → All IsKeptFrame (map (shut_if q) fs)
-shut-kept q fs kept = All-map IsKeptFrame (shut_if q) fs (All-weaker IsKeptFrame (λ f. IsKeptFrame (shut_if q f)) (shut_if-kept q) fs kept)

@@ -1,6 +1,3 @@
-pub mod TokenOrders
-pub mod BindingLists
-pub mod Putting
 pub mod PlacedSteps
 pub mod FramesOpen
 pub mod Fronts
@@ -17,13 +14,6 @@ pub mod OperandItems
 pub mod NodeForms
 pub mod NodeMoves
 pub mod NodeSteps
-pub mod DataLists
-pub mod ItemsAt
-pub mod ItemValues
-pub mod Stacks
-pub mod Opening
-pub mod Turns
-pub mod Answered
 pub mod NodesOfKind
 pub mod EndedParts
 pub mod Worlds
@@ -40,7 +30,6 @@ pub mod FrameCounts
 pub mod FramesKept
 pub mod CountedParts
 pub mod PartsWithin
-pub mod FramesInMemory
 pub mod SoundWithin
 pub mod SoundParts
 pub mod PlanCounts

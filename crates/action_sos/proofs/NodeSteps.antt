@@ -15,7 +15,7 @@ use Rattle.action_terms.specs.declared.kinds.Kind.{Kind}
 use Rattle.action_terms.specs.declared.kinds.Kind.TheVariants as kind
 use Rattle.action_terms.proofs.GraphLaws.{node_at-action_of}
 use Rattle.action_terms.proofs.NamedNodes.{there-at}
-use Rattle.action_sos.specs.Views.{storage_of}
+use Rattle.action_values.specs.Values.{storage_of}
 use Rattle.action_sos.specs.Moves.{listed_of, action_in, given_of, bound_of, effect_of, next_tree, IsOutside, IsStepAt, node_steps}
 use Rattle.action_sos.specs.Running.{count_of, node_meant, IsMove}
 use Rattle.action_sos.specs.declared.moves.Lists.{Lists}

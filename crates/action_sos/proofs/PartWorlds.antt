@@ -7,14 +7,15 @@ use Rattle.action_terms.specs.Acting.{End, Ended}
 use Rattle.action_terms.specs.Steps.{open_steps}
 use Rattle.action_terms.proofs.Contexts.{Frame, InParLeft, InParRight, InTail, wrap, framed}
 use Rattle.action_sos.specs.Parts.{inside, IsKeptFrame, own_steps, focus_steps, part_steps}
-use Rattle.action_sos.specs.Views.{end_of, storage_of, focus_of, part_of}
+use Rattle.action_values.specs.Values.{storage_of}
+use Rattle.action_sos.specs.Views.{end_of, focus_of, part_of}
 use Rattle.action_sos.specs.Moves.{IsOutside}
-use Rattle.action_sos.specs.declared.datum.End.{End as EndMade}
+use Rattle.action_sos.specs.declared.ends.End.{End as EndMade}
 use Rattle.action_sos.specs.declared.moves.Outside.{Outside}
 use Rattle.action_sos.specs.declared.part.Focus.TheVariants as focus
 use Rattle.action_sos.specs.declared.part.Part.{Part}
 use Rattle.action_sos.proofs.FramesOpen.{IsTreeFrame-kept, wrap-going, open-wrapped}
-use Rattle.action_sos.proofs.FramesInMemory.{part_of-kept}
+use Rattle.action_sos.proofs.KeptInMemory.{part_of-kept}
 
 -- where nothing is told of the world
 abbrev pub empty_world : World

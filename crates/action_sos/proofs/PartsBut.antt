@@ -1,7 +1,7 @@
 -- A tree of parts of which one may have ended as a whole.
 use Rattle.std.proofs.Common.{◌≡◌, ℕ, ◌<◌, Bool, List, [], ◌∷◌, ◌++◌, All, length, sym, ◌∙◌, length-append, arith}
 use Rattle.std.specs.Prelude.{Some}
-use Rattle.std.proofs.lemmas.List.Elements.{All-nil, All-cons, All-tail, All-append}
+use Rattle.std.proofs.lemmas.List.Elements.{All-nil, All-tail, All-append}
 use Rattle.action_sos.specs.Parts.{Part, height, IsGoing, AreKept, IsTree, closed_before}
 use Rattle.action_sos.proofs.Fronts.{All-front, All-back}
 use Rattle.action_sos.proofs.PartsPushed.{height-append}
@@ -20,13 +20,6 @@ pub IsTree-but : (before : List Part) (p : Part) (behind : List Part) → IsTree
 IsTree-but before p behind tree =
     let going = IsTree-going_around before p behind tree in
     record { one = tree.one; going_before = going.0; going_behind = going.1; kept = tree.kept }
-
-pub IsTreeBut-going : (before : List Part) (p : Part) (behind : List Part) → IsTreeBut before p behind → IsGoing p → IsTree (before ++ p ∷ behind)
-IsTreeBut-going before p behind tree going = record {
-  one = tree.one;
-  going = λ more. All-append IsGoing before (p ∷ behind) tree.going_before (All-cons IsGoing p behind going tree.going_behind);
-  kept = tree.kept;
-}
 
 -- a part alone may have ended
 pub IsTreeBut-alone : (p : Part) → IsTreeBut [] p [] → IsTree (p ∷ [])

@@ -1,12 +1,9 @@
 -- Parts before a commitment keep their heights, go on, and stay kept.
-use Rattle.std.proofs.Common.{◌≡◌, ℕ, zero, suc, ◌<◌, Bool, true, false, List, [], ◌∷◌, All, map, length, refl, sym, ap, ap₂, subst, ◌∙◌}
-use Rattle.std.specs.Prelude.{Some}
-use Rattle.std.proofs.lemmas.Option.{same_Some}
+use Rattle.std.proofs.Common.{◌≡◌, ℕ, zero, suc, ◌<◌, Bool, true, false, List, [], ◌∷◌, All, map, length, refl, sym, ap, ap₂, subst}
 use Rattle.std.proofs.lemmas.List.{length-map}
 use Rattle.std.proofs.lemmas.List.Elements.{All-cons, All-head, All-tail, All-map, All-weaker}
 use Rattle.action_terms.proofs.Contexts.{Frame, InCalled, InParLeft, InParRight, InFirst, InSecond, InOr, InCut, InTrap, InOver, InTail, shut_if, shut_all-false}
-use Rattle.action_sos.specs.Parts.{Focus, Leaf, Parts, Part, raise, height, IsGoing, IsKeptFrame, AreKept, closes, closed_around, between, between_all, closed_before}
-use Rattle.action_sos.proofs.PartsPushed.{raise-some}
+use Rattle.action_sos.specs.Parts.{Focus, Leaf, Parts, Part, raise, height, IsGoing, IsKeptFrame, AreKept, closes, closed_around, between_all, closed_before}
 
 pub length-closed_before : (q : Bool) (ps : List Part) → length (closed_before q ps) ≡ length ps
 length-closed_before q [] = refl
@@ -48,15 +45,15 @@ shut_if-kept q (InTrap k b) kept = kept
 shut_if-kept q (InOver b) kept = kept
 shut_if-kept q (InTail n) kept = kept
 
-closes-kept : (q : Bool) (p : Part) → AreKept p → AreKept (closes q p)
-closes-kept q p kept = All-map IsKeptFrame (shut_if q) p.frames (All-weaker IsKeptFrame (λ f. IsKeptFrame (shut_if q f)) (shut_if-kept q) p.frames kept)
+pub shut-kept : (q : Bool) (fs : List Frame) → All IsKeptFrame fs → All IsKeptFrame (map (shut_if q) fs)
+shut-kept q fs kept = All-map IsKeptFrame (shut_if q) fs (All-weaker IsKeptFrame (λ f. IsKeptFrame (shut_if q f)) (shut_if-kept q) fs kept)
 
 pub closed_before-kept : (q : Bool) (ps : List Part) → All AreKept ps → All AreKept (closed_before q ps)
 closed_before-kept q [] kept = kept
 closed_before-kept q (p ∷ ps) kept =
     let here = All-head AreKept p ps kept in
     All-cons AreKept (closed_around q p.focus (between_all ps) p) (closed_before q ps)
-    (closed_around-cases AreKept q p.focus (between_all ps) p here (closes-kept q p here))
+    (closed_around-cases AreKept q p.focus (between_all ps) p here (shut-kept q p.frames here))
     (closed_before-kept q ps (All-tail AreKept p ps kept))
 
 -- nothing changes without a commitment
@@ -70,16 +67,3 @@ closes-false p = ap (λ l. record p { frames = l }) (map-false p.frames)
 pub closed_before-false : (ps : List Part) → closed_before false ps ≡ ps
 closed_before-false [] = refl
 closed_before-false (p ∷ ps) = ap₂ ◌∷◌ (closed_around-cases (λ r. r ≡ p) false p.focus (between_all ps) p refl (closes-false p)) (closed_before-false ps)
-
--- where parts lack nothing, the trees between are those that they spell
-pub between_all-height : (ps : List Part) (h : ℕ) → height ps 0 ≡ Some h → between_all ps ≡ h
-between_all-height [] h e = same_Some 0 h e
-between_all-height (p ∷ ps) h e =
-    let some = raise-some p.focus (height ps 0) h e in
-    ap (between p.focus) (between_all-height ps some.0 some.1) ∙ between-raise p.focus some.0 h (ap (raise p.focus) (sym some.1) ∙ e)
-  where
-    between-raise : (q : Focus) (g j : ℕ) → raise q (Some g) ≡ Some j → between q g ≡ j
-    between-raise (Leaf t) g j e = same_Some (suc g) j e
-    between-raise (Parts k) (suc (suc g)) j e = same_Some (suc g) j e
-    between-raise (Parts k) (suc zero) j e = cc
-    between-raise (Parts k) zero j e = cc

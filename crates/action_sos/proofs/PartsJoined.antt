@@ -6,7 +6,7 @@ use Rattle.action_terms.proofs.Contexts.{Frame}
 use Rattle.action_sos.specs.Parts.{Part, height, tree_of, IsTree, IsTreeBut, ended_part, parent_part, beside}
 use Rattle.action_sos.specs.Views.{end_of, frame_of, trees_between}
 use Rattle.action_sos.specs.Kept.{weight}
-use Rattle.action_sos.specs.declared.datum.End.{End}
+use Rattle.action_sos.specs.declared.ends.End.{End}
 use Rattle.action_sos.specs.declared.part.Side.{Side}
 use Rattle.action_sos.specs.declared.part.Side.TheVariants as side
 use Rattle.action_sos.specs.declared.part.Frame.TheVariants as frame

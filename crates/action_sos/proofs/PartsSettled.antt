@@ -12,7 +12,7 @@ use Rattle.action_terms.specs.Acting.{End as EndMeant, Ended}
 use Rattle.action_sos.specs.Parts.{Leaf, Parts, Part as PartMeant, raise, height, tree_of, IsTree, IsTreeBut, ended_part, parent_part, beside}
 use Rattle.action_sos.specs.Views.{end_of, frame_of, part_of, parts_of, trees_between}
 use Rattle.action_sos.specs.Kept.{weight}
-use Rattle.action_sos.specs.declared.datum.End.{End}
+use Rattle.action_sos.specs.declared.ends.End.{End}
 use Rattle.action_sos.specs.declared.part.Part.{Part}
 use Rattle.action_sos.specs.declared.part.Side.{Side}
 use Rattle.action_sos.specs.declared.part.Frame.TheVariants as frame

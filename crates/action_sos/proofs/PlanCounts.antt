@@ -12,7 +12,7 @@ use Rattle.action_sos.specs.Views.{end_of, frame_of, focus_of, part_of}
 use Rattle.action_sos.specs.Kept.{IsCounted}
 use Rattle.action_sos.specs.Moves.{action_in, running, node_steps, ended_steps, IsOutside}
 use Rattle.action_sos.specs.Plans.{IsSoundWithin, IsSoundPart}
-use Rattle.action_sos.specs.declared.datum.End.{End}
+use Rattle.action_sos.specs.declared.ends.End.{End}
 use Rattle.action_sos.specs.declared.moves.Lists.{Lists}
 use Rattle.action_sos.specs.declared.moves.Received.{Received}
 use Rattle.action_sos.specs.declared.moves.Outside.{Outside}
@@ -22,7 +22,7 @@ use Rattle.action_sos.specs.declared.part.Part.{Part}
 use Rattle.action_sos.proofs.FramesOpen.{IsTreeFrame-kept, open-inside, open-ended}
 use Rattle.action_sos.proofs.FrameCounts.{frames_steps-at_most}
 use Rattle.action_sos.proofs.CountedParts.{broken-frames}
-use Rattle.action_sos.proofs.FramesInMemory.{frame_of-kept, part_of-kept}
+use Rattle.action_sos.proofs.KeptInMemory.{frame_of-kept, part_of-kept}
 use Rattle.action_sos.proofs.SoundWithin.{inmost-sound, run-there}
 use Rattle.action_sos.proofs.PartWorlds.{empty_world, world_of, IsOutside-world_of}
 

@@ -11,7 +11,7 @@ use Rattle.action_sos.specs.Views.{end_of, frame_of, part_of}
 use Rattle.action_sos.specs.Kept.{IsBrokenOff}
 use Rattle.action_sos.specs.Moves.{action_in, next_tree, effect_of, IsStepAt, node_steps, ended_steps}
 use Rattle.action_sos.specs.Plans.{IsPlan}
-use Rattle.action_sos.specs.declared.datum.End.{End}
+use Rattle.action_sos.specs.declared.ends.End.{End}
 use Rattle.action_sos.specs.declared.moves.Lists.{Lists}
 use Rattle.action_sos.specs.declared.moves.Received.{Received}
 use Rattle.action_sos.specs.declared.moves.Change.{Change}

@@ -3,8 +3,8 @@ use Rattle.std.proofs.Common.{◌≡◌, ℕ, ◌+◌, ◌<◌, ℤ, pos, List, 
 use Rattle.std.proofs.Math.Seq.{drop-cons}
 use Rattle.std.proofs.lemmas.List.{map-set}
 use Rattle.action_terms.specs.Steps.{rest}
-use Rattle.action_sos.specs.Views.{meant, storage_of}
-use Rattle.action_sos.specs.declared.datum.Datum.{Datum}
+use Rattle.action_values.specs.Values.{meant, storage_of}
+use Rattle.action_values.specs.declared.datum.Datum.{Datum}
 
 pub rest-drop : (xs : List ℤ) (n : ℕ) → n < length xs → drop (n + 1) xs ≡ rest (drop n xs)
 rest-drop xs n h = rw (add-one, drop-cons xs n (pos 0) h)

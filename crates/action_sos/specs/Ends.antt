@@ -1,7 +1,7 @@
 -- What a whole becomes whose parts have ended.
 use Rattle.std.specs.Prelude.{List, [], ◌++◌}
 use Rattle.action_terms.specs.Actions.{Node, Action, node_at}
-use Rattle.action_terms.specs.Acting.{End, Tree}
+use Rattle.action_terms.specs.Acting.{Tree}
 use Rattle.action_terms.specs.Steps.{after_any, after_both, after_broken, after_first, after_second, after_or, after_trap, after_over}
 use Rattle.action_terms.proofs.Contexts.{Frame, InCalled, InParLeft, InParRight, InFirst, InSecond, InOr, InCut, InTrap, InOver, InTail}
 

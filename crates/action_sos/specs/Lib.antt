@@ -7,10 +7,6 @@ pub mod Codes
 pub mod Performers
 pub mod Performed
 pub mod Schedules
-pub mod Operations
-pub mod TokenOrder
-pub mod Puts
 pub mod Running
-pub mod Evaluation
 pub mod Made
 pub mod Ends

@@ -4,7 +4,8 @@ use Rattle.action_terms.specs.Information.{World as WorldMeant}
 use Rattle.action_terms.specs.Proper.{IsProper}
 use Rattle.action_terms.specs.Sound.{IsSound}
 use Rattle.action_sos.specs.Parts.{IsTree, tree_of}
-use Rattle.action_sos.specs.Views.{storage_of, parts_of}
+use Rattle.action_values.specs.Values.{storage_of}
+use Rattle.action_sos.specs.Views.{parts_of}
 use Rattle.action_sos.specs.Kept.{IsCounted, weight}
 use Rattle.action_sos.specs.Moves.{listed_of, action_in}
 use Rattle.action_sos.specs.Performers.{Performing}

@@ -9,7 +9,7 @@ use Rattle.action_terms.specs.Steps.{Step, run_steps}
 use Rattle.action_terms.specs.Yielding.{yields, items_yield}
 use Rattle.action_terms.specs.declared.kinds.Kind.{Kind}
 use Rattle.action_terms.specs.declared.kinds.Kind.TheVariants as kind
-use Rattle.action_sos.specs.Views.{item_at, items_at}
+use Rattle.action_values.specs.Values.{item_at, items_at}
 use Rattle.action_sos.specs.Moves.{given_of, bound_of, effect_of, next_tree, IsOutside, IsStepAt}
 use Rattle.action_sos.specs.declared.moves.Move.{Move}
 use Rattle.action_sos.specs.declared.running.Running.{Running}

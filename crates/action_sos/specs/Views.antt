@@ -1,17 +1,11 @@
--- What data, frames and parts in memory stand for.
-use Rattle.std.specs.Prelude.{ℕ, zero, suc, true, List, [], ◌∷◌, ◌++◌, map, Option, option_map, slice_get}
-use Rattle.action_terms.specs.Information.{Datum as Meant, Number, Truth, CellOf, Closure, Binds, NoBinds, Bound, Token, Data, Storage}
-use Rattle.action_terms.specs.Actions.{Item}
-use Rattle.action_terms.specs.Numbering.{ListedYielder}
-use Rattle.action_terms.specs.Meaning.{item_or_them, items_from, picked}
+-- What ends, frames and parts in memory stand for.
+use Rattle.std.specs.Prelude.{ℕ, zero, suc, true, List, [], ◌∷◌, ◌++◌, map}
 use Rattle.action_terms.specs.Acting.{End as EndMeant, Done, Esc, Fail, Run, Ended}
+use Rattle.action_values.specs.Values.{data_of, bindings_of}
 use Rattle.action_terms.proofs.Contexts.{Frame as FrameMeant, InCalled, InParLeft, InParRight, InFirst, InSecond, InOr, InCut, InTrap, InOver, shut_if}
 use Rattle.action_sos.specs.Parts.{Focus as FocusMeant, Leaf, Parts, Part as PartMeant}
-use Rattle.action_sos.specs.declared.datum.Datum.{Datum, Datum-F, fold-Datum}
-use Rattle.action_sos.specs.declared.datum.Datum.TheOpen as open_data
-use Rattle.action_sos.specs.declared.datum.Binding.{Binding, Binding-F, fold-Binding}
-use Rattle.action_sos.specs.declared.datum.End.{End}
-use Rattle.action_sos.specs.declared.datum.End.TheVariants as end
+use Rattle.action_sos.specs.declared.ends.End.{End}
+use Rattle.action_sos.specs.declared.ends.End.TheVariants as end
 use Rattle.action_sos.specs.declared.part.Side.{Side}
 use Rattle.action_sos.specs.declared.part.Side.TheVariants as side
 use Rattle.action_sos.specs.declared.part.Frame.{Frame}
@@ -21,39 +15,6 @@ use Rattle.action_sos.specs.declared.part.Focus.TheVariants as focus
 use Rattle.action_sos.specs.declared.part.Frames.{Frames, Frames-F, fold-Frames}
 use Rattle.action_sos.specs.declared.part.Frames.TheOpen as open_frames
 use Rattle.action_sos.specs.declared.part.Part.{Part}
-
--- a token and the datum that it is bound to
-pub record Pair : Type 0 where
-  pub token : Token
-  pub datum : Meant
-
--- the bindings of these pairs
-abbrev pub binds_of : List Pair → Binds
-binds_of [] = NoBinds
-binds_of (p ∷ ps) = Bound p.token p.datum (binds_of ps)
-
--- one level of a datum, and of a binding
-abbrev pub datum_step : Datum-F Meant Pair → Meant
-datum_step (open_data.Number n) = Number n
-datum_step (open_data.Truth b) = Truth b
-datum_step (open_data.Cell c) = CellOf c
-datum_step (open_data.Closure body bound own) = Closure body (binds_of bound.now) (option_map (λ t. t.now) own)
-
-abbrev pub pair_step : Binding-F Meant Pair → Pair
-pair_step p = record { token = p.token.now; datum = p.datum }
-
--- the datum that a datum in memory stands for
-abbrev pub meant : Datum → Meant
-meant = fold-Datum Meant Pair datum_step pair_step
-
-abbrev pub pair_of : Binding → Pair
-pair_of = fold-Binding Meant Pair datum_step pair_step
-
-abbrev pub data_of : List Datum → Data
-data_of d = map meant d
-
-abbrev pub bindings_of : List Binding → Binds
-bindings_of b = binds_of (map pair_of b)
 
 abbrev pub end_of : End → EndMeant
 end_of (end.Done d b) = Done (data_of d.now) (bindings_of b.now)
@@ -101,15 +62,3 @@ part_of p = record { frames = closed_first p.closed (frames_of p.frames); focus 
 
 abbrev pub parts_of : List Part → List PartMeant
 parts_of ps = map part_of ps
-
--- the storage of cells in memory
-abbrev pub storage_of : List (Option Datum) → Storage
-storage_of cells = map (option_map meant) cells
-
--- the item of number y, of these yielders
-abbrev pub item_at : List ListedYielder → ℕ → Item
-item_at ls y = item_or_them (slice_get (items_from 0 ls) y)
-
--- the items of these numbers
-abbrev pub items_at : List ListedYielder → List ℕ → List Item
-items_at ls numbers = picked 0 (items_from 0 ls) numbers

@@ -3,15 +3,15 @@ ghost use Rattle.std.specs.Prelude.{◌≡◌, IfOk, option_map};
 ghost use Rattle.action_terms.specs.Information.{Closure};
 ghost use Rattle.action_terms.specs.Acting.{Run, Called, Par, First, Or, Trap, Over};
 ghost use Rattle.action_terms.specs.Steps.{own_binds, enacted, branched};
-ghost use Rattle.action_sos.specs.Views.{meant, data_of, bindings_of};
+ghost use Rattle.action_values.specs.Values.{meant, data_of, bindings_of};
 ghost use Rattle.action_sos.specs.Moves.{given_of, bound_of, running, next_tree};
 
-use crate::bindings::bind;
-use crate::datum::{Binding, Datum};
 use crate::moves::{Next, Received};
 use crate::part::Frame;
 use crate::primitives::fails;
 use acg_base::Memory;
+use action_values::bindings::bind;
+use action_values::{Binding, Datum};
 use bumpalo::Bump;
 
 /// A closure that is bound to its own token.
@@ -156,36 +156,5 @@ pub fn lays_over<'a>(part: u32, received: Received<'a>) -> Next<'a>
         },
         node: part,
         received,
-    }
-}
-
-#[cfg(test)]
-mod tests {
-    use super::enacts;
-    use crate::bindings::lookup;
-    use crate::datum::Datum;
-    use crate::moves::Next;
-    use bumpalo::Bump;
-    use std::test::Fail;
-
-    #[test]
-    fn an_enacted_body_knows_its_closure(rt: HostRuntime) -> Result<(), Fail> {
-        let arena = Bump::new(rt.alloc());
-        let closure = Datum::Closure {
-            body: 4,
-            bound: &[],
-            own: Some(b"f"),
-        };
-        let next = enacts(&arena, Some(&[]), Some(closure))?;
-        let known = match next {
-            Next::Within {
-                frame: _,
-                node: 4,
-                received,
-            } => lookup(received.bound, b"f").is_some(),
-            _ => false,
-        };
-        assert!(rt; known);
-        Ok(())
     }
 }

@@ -7,20 +7,22 @@ ghost use Rattle.action_terms.specs.Steps.{Silent, second_part, after_first, aft
 ghost use Rattle.action_terms.specs.Proper.{IsProper};
 ghost use Rattle.action_terms.specs.Sound.{IsBoth, IsPhases, IsTrapping, IsSoundTree};
 ghost use Rattle.action_terms.proofs.Contexts.{wrap};
-ghost use Rattle.action_sos.specs.Views.{bindings_of, frame_of, end_of};
+ghost use Rattle.action_values.specs.Values.{bindings_of};
+ghost use Rattle.action_sos.specs.Views.{frame_of, end_of};
 ghost use Rattle.action_sos.specs.Moves.{action_in, given_of, bound_of, next_tree, IsStepAt, ended_steps};
 ghost use Rattle.action_sos.specs.Made.{IsMadeOf};
 ghost use Rattle.action_sos.specs.Ends.{both_trees};
 ghost use Rattle.action_sos.specs.Parts.{IsBroken};
 ghost use Rattle.action_sos.specs.declared.moves.Lists.{Lists};
 
-use crate::bindings::overlay;
-use crate::datum::{Binding, Datum, End};
+use crate::ends::End;
 use crate::joins::{chained, handed, joined};
 use crate::moves::{Lists, Next, Received};
 use crate::part::{Frame, Side};
 use acg_base::Memory;
 use action_terms::Node;
+use action_values::bindings::overlay;
+use action_values::{Binding, Datum};
 use bumpalo::Bump;
 
 // it has escaped or failed

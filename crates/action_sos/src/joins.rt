@@ -2,16 +2,18 @@
 ghost use Rattle.std.specs.Prelude.{◌≡◌, Some, IfOk};
 ghost use Rattle.action_terms.specs.Actions.{Join, Chain};
 ghost use Rattle.action_terms.specs.Steps.{united, joined, handed_data, handed_binds, chained};
-ghost use Rattle.action_sos.specs.Views.{data_of, bindings_of, end_of};
+ghost use Rattle.action_values.specs.Values.{data_of, bindings_of};
+ghost use Rattle.action_sos.specs.Views.{end_of};
 ghost use Rattle.action_sos.specs.Moves.{given_of, bound_of};
 ghost use Rattle.action_sos.specs.Made.{join_of, chain_of};
 
-use crate::bindings::{meet, overlay};
-use crate::data::append;
-use crate::datum::{Binding, Datum, End};
+use crate::ends::End;
 use crate::moves::Received;
 use acg_base::Memory;
 use action_terms::Kind;
+use action_values::bindings::{meet, overlay};
+use action_values::data::append;
+use action_values::{Binding, Datum};
 use bumpalo::Bump;
 
 // completed with the union of two bindings, or failed where both bind some token

@@ -1,8 +1,9 @@
 //! What a step of a part does, before it is done.
 
-use crate::datum::{Binding, Datum, End};
+use crate::ends::End;
 use crate::part::Frame;
 use action_terms::{Node, YNode};
+use action_values::{Binding, Datum};
 
 /// The action nodes and the yielders of a graph.
 #[derive(Clone, Copy)]

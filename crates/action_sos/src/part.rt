@@ -5,9 +5,10 @@ ghost use Rattle.action_sos.specs.Parts.{closes, IsBesideEnd, IsBroken};
 ghost use Rattle.action_sos.specs.Views.{frame_of, focus_of, end_of, part_of};
 ghost use Rattle.action_sos.specs.Kept.{own_count, IsCounted, IsBrokenOff};
 
-use crate::datum::{Binding, Datum, End};
+use crate::ends::End;
 use crate::moves::Received;
 use acg_base::Memory;
+use action_values::{Binding, Datum};
 use bumpalo::Bump;
 use std::alloc::Global;
 

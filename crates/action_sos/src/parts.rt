@@ -4,7 +4,7 @@ ghost use Rattle.action_sos.specs.Parts.{Parts, IsTree, IsTreeBut, height, tree_
 ghost use Rattle.action_sos.specs.Views.{end_of, focus_of, part_of, parts_of, trees_between};
 ghost use Rattle.action_sos.specs.Kept.{IsCounted, weight};
 
-use crate::datum::End;
+use crate::ends::End;
 use crate::part::{Focus, Frame, Part, Side};
 use acg_base::Memory;
 use bumpalo::Bump;

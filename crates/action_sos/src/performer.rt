@@ -8,7 +8,7 @@ ghost use Rattle.action_sos.specs.Performers.{steps_of, outcome_of, moved_to, Is
 
 use crate::answers::{Moved, Outcome};
 use crate::changed::changed;
-use crate::datum::End;
+use crate::ends::End;
 use crate::moves::{Lists, Received};
 use crate::part::{Focus, Part};
 use crate::plan::{count_of_parts, find_step, plan_of_part};

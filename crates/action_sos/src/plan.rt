@@ -8,8 +8,8 @@ ghost use Rattle.action_sos.specs.Kept.{IsCounted, weight};
 ghost use Rattle.action_sos.specs.Moves.{action_in, IsOutside};
 ghost use Rattle.action_sos.specs.Plans.{IsSoundPart, IsPlan, IsKeptPart};
 
-use crate::datum::End;
 use crate::end_steps::{count_of_end, step_of_end};
+use crate::ends::End;
 use crate::moves::{Change, Lists, Next, Outside, Received};
 use crate::node_steps::{count_of_node, step_of_node};
 use crate::part::{Focus, Part};

@@ -3,13 +3,14 @@ ghost use Rattle.std.specs.Prelude.{◌≡◌, ◌∷◌, [], IfOk, option_map};
 ghost use Rattle.action_terms.specs.Acting.{Done, Esc, Ended};
 ghost use Rattle.action_terms.specs.Information.{NoBinds, CellOf};
 ghost use Rattle.action_terms.specs.Steps.{Allocates, Commits, silent, with_effect, failed, done, ends_with, checked, bound, sent, put, received};
-ghost use Rattle.action_sos.specs.Views.{meant, data_of, bindings_of};
+ghost use Rattle.action_values.specs.Values.{meant, data_of, bindings_of};
 ghost use Rattle.action_sos.specs.Moves.{next_tree};
 ghost use Rattle.action_sos.specs.Running.{Does};
 
-use crate::datum::{Binding, Datum, End};
+use crate::ends::End;
 use crate::moves::{Change, Move, Next};
 use acg_base::Memory;
+use action_values::{Binding, Datum};
 use bumpalo::Bump;
 
 /// A move that does nothing beside the tree.
@@ -163,8 +164,8 @@ pub fn allocates<'a>(arena: &'a Bump, cells: usize) -> Result<Move<'a>, Memory>
 #[cfg(test)]
 mod tests {
     use super::{allocates, binds, receives};
-    use crate::datum::Datum;
     use crate::moves::Change;
+    use action_values::Datum;
     use bumpalo::Bump;
     use std::test::Fail;
 

@@ -1,13 +1,13 @@
 //! A node that runs, its operands, and what they yield.
 ghost use Rattle.std.specs.Prelude.{◌≡◌, IfOk, option_map, slice_index};
-ghost use Rattle.action_sos.specs.Views.{meant, data_of};
+ghost use Rattle.action_values.specs.Values.{meant, data_of};
 ghost use Rattle.action_sos.specs.Running.{operand_of, number_of, part_of_node, closure_body_of, IsYielded, AreYielded};
 
-use crate::datum::Datum;
 use crate::moves::{Outside, Received};
-use crate::yielding;
 use acg_base::Memory;
 use action_terms::{Node, YNode};
+use action_values::Datum;
+use action_values::yielding::{self, Context};
 use bumpalo::Bump;
 use std::alloc::Global;
 
@@ -79,14 +79,13 @@ impl<'b, 'a> Running<'b, 'a> {
     pub fn yielded(&self, alloc: Global, place: usize) -> Result<Option<Datum<'a>>, Memory>
         ensures { IfOk result (λ x. IsYielded self.now place (option_map meant x)) }
     {
-        yielding::yielded(
-            alloc,
-            self.yielders,
-            self.only_item(place),
-            self.received.given,
-            self.received.bound,
-            self.outside.cells,
-        )
+        let context = Context {
+            yielders: self.yielders,
+            given: self.received.given,
+            bound: self.received.bound,
+            cells: self.outside.cells,
+        };
+        yielding::yielded(alloc, &context, self.only_item(place))
     }
 
     /// The data that an operand yields.
@@ -97,14 +96,12 @@ impl<'b, 'a> Running<'b, 'a> {
     ) -> Result<Option<&'a [Datum<'a>]>, Memory>
         ensures { IfOk result (λ d. AreYielded self.now place (option_map (λ x. data_of x.now) d)) }
     {
-        yielding::yielded_items(
-            alloc,
-            self.arena,
-            self.yielders,
-            self.operand(place),
-            self.received.given,
-            self.received.bound,
-            self.outside.cells,
-        )
+        let context = Context {
+            yielders: self.yielders,
+            given: self.received.given,
+            bound: self.received.bound,
+            cells: self.outside.cells,
+        };
+        yielding::yielded_items(alloc, self.arena, &context, self.operand(place))
     }
 }

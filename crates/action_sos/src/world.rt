@@ -4,9 +4,9 @@ ghost use Rattle.action_terms.specs.Steps.{world_after};
 ghost use Rattle.action_sos.specs.Moves.{effect_of, IsOutside};
 ghost use Rattle.action_sos.specs.Performed.{world_of};
 
-use crate::datum::Datum;
 use crate::moves::{Change, Outside};
 use acg_base::Memory;
+use action_values::Datum;
 use std::alloc::Global;
 
 /// The storage, the messages so far, and the input.

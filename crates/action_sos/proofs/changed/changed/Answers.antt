@@ -3,7 +3,7 @@ use Rattle.std.proofs.Math.Nat.{le_trans}
 use Rattle.std.proofs.lemmas.Result.{IfOk-weaker}
 use Rattle.action_terms.specs.Steps.{commits}
 use Rattle.action_sos.specs.Moves.{effect_of}
-use Rattle.action_sos.specs.declared.datum.End.{End}
+use Rattle.action_sos.specs.declared.ends.End.{End}
 use Rattle.action_sos.specs.declared.moves.Next.TheVariants as next
 use Rattle.action_sos.proofs.ChangedTrees.{ended-among, ended-but, goes_on-tree, stands-weight}
 use Rattle.action_sos.proofs.changed.changed.Goals as goal

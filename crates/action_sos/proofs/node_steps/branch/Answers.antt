@@ -1,7 +1,7 @@
 use Rattle.std.proofs.Common.{◌≡◌, ◌∙◌}
 use Rattle.std.specs.Prelude.{option_map}
 use Rattle.action_terms.specs.Steps.{branched}
-use Rattle.action_sos.specs.Views.{meant}
+use Rattle.action_values.specs.Values.{meant}
 use Rattle.action_sos.specs.Moves.{given_of, bound_of}
 use Rattle.action_sos.specs.Running.{part_of_node}
 use Rattle.action_sos.proofs.NodeMoves.{branch_move}

@@ -1,5 +1,0 @@
-use Rattle.action_sos.proofs.Putting.{set-put}
-use Rattle.action_sos.proofs.bindings.put.Goals as goal
-
-pub returns-in-Ok : goal.returns-in-Ok
-returns-in-Ok c = set-put c.as_slice.result.now c.args.list.now.items c.in-Ok.i c.args.binding c.as_slice.ensures.value c.in-Ok.ensures.bound_in c.in-Ok.ensures.bound_at

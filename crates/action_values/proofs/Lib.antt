@@ -1,0 +1,12 @@
+pub mod TokenOrders
+pub mod BindingLists
+pub mod Overlaying
+pub mod Putting
+pub mod Laying
+pub mod DataLists
+pub mod ItemsAt
+pub mod ItemValues
+pub mod Stacks
+pub mod Opening
+pub mod Turns
+pub mod Answered
