@@ -4,7 +4,7 @@ use Rattle.std.specs.Prelude.{Some}
 use Rattle.std.proofs.lemmas.Option.{same_Some}
 use Rattle.std.proofs.lemmas.List.Elements.{All-nil, All-cons, All-tail, All-append, All-drop}
 use Rattle.action_terms.specs.Acting.{Ended}
-use Rattle.action_terms.proofs.Contexts.{Frame}
+use Rattle.action_terms.specs.Frames.{Frame}
 use Rattle.action_sos.specs.Parts.{Focus, Leaf, Parts, Part, raise, height, IsGoing, IsKeptFrame, AreKept, IsTree, IsTreeBut, closed_before, ended_part, parent_part, spans}
 use Rattle.action_sos.specs.Views.{end_of, frame_of}
 use Rattle.action_sos.specs.Kept.{weight}

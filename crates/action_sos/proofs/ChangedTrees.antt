@@ -2,7 +2,7 @@
 use Rattle.std.proofs.Common.{◌≡◌, ℕ, suc, ◌+◌, ◌<◌, ◌≤◌, Bool, List, [], ◌∷◌, ◌++◌, take, drop, get_or, map, length, sym, ap, ap₂, subst, refl, ◌∙◌, length-take, arith}
 use Rattle.std.proofs.Math.Seq.{take-append_seam, drop-append-add}
 use Rattle.std.proofs.lemmas.List.{length-map}
-use Rattle.action_terms.proofs.Contexts.{Frame, shut_if}
+use Rattle.action_terms.specs.Frames.{Frame, shut_if}
 use Rattle.action_sos.specs.Parts.{Part as PartMeant, IsTree, IsTreeBut, closed_before, ended_part}
 use Rattle.action_sos.specs.Views.{end_of, part_of, parts_of}
 use Rattle.action_sos.specs.Kept.{IsCounted, weight}

@@ -1,7 +1,7 @@
 -- The outermost frames of a part, in which each alternative is closed.
 use Rattle.std.proofs.Common.{◌≡◌, ℕ, zero, suc, ◌≤◌, true, List, [], ◌∷◌, ◌++◌, map, length, refl, sym, ap, ap₂, ◌∙◌, arith}
 use Rattle.std.proofs.lemmas.List.{map-append}
-use Rattle.action_terms.proofs.Contexts.{Frame, InOr, shut_if}
+use Rattle.action_terms.specs.Frames.{Frame, InOr, shut_if}
 use Rattle.action_sos.specs.Views.{closed_first}
 
 pub length-closed_first : (n : ℕ) (fs : List Frame) → length (closed_first n fs) ≡ length fs

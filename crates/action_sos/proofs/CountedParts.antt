@@ -1,6 +1,6 @@
 -- The counts of a part, read off its frames as they stand.
 use Rattle.std.proofs.Common.{◌≡◌, ℕ, ◌+◌, ◌<◌, ◌≤◌, List, [], ◌∷◌, ◌++◌, length, sym, ap, ◌∙◌, append_assoc, length-append, arith}
-use Rattle.action_terms.proofs.Contexts.{Frame}
+use Rattle.action_terms.specs.Frames.{Frame}
 use Rattle.action_sos.specs.Parts.{own_steps, frames_steps}
 use Rattle.action_sos.specs.Views.{frames_of, part_of}
 use Rattle.action_sos.specs.Kept.{IsCounted}

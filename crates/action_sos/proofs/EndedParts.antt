@@ -7,7 +7,7 @@ use Rattle.action_terms.specs.Information.{World}
 use Rattle.action_terms.specs.Actions.{Node, Action, node_at}
 use Rattle.action_terms.specs.Acting.{End, Tree, Ended}
 use Rattle.action_terms.specs.Steps.{Letter, Joins, TakesLeft, TakesRight, Silent, Step, silent, at_letter, after_any, after_both, after_broken, open_steps}
-use Rattle.action_terms.proofs.Contexts.{Frame as FrameMeant, InCalled, InParLeft, InParRight, InFirst, InSecond, InOr, InCut, InTrap, InOver, wrap}
+use Rattle.action_terms.specs.Frames.{Frame as FrameMeant, InCalled, InParLeft, InParRight, InFirst, InSecond, InOr, InCut, InTrap, InOver, wrap}
 use Rattle.action_sos.specs.declared.ends.End.{End as EndAt}
 use Rattle.action_sos.specs.declared.moves.Lists.{Lists}
 use Rattle.action_sos.specs.declared.part.Frame.{Frame}

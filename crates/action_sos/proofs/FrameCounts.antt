@@ -3,7 +3,7 @@ use Rattle.std.proofs.Common.{◌≡◌, ℕ, zero, suc, ◌+◌, ◌≤◌, tru
 use Rattle.std.proofs.lemmas.List.{length-map}
 use Rattle.action_terms.specs.Acting.{Esc, Fail, Tree, Ended}
 use Rattle.action_terms.specs.Steps.{TakesLeft, TakesRight, at_letter, after_broken}
-use Rattle.action_terms.proofs.Contexts.{Frame, InParLeft, InParRight, InOr, shut_if, framed}
+use Rattle.action_terms.specs.Frames.{Frame, InParLeft, InParRight, InOr, shut_if, framed}
 use Rattle.action_sos.specs.Parts.{own_steps, frames_steps}
 use Rattle.action_sos.specs.Views.{closed_first}
 

@@ -1,6 +1,6 @@
 -- The frames of a part in memory, one at a time.
 use Rattle.std.proofs.Common.{◌≡◌, suc, ◌+◌, List, [], ◌∷◌, ◌++◌, length, sym, ap, ◌∙◌, Bor, length-append, arith}
-use Rattle.action_terms.proofs.Contexts.{Frame as FrameMeant}
+use Rattle.action_terms.specs.Frames.{Frame as FrameMeant}
 use Rattle.action_sos.specs.Parts.{frames_steps}
 use Rattle.action_sos.specs.Views.{frame_of, frames_step, frames_of}
 use Rattle.action_sos.specs.Kept.{own_count}

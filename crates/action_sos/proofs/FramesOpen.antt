@@ -8,7 +8,8 @@ use Rattle.action_terms.specs.Information.{Binds, Data, World}
 use Rattle.action_terms.specs.Actions.{Action, Node, node_at}
 use Rattle.action_terms.specs.Acting.{End, Done, Esc, Fail, Tree, Ended, Par}
 use Rattle.action_terms.specs.Steps.{InLeft, InRight, TakesLeft, TakesRight, Silent, Step, commits, silent, on_side, at_letter, or_or_cut, in_or, after_any, after_broken, after_both, after_first, after_second, after_or, after_trap, after_over, open_steps}
-use Rattle.action_terms.proofs.Contexts.{Frame, InCalled, InParLeft, InParRight, InFirst, InSecond, InOr, InCut, InTrap, InOver, InTail, wrap, shut_if, framed, shut_all-false}
+use Rattle.action_terms.specs.Frames.{Frame, InCalled, InParLeft, InParRight, InFirst, InSecond, InOr, InCut, InTrap, InOver, InTail, wrap, shut_if, framed}
+use Rattle.action_terms.proofs.Contexts.{shut_all-false}
 use Rattle.action_sos.specs.Parts.{inside, IsKeptFrame, lifted, own_steps, frames_steps}
 use Rattle.action_sos.proofs.PlacedSteps.{HasStep, HasStep-left, HasStep-right, HasStep-framed}
 pub use Rattle.action_sos.specs.Parts.{IsBroken, IsBesideEnd}

@@ -1,7 +1,7 @@
 -- The frames of a part in memory are frames of an acting tree: each part beside has ended.
 use Rattle.std.proofs.Common.{ℕ, zero, suc, true, List, [], ◌∷◌, All, sym, subst}
 use Rattle.std.proofs.lemmas.List.Elements.{All-nil, All-cons, All-head, All-tail, All-append}
-use Rattle.action_terms.proofs.Contexts.{Frame as FrameMeant, shut_if}
+use Rattle.action_terms.specs.Frames.{Frame as FrameMeant, shut_if}
 use Rattle.action_sos.specs.Parts.{IsKeptFrame, AreKept}
 use Rattle.action_sos.specs.Views.{frame_of, frames_step, frames_of, closed_first, part_of}
 use Rattle.action_sos.specs.declared.part.Side.TheVariants as side

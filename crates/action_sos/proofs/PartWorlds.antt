@@ -5,7 +5,7 @@ use Rattle.action_terms.specs.Information.{World}
 use Rattle.action_terms.specs.Actions.{Action}
 use Rattle.action_terms.specs.Acting.{End, Ended}
 use Rattle.action_terms.specs.Steps.{open_steps}
-use Rattle.action_terms.proofs.Contexts.{Frame, InParLeft, InParRight, InTail, wrap, framed}
+use Rattle.action_terms.specs.Frames.{Frame, InParLeft, InParRight, InTail, wrap, framed}
 use Rattle.action_sos.specs.Parts.{inside, IsKeptFrame, own_steps, focus_steps, part_steps}
 use Rattle.action_values.specs.Values.{storage_of}
 use Rattle.action_sos.specs.Views.{end_of, focus_of, part_of}

@@ -2,7 +2,8 @@
 use Rattle.std.proofs.Common.{◌≡◌, ℕ, zero, suc, ◌<◌, Bool, true, false, List, [], ◌∷◌, All, map, length, refl, sym, ap, ap₂, subst}
 use Rattle.std.proofs.lemmas.List.{length-map}
 use Rattle.std.proofs.lemmas.List.Elements.{All-cons, All-head, All-tail, All-map, All-weaker}
-use Rattle.action_terms.proofs.Contexts.{Frame, InCalled, InParLeft, InParRight, InFirst, InSecond, InOr, InCut, InTrap, InOver, InTail, shut_if, shut_all-false}
+use Rattle.action_terms.specs.Frames.{Frame, InCalled, InParLeft, InParRight, InFirst, InSecond, InOr, InCut, InTrap, InOver, InTail, shut_if}
+use Rattle.action_terms.proofs.Contexts.{shut_all-false}
 use Rattle.action_sos.specs.Parts.{Focus, Leaf, Parts, Part, raise, height, IsGoing, IsKeptFrame, AreKept, closes, closed_around, between_all, closed_before}
 
 pub length-closed_before : (q : Bool) (ps : List Part) → length (closed_before q ps) ≡ length ps

@@ -7,7 +7,7 @@ use Rattle.action_terms.specs.Information.{World}
 use Rattle.action_terms.specs.Actions.{Action}
 use Rattle.action_terms.specs.Acting.{Tree, Par}
 use Rattle.action_terms.specs.Steps.{InLeft, InRight, Step, on_side, open_steps}
-use Rattle.action_terms.proofs.Contexts.{Frame}
+use Rattle.action_terms.specs.Frames.{Frame}
 use Rattle.action_sos.specs.Parts.{Focus, Leaf, Parts, Part, inside, trees, tree_of, first_tree, raise, height, IsGoing, IsKeptFrame, AreKept, IsTree, lifted, frames_steps, open_count}
 use Rattle.action_sos.proofs.FramesOpen.{IsGoingTree, open-inside, open-par}
 use Rattle.action_sos.proofs.PartsPushed.{Pushes, NoPart, LeafPart, ParPart, Pushes-pushed, Pushes-going, height-trees}

@@ -2,7 +2,7 @@
 use Rattle.std.proofs.Common.{◌≡◌, ℕ, zero, suc, ◌+◌, List, [], ◌∷◌, ◌++◌, length, refl, sym, ap, ap₂, ◌∙◌, arith}
 use Rattle.std.specs.Prelude.{Option, Some, None}
 use Rattle.action_terms.specs.Acting.{End, Tree, Ended, Par}
-use Rattle.action_terms.proofs.Contexts.{Frame, InParLeft, InParRight, wrap}
+use Rattle.action_terms.specs.Frames.{Frame, InParLeft, InParRight, wrap}
 use Rattle.action_sos.specs.Parts.{Focus, Leaf, Parts, Part, inside, push_focus, push, pushed, trees, tree_of, first_tree, raise, height}
 use Rattle.action_sos.proofs.FramesOpen.{inside-behind}
 use Rattle.action_sos.proofs.PartsPushed.{pushed-append, pushed-above, height-append, height-above, height-trees}

@@ -4,7 +4,7 @@ use Rattle.std.specs.Prelude.{Option, Some, None}
 use Rattle.std.proofs.lemmas.Option.{same_Some}
 use Rattle.std.proofs.lemmas.List.Elements.{All-nil, All-cons, All-head, All-tail}
 use Rattle.action_terms.specs.Acting.{End, Tree, Ended, Par}
-use Rattle.action_terms.proofs.Contexts.{Frame}
+use Rattle.action_terms.specs.Frames.{Frame}
 use Rattle.action_sos.specs.Parts.{Focus, Leaf, Parts, Part, inside, push_focus, push, pushed, trees, raise, height, IsGoing, IsKeptFrame, AreKept}
 use Rattle.action_sos.proofs.FramesOpen.{IsGoingTree, inside-going, inside-going_frames}
 

@@ -7,7 +7,7 @@ use Rattle.action_terms.specs.Information.{World}
 use Rattle.action_terms.specs.Actions.{Action}
 use Rattle.action_terms.specs.Acting.{Tree, Par}
 use Rattle.action_terms.specs.Steps.{InLeft, InRight, Step, commits, on_side, open_steps}
-use Rattle.action_terms.proofs.Contexts.{Frame}
+use Rattle.action_terms.specs.Frames.{Frame}
 use Rattle.action_sos.specs.Parts.{Focus, Leaf, Parts, Part, inside, push_focus, pushed, trees, tree_of, first_tree, raise, height, IsKeptFrame, AreKept, IsTree, lifted, frames_steps, focus_steps, part_steps, open_count, closed_before}
 use Rattle.action_sos.proofs.PlacedSteps.{HasStep, HasStep-right}
 use Rattle.action_sos.proofs.FramesOpen.{IsGoingTree, open-inside, open-par}

@@ -1,7 +1,7 @@
 -- The weight of parts, one list behind another, before a commitment, and without those at the front.
 use Rattle.std.proofs.Common.{◌≡◌, ℕ, zero, suc, ◌+◌, ◌≤◌, Bool, List, [], ◌∷◌, ◌++◌, drop, length, refl, arith}
 use Rattle.std.proofs.lemmas.List.{length-map}
-use Rattle.action_terms.proofs.Contexts.{shut_if}
+use Rattle.action_terms.specs.Frames.{shut_if}
 use Rattle.action_sos.specs.Parts.{Part, between_all, closed_before}
 use Rattle.action_sos.specs.Kept.{weight}
 use Rattle.action_sos.proofs.PartsClosed.{closed_around-cases}

@@ -16,7 +16,7 @@ use Rattle.action_sos.specs.declared.answers.Moved.TheVariants as moved
 use Rattle.action_sos.specs.declared.moves.Lists.{Lists}
 use Rattle.action_sos.specs.declared.part.Part.{Part}
 use Rattle.action_sos.specs.declared.world.World.{World}
-use Rattle.action_terms.proofs.Contexts.{Frame}
+use Rattle.action_terms.specs.Frames.{Frame}
 use Rattle.action_sos.proofs.ClosedFrames.{length-closed_first}
 use Rattle.action_sos.proofs.FramesOpen.{IsGoingTree, inside-going_frames}
 use Rattle.action_sos.proofs.PartsPushed.{trees-going, height-trees}

@@ -4,7 +4,7 @@ use Rattle.std.specs.Prelude.{Some, slice_get, option_map}
 use Rattle.std.proofs.lemmas.Option.{slice_get-map}
 use Rattle.action_terms.specs.Acting.{Tree}
 use Rattle.action_terms.specs.Steps.{Letter, Effect, Made, Step, commits, on_side}
-use Rattle.action_terms.proofs.Contexts.{Frame, wrap, shut_if, framed}
+use Rattle.action_terms.specs.Frames.{Frame, wrap, shut_if, framed}
 use Rattle.action_sos.specs.Parts.{inside, lifted}
 
 -- ---- an element of two lists, one behind the other

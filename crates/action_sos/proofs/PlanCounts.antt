@@ -6,7 +6,7 @@ use Rattle.action_terms.specs.Actions.{Simple, Enact, Apply, Unfolding, Unfold, 
 use Rattle.action_terms.specs.Acting.{Ended}
 use Rattle.action_terms.specs.Steps.{Step, run_steps}
 use Rattle.action_terms.specs.Sound.{IsSoundTree}
-use Rattle.action_terms.proofs.Contexts.{wrap}
+use Rattle.action_terms.specs.Frames.{wrap}
 use Rattle.action_sos.specs.Parts.{inside, lifted, frames_steps, focus_steps, part_steps}
 use Rattle.action_sos.specs.Views.{end_of, frame_of, focus_of, part_of}
 use Rattle.action_sos.specs.Kept.{IsCounted}

@@ -5,7 +5,7 @@ use Rattle.std.proofs.lemmas.List.{length-map}
 use Rattle.action_terms.specs.Information.{World}
 use Rattle.action_terms.specs.Acting.{Tree, Ended}
 use Rattle.action_terms.specs.Steps.{Effect, Silent, Made, Step, commits}
-use Rattle.action_terms.proofs.Contexts.{Frame as FrameMeant, shut_if}
+use Rattle.action_terms.specs.Frames.{Frame as FrameMeant, shut_if}
 use Rattle.action_sos.specs.Parts.{inside, lifted, frames_steps, part_steps}
 use Rattle.action_sos.specs.Views.{end_of, frame_of, part_of}
 use Rattle.action_sos.specs.Kept.{IsBrokenOff}

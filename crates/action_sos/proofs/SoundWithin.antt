@@ -7,7 +7,7 @@ use Rattle.action_terms.specs.Information.{Data, Binds}
 use Rattle.action_terms.specs.Nodes.{listed_node}
 use Rattle.action_terms.specs.Meaning.{node_with, items_from}
 use Rattle.action_terms.specs.Sound.{IsSoundTree}
-use Rattle.action_terms.proofs.Contexts.{Frame, InCalled, InParLeft, InParRight, InFirst, InSecond, InOr, InCut, InTrap, InOver, InTail, wrap}
+use Rattle.action_terms.specs.Frames.{Frame, InCalled, InParLeft, InParRight, InFirst, InSecond, InOr, InCut, InTrap, InOver, InTail, wrap}
 use Rattle.action_sos.specs.Parts.{inside}
 use Rattle.action_sos.specs.Moves.{listed_of, action_in}
 use Rattle.action_sos.specs.declared.moves.Lists.{Lists}

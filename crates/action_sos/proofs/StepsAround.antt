@@ -7,7 +7,7 @@ use Rattle.action_terms.specs.Information.{World}
 use Rattle.action_terms.specs.Actions.{Action}
 use Rattle.action_terms.specs.Acting.{Tree, Ended, Par}
 use Rattle.action_terms.specs.Steps.{InLeft, InRight, Effect, Made, commits, on_side, open_steps}
-use Rattle.action_terms.proofs.Contexts.{Frame, shut_if}
+use Rattle.action_terms.specs.Frames.{Frame, shut_if}
 use Rattle.action_sos.specs.Parts.{Focus, Leaf, Parts, Part, inside, push_focus, push, pushed, first_tree, raise, height, IsGoing, IsKeptFrame, AreKept, frames_steps, closed_around, between, between_all, closed_before}
 use Rattle.action_sos.proofs.PlacedSteps.{HasStep, HasStep-left, HasStep-right, HasStep-side, HasStep-lifted}
 use Rattle.action_sos.proofs.FramesOpen.{IsGoingTree}

@@ -7,7 +7,7 @@ use Rattle.action_terms.specs.Steps.{commits, open_steps, world_after}
 use Rattle.action_terms.specs.Performances.{OneOf, Here, Later, after}
 use Rattle.action_terms.specs.Sound.{IsSound}
 use Rattle.action_terms.proofs.SoundStates.{sound-after}
-use Rattle.action_terms.proofs.Contexts.{Frame}
+use Rattle.action_terms.specs.Frames.{Frame}
 use Rattle.action_sos.specs.Parts.{Focus, Leaf, Parts, Part as PartMeant, inside, trees, tree_of, raise, height, IsTree, part_steps, open_count, closed_before}
 use Rattle.action_sos.specs.Views.{frame_of, part_of, parts_of}
 use Rattle.action_sos.specs.Kept.{IsCounted, weight}

@@ -3,7 +3,7 @@ use Rattle.std.proofs.Common.{◌≡◌, ℕ, List, [], ◌∷◌, ◌++◌, All
 use Rattle.std.specs.Prelude.{Some}
 use Rattle.std.proofs.lemmas.List.Elements.{All-cons, All-head, All-tail, All-append, All-same}
 use Rattle.action_terms.specs.Acting.{End, Ended}
-use Rattle.action_terms.proofs.Contexts.{Frame, InParLeft, InParRight}
+use Rattle.action_terms.specs.Frames.{Frame, InParLeft, InParRight}
 use Rattle.action_sos.specs.Parts.{Leaf, Part, tree_of, raise, height, IsGoing, IsKeptFrame, AreKept, IsTree}
 use Rattle.action_sos.proofs.Fronts.{All-front, All-back}
 use Rattle.action_sos.proofs.PartsPushed.{raise-some, height-behind}

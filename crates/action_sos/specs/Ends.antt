@@ -3,7 +3,7 @@ use Rattle.std.specs.Prelude.{List, [], ◌++◌}
 use Rattle.action_terms.specs.Actions.{Node, Action, node_at}
 use Rattle.action_terms.specs.Acting.{Tree}
 use Rattle.action_terms.specs.Steps.{after_any, after_both, after_broken, after_first, after_second, after_or, after_trap, after_over}
-use Rattle.action_terms.proofs.Contexts.{Frame, InCalled, InParLeft, InParRight, InFirst, InSecond, InOr, InCut, InTrap, InOver, InTail}
+use Rattle.action_terms.specs.Frames.{Frame, InCalled, InParLeft, InParRight, InFirst, InSecond, InOr, InCut, InTrap, InOver, InTail}
 
 -- what `and` or `moreover` becomes, in the order of its steps: joined, or one of its parts
 abbrev pub both_trees : Node → Tree → Tree → List Tree

@@ -1,7 +1,7 @@
 -- What a performer keeps of its parts beside what they stand for.
 use Rattle.std.specs.Prelude.{◌≡◌, ℕ, ◌+◌, ◌≤◌, List, [], ◌∷◌, ◌++◌, length}
 use Rattle.action_terms.specs.Acting.{End}
-use Rattle.action_terms.proofs.Contexts.{Frame as FrameMeant}
+use Rattle.action_terms.specs.Frames.{Frame as FrameMeant}
 use Rattle.action_sos.specs.Parts.{Part as PartMeant, own_steps, frames_steps, IsBesideEnd, IsBroken}
 use Rattle.action_sos.specs.Views.{frame_of, frames_of}
 use Rattle.action_sos.specs.declared.part.Frame.{Frame}

@@ -7,7 +7,7 @@ use Rattle.action_terms.specs.Nodes.{listed_node, listed_yielder}
 use Rattle.action_terms.specs.Meaning.{action_of}
 use Rattle.action_terms.specs.Acting.{Tree, Run, Ended, Par}
 use Rattle.action_terms.specs.Steps.{Effect, Silent, Commits, Allocates, Takes, Misses, Puts, Sends, Step, run_steps, open_steps}
-use Rattle.action_terms.proofs.Contexts.{wrap}
+use Rattle.action_terms.specs.Frames.{wrap}
 use Rattle.action_values.specs.Values.{data_of, bindings_of, storage_of, meant}
 use Rattle.action_sos.specs.Views.{end_of, frame_of}
 use Rattle.action_sos.specs.declared.ends.End.{End}

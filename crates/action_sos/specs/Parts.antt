@@ -4,7 +4,7 @@ use Rattle.action_terms.specs.Information.{World}
 use Rattle.action_terms.specs.Actions.{Action}
 use Rattle.action_terms.specs.Acting.{End, Fail, Done, Tree, Ended, Par}
 use Rattle.action_terms.specs.Steps.{TakesLeft, TakesRight, Step, at_letter, after_broken, open_steps}
-use Rattle.action_terms.proofs.Contexts.{Frame, InParLeft, InParRight, InTail, wrap, shut_if, framed}
+use Rattle.action_terms.specs.Frames.{Frame, InParLeft, InParRight, InTail, wrap, shut_if, framed}
 
 -- what stands within the frames of a part: a tree that runs or has ended, or the two parts of node k, which are parts of their own
 pub data Focus : Type 0 where

@@ -4,7 +4,7 @@ use Rattle.action_terms.specs.Actions.{Action}
 use Rattle.action_terms.specs.Acting.{Ended}
 use Rattle.action_terms.specs.Steps.{Step, commits}
 use Rattle.action_terms.specs.Sound.{IsSoundTree}
-use Rattle.action_terms.proofs.Contexts.{Frame, shut_if}
+use Rattle.action_terms.specs.Frames.{Frame, shut_if}
 use Rattle.action_sos.specs.Parts.{Focus, Leaf, Parts, Part as PartMeant, inside, spans}
 use Rattle.action_sos.specs.Views.{end_of, frame_of, part_of}
 use Rattle.action_sos.specs.Kept.{IsCounted}

@@ -2,7 +2,7 @@
 use Rattle.std.specs.Prelude.{ℕ, zero, suc, true, List, [], ◌∷◌, ◌++◌, map}
 use Rattle.action_terms.specs.Acting.{End as EndMeant, Done, Esc, Fail, Run, Ended}
 use Rattle.action_values.specs.Values.{data_of, bindings_of}
-use Rattle.action_terms.proofs.Contexts.{Frame as FrameMeant, InCalled, InParLeft, InParRight, InFirst, InSecond, InOr, InCut, InTrap, InOver, shut_if}
+use Rattle.action_terms.specs.Frames.{Frame as FrameMeant, InCalled, InParLeft, InParRight, InFirst, InSecond, InOr, InCut, InTrap, InOver, shut_if}
 use Rattle.action_sos.specs.Parts.{Focus as FocusMeant, Leaf, Parts, Part as PartMeant}
 use Rattle.action_sos.specs.declared.ends.End.{End}
 use Rattle.action_sos.specs.declared.ends.End.TheVariants as end

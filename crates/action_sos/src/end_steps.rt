@@ -6,7 +6,7 @@ ghost use Rattle.action_terms.specs.Actions.{Stray, node_at};
 ghost use Rattle.action_terms.specs.Steps.{Silent, second_part, after_first, after_second, after_or, after_trap, after_over};
 ghost use Rattle.action_terms.specs.Proper.{IsProper};
 ghost use Rattle.action_terms.specs.Sound.{IsBoth, IsPhases, IsTrapping, IsSoundTree};
-ghost use Rattle.action_terms.proofs.Contexts.{wrap};
+ghost use Rattle.action_terms.specs.Frames.{wrap};
 ghost use Rattle.action_values.specs.Values.{bindings_of};
 ghost use Rattle.action_sos.specs.Views.{frame_of, end_of};
 ghost use Rattle.action_sos.specs.Moves.{action_in, given_of, bound_of, next_tree, IsStepAt, ended_steps};

@@ -1,6 +1,6 @@
 //! A part of an acting tree that runs, and the frames around it.
 ghost use Rattle.std.specs.Prelude.{◌≡◌, ◌+◌, ◌<◌, ◌≤◌, [], ◌∷◌, ◌++◌, true, length, map, reverse, IfOk, IfSome, IfNone};
-ghost use Rattle.action_terms.proofs.Contexts.{shut_if};
+ghost use Rattle.action_terms.specs.Frames.{shut_if};
 ghost use Rattle.action_sos.specs.Parts.{closes, IsBesideEnd, IsBroken};
 ghost use Rattle.action_sos.specs.Views.{frame_of, focus_of, end_of, part_of};
 ghost use Rattle.action_sos.specs.Kept.{own_count, IsCounted, IsBrokenOff};

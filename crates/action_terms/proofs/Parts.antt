@@ -4,17 +4,20 @@ use Rattle.action_terms.specs.Information.{World}
 use Rattle.action_terms.specs.Actions.{Action, node_at}
 use Rattle.action_terms.specs.Acting.{End, Done, Esc, Fail, Tree, Ended, Par}
 use Rattle.action_terms.specs.Steps.{Letter, InLeft, InRight, Joins, TakesLeft, TakesRight, Step, silent, commits, world_after, after_both, after_broken, on_side, at_letter, open_steps}
+use Rattle.action_terms.specs.Need.{Sizes, units}
 use Rattle.action_terms.specs.Performances.{OneOf, Here, IsPart}
-use Rattle.action_terms.proofs.Contexts.{Frame, InParLeft, InParRight, InOr, InTrap, InTail, wrap, plug, plugged, shut_all, shut_all-false, of_right, open-plug}
+use Rattle.action_terms.specs.Frames.{Frame, InParLeft, InParRight, InOr, InTrap, InTail, wrap, plug, plugged, shut_all}
+use Rattle.action_terms.proofs.Contexts.{shut_all-false, of_right, open-plug}
 
 -- the steps lead to the tree and the world
 abbrev pub Reaches : Action → List ℤ → List Step → Tree → World → Type 0
 Reaches a input steps t w = IsPart a input steps (record { tree = t; world = w })
 
--- some part, at least as long as these steps, leads there
-pub record ReachesLater (a : Action) (input : List ℤ) (steps : List Step) (t : Tree) (w : World) : Type 0 where
+-- some part leads there, at least as long as these steps, and it spends at least their units
+pub record RisesTo (a : Action) (input : List ℤ) (steps : List Step) (t : Tree) (w : World) : Type 0 where
   pub all : List Step
   pub more : length steps ≤ length all
+  pub spent : (m : Sizes) → units m steps ≤ units m all
   pub reached : Reaches a input all t w
 
 -- a step that does nothing beside the tree, wherever it is made
@@ -72,17 +75,17 @@ module _ (a : Action) (input : List ℤ) where
   reaches-quiet steps fs l t t' w p h =
       subst (λ fs'. Reaches a input (plugged fs (quiet l t') ∷ steps) (plug fs' t') w) (shut_all-false fs) (reaches-within steps fs t w (quiet l t') p h)
 
-  rises-one : (steps : List Step) (fs : List Frame) (f : Frame) (z : End) (w : World) → Passes z f → Reaches a input steps (plug fs (wrap f (Ended z))) w → ReachesLater a input steps (plug fs (Ended z)) w
+  rises-one : (steps : List Step) (fs : List Frame) (f : Frame) (z : End) (w : World) → Passes z f → Reaches a input steps (plug fs (wrap f (Ended z))) w → RisesTo a input steps (plug fs (Ended z)) w
   rises-one steps fs f z w p r =
       ⊎_elim
-      (λ e. record { all = steps; more = le_refl (length steps); reached = subst (λ x. Reaches a input steps (plug fs x) w) e r })
-      (λ o. record { all = plugged fs (quiet o.0 (Ended z)) ∷ steps; more = omega arith; reached = reaches-quiet steps fs o.0 (wrap f (Ended z)) (Ended z) w r o.1 })
+      (λ e. record { all = steps; more = le_refl (length steps); spent = λ m. le_refl (units m steps); reached = subst (λ x. Reaches a input steps (plug fs x) w) e r })
+      (λ o. record { all = plugged fs (quiet o.0 (Ended z)) ∷ steps; more = omega arith; spent = λ m. omega arith; reached = reaches-quiet steps fs o.0 (wrap f (Ended z)) (Ended z) w r o.1 })
       (end-rises a w z f p)
 
   -- an end goes up through inner frames that it passes
-  pub reaches-rise : (steps : List Step) (inner outer : List Frame) (z : End) (w : World) → EachPasses z inner → Reaches a input steps (plug (inner ++ outer) (Ended z)) w → ReachesLater a input steps (plug outer (Ended z)) w
-  reaches-rise steps [] outer z w p r = record { all = steps; more = le_refl (length steps); reached = r }
+  pub reaches-rise : (steps : List Step) (inner outer : List Frame) (z : End) (w : World) → EachPasses z inner → Reaches a input steps (plug (inner ++ outer) (Ended z)) w → RisesTo a input steps (plug outer (Ended z)) w
+  reaches-rise steps [] outer z w p r = record { all = steps; more = le_refl (length steps); spent = λ m. le_refl (units m steps); reached = r }
   reaches-rise steps (f ∷ inner) outer z w p r =
       let one = rises-one steps (inner ++ outer) f z w p.0 r in
       let rest = reaches-rise one.all inner outer z w p.1 one.reached in
-      record { all = rest.all; more = le_trans one.more rest.more; reached = rest.reached }
+      record { all = rest.all; more = le_trans one.more rest.more; spent = λ m. le_trans (one.spent m) (rest.spent m); reached = rest.reached }

@@ -5,6 +5,7 @@ pub mod Yielding
 pub mod Acting
 pub mod Steps
 pub mod Performances
+pub mod Frames
 pub mod Sound
 pub mod Need
 pub mod Labels

@@ -5,7 +5,7 @@ use Rattle.rv_asm.specs.DataWords.{Heap}
 use Rattle.action_terms.specs.Information.{Binds, Data}
 use Rattle.action_terms.specs.Actions.{Join, Chain, Furthermore, Both, Phases, Either, Trapping, node_at}
 use Rattle.action_terms.specs.Acting.{Done, Tree, Run, Ended}
-use Rattle.action_terms.proofs.Contexts.{Frame, InCalled, InParLeft, InParRight, InFirst, InSecond, InOr, InCut, InTrap, InOver, InTail}
+use Rattle.action_terms.specs.Frames.{Frame, InCalled, InParLeft, InParRight, InFirst, InSecond, InOr, InCut, InTrap, InOver, InTail}
 use Rattle.rv_codegen.proofs.BindTables.{LeavesBinds, Binds_in}
 use Rattle.rv_codegen.proofs.Holding.{word_at, Holds, HoldsBinds, Apart, ApartSlots}
 use Rattle.rv_codegen.proofs.NodeParts.{IsPartOf, IsTailOf, Calls, KeepsRecord}

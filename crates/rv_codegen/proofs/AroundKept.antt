@@ -5,7 +5,7 @@ use Rattle.rv_asm.specs.DataWords.{Heap}
 use Rattle.action_terms.specs.Information.{Binds, Data}
 use Rattle.action_terms.specs.Actions.{Node, Furthermore, Both, Phases, Either, Trapping, node_at}
 use Rattle.action_terms.specs.Acting.{Done, Tree, Run, Ended}
-use Rattle.action_terms.proofs.Contexts.{Frame, InCalled, InParLeft, InParRight, InFirst, InSecond, InOr, InCut, InTrap, InOver, InTail, shut_all}
+use Rattle.action_terms.specs.Frames.{Frame, InCalled, InParLeft, InParRight, InFirst, InSecond, InOr, InCut, InTrap, InOver, InTail, shut_all}
 use Rattle.rv_codegen.proofs.Around.{Chains, committed, IsPlaced, IsOther, Given, Receives, Leaves, BindsLeft, Kept, Around}
 use Rattle.rv_codegen.proofs.Holding.{word_at, Apart, ApartSlots, apart-fewer, apart-fewer_slots, Grows, holds-kept, holds-kept_binds}
 use Rattle.rv_codegen.proofs.NodeParts.{IsPartOf, KeepsRecord, tail-part, part-at}

@@ -7,7 +7,7 @@ use Rattle.action_terms.specs.Actions.{node_at}
 use Rattle.action_terms.specs.Acting.{Done, Ended}
 use Rattle.action_terms.specs.Performances.{OneOf}
 use Rattle.action_terms.specs.Steps.{Letter, open_steps}
-use Rattle.action_terms.proofs.Contexts.{Frame, wrap, plugged}
+use Rattle.action_terms.specs.Frames.{Frame, wrap, plugged}
 use Rattle.action_terms.proofs.Parts.{quiet, reaches-quiet}
 use Rattle.rv_codegen.proofs.Around.{Leaves, BindsLeft, Around}
 use Rattle.rv_codegen.proofs.Configurations.{depth, performances}

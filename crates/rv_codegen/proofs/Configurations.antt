@@ -6,7 +6,8 @@ use Rattle.action_terms.specs.Acting.{Done, Esc, Fail, Tree, Run, Ended}
 use Rattle.action_terms.specs.Need.{Passes}
 use Rattle.action_terms.specs.Performances.{messages_bytes}
 use Rattle.action_terms.specs.Steps.{Step}
-use Rattle.action_terms.proofs.Contexts.{Frame, InParLeft, InParRight, InOr, InTail, plug, shut_if, shut_all, shut_all-false}
+use Rattle.action_terms.specs.Frames.{Frame, InParLeft, InParRight, InOr, InTail, plug, shut_if, shut_all}
+use Rattle.action_terms.proofs.Contexts.{shut_all-false}
 use Rattle.action_terms.proofs.Parts.{Reaches}
 use Rattle.rv_codegen.proofs.Settings.{Setting}
 

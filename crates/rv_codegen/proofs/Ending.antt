@@ -11,7 +11,7 @@ use Rattle.action_terms.specs.Actions.{Complete, Failing, Simple, node_at}
 use Rattle.action_terms.specs.Acting.{Tree}
 use Rattle.action_terms.specs.Performances.{Here}
 use Rattle.action_terms.specs.Steps.{silent, done, failed}
-use Rattle.action_terms.proofs.Contexts.{plugged}
+use Rattle.action_terms.specs.Frames.{plugged}
 use Rattle.rv_codegen.specs.Blocks.{fail_label, front_of, start_of, opening, leaves}
 use Rattle.rv_codegen.proofs.Around.{BindsLeft}
 use Rattle.rv_codegen.proofs.Holding.{Holds, HoldsBinds, grows-same}

@@ -6,7 +6,7 @@ use Rattle.action_terms.specs.Actions.{Join, Both, node_at}
 use Rattle.action_terms.specs.Acting.{Done, End, Tree, Run, Ended, Par}
 use Rattle.action_terms.specs.Performances.{OneOf, Here}
 use Rattle.action_terms.specs.Steps.{Joins, TakesLeft, TakesRight, silent, at_letter, after_broken, joined, joined_parts, open_steps}
-use Rattle.action_terms.proofs.Contexts.{Frame, InParLeft, InParRight, wrap, plug, plugged}
+use Rattle.action_terms.specs.Frames.{Frame, InParLeft, InParRight, wrap, plug, plugged}
 use Rattle.action_terms.proofs.Parts.{Reaches, quiet, reaches-quiet}
 use Rattle.rv_codegen.specs.Blocks.{start_of}
 use Rattle.rv_codegen.proofs.Around.{LeftFrame, RightFrame, InOrder, Given, Receives, Around}

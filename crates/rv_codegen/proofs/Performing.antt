@@ -13,7 +13,8 @@ use Rattle.action_terms.specs.Acting.{Done, Tree, Run, Ended}
 use Rattle.action_terms.specs.Need.{effect_units, closures_units}
 use Rattle.action_terms.specs.Performances.{OneOf, messages_bytes}
 use Rattle.action_terms.specs.Steps.{Step, commits, world_after, failed, open_steps}
-use Rattle.action_terms.proofs.Contexts.{Frame, plug, plugged, shut_all, shut_all-false, open-plug}
+use Rattle.action_terms.specs.Frames.{Frame, plug, plugged, shut_all}
+use Rattle.action_terms.proofs.Contexts.{shut_all-false, open-plug}
 use Rattle.action_terms.proofs.Parts.{Reaches, reaches-within}
 use Rattle.rv_codegen.proofs.Around.{Chains, committed, Leaves, BindsLeft, Around}
 use Rattle.rv_codegen.proofs.AroundKept.{Agrees, around-kept, around-shut}

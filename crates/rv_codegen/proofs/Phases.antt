@@ -7,7 +7,7 @@ use Rattle.action_terms.specs.Actions.{Chain, AndThen, Then, Hence, Before, Phas
 use Rattle.action_terms.specs.Acting.{Done, Fail, Run, Ended, First, Second}
 use Rattle.action_terms.specs.Performances.{OneOf, Here}
 use Rattle.action_terms.specs.Steps.{silent, second_part, chained_parts, handed_data, handed_binds, chained, united, open_steps}
-use Rattle.action_terms.proofs.Contexts.{InFirst, InSecond, plugged}
+use Rattle.action_terms.specs.Frames.{InFirst, InSecond, plugged}
 use Rattle.action_terms.proofs.Parts.{reaches-quiet}
 use Rattle.rv_codegen.specs.Blocks.{start_of}
 use Rattle.rv_codegen.proofs.Around.{FirstFrame, SecondFrame, Given, Leaves, BindsLeft}

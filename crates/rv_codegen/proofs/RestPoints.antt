@@ -12,7 +12,7 @@ use Rattle.action_terms.specs.Acting.{Done, Esc, Fail, Tree, Run, Ended}
 use Rattle.action_terms.specs.Need.{units, node_yielder_count}
 use Rattle.action_terms.specs.Performances.{OneOf, messages_bytes}
 use Rattle.action_terms.specs.Steps.{Step, run_steps, open_steps}
-use Rattle.action_terms.proofs.Contexts.{Frame, plug, wrap}
+use Rattle.action_terms.specs.Frames.{Frame, plug, wrap}
 use Rattle.action_terms.proofs.Parts.{Reaches}
 use Rattle.rv_codegen.proofs.Around.{Chains, IsPlaced, InOrder, Shares, HandsOver, Given, Receives, Leaves, BindsLeft, Around}
 use Rattle.rv_codegen.proofs.BindTables.{ChainBinds, JoinBinds}

@@ -26,7 +26,7 @@ use Rattle.action_terms.specs.Acting.{End, Done, Esc, Fail, Tree, Run, Ended}
 use Rattle.action_terms.specs.Need.{Passes, node_yielder_count}
 use Rattle.action_terms.specs.Performances.{messages_bytes, records}
 use Rattle.action_terms.specs.Steps.{Step}
-use Rattle.action_terms.proofs.Contexts.{Frame, plug}
+use Rattle.action_terms.specs.Frames.{Frame, plug}
 use Rattle.action_terms.proofs.Parts.{Reaches}
 use Rattle.rv_codegen.specs.Blocks.{end_label, action_items}
 use Rattle.rv_codegen.specs.RightImage.{compiled_image, Subject, SomeEnd, ShowsExit, Shows}

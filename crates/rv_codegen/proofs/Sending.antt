@@ -15,7 +15,7 @@ use Rattle.action_terms.specs.Actions.{NumberLiteral, Send, Simple, node_at}
 use Rattle.action_terms.specs.Need.{node_yielder_count}
 use Rattle.action_terms.specs.Performances.{Here}
 use Rattle.action_terms.specs.Steps.{Sends as SendsEffect, with_effect, done}
-use Rattle.action_terms.proofs.Contexts.{plugged}
+use Rattle.action_terms.specs.Frames.{plugged}
 use Rattle.rv_codegen.specs.Blocks.{send_label, start_of, stop_of, opening, leaves, sends, send_entry}
 use Rattle.rv_codegen.proofs.AroundKept.{frames-high}
 use Rattle.rv_codegen.proofs.Ending.{LeavesNone, binds-none, leaves-stand}

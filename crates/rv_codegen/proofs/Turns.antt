@@ -14,7 +14,7 @@ use Rattle.action_terms.specs.Actions.{NumberLiteral, And, AndThen, Primitive, C
 use Rattle.action_terms.specs.Acting.{Done, End, Esc, Fail, Tree, Run, Ended}
 use Rattle.action_terms.specs.Performances.{messages_bytes}
 use Rattle.action_terms.specs.Steps.{Step, failed}
-use Rattle.action_terms.proofs.Contexts.{Frame, InCalled, InParLeft, InParRight, InFirst, InSecond, InOr, InCut, InTrap, InOver, InTail, plug}
+use Rattle.action_terms.specs.Frames.{Frame, InCalled, InParLeft, InParRight, InFirst, InSecond, InOr, InCut, InTrap, InOver, InTail, plug}
 use Rattle.action_terms.proofs.Parts.{Reaches, EachPasses, reaches-rise}
 use Rattle.rv_codegen.specs.Blocks.{send_label, stop_of, send_entry}
 use Rattle.rv_codegen.specs.Works.{is_built_node}

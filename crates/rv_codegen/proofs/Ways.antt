@@ -6,7 +6,7 @@ use Rattle.rv_asm.proofs.Moments.{quiet-advance}
 use Rattle.action_terms.specs.Acting.{Tree}
 use Rattle.action_terms.specs.Performances.{messages_bytes}
 use Rattle.action_terms.specs.Steps.{Step}
-use Rattle.action_terms.proofs.Contexts.{Frame, plug}
+use Rattle.action_terms.specs.Frames.{Frame, plug}
 use Rattle.action_terms.proofs.Parts.{Reaches}
 use Rattle.rv_codegen.proofs.Configurations.{Configuration, depth, performances, pending, leaving}
 use Rattle.rv_codegen.proofs.InputLeft.{Left, left-same}

@@ -1,5 +1,5 @@
 use Rattle.std.proofs.Common.{◌≡◌, ◌+◌, ◌<◌, List, ◌++◌, length}
-use Rattle.action_terms.proofs.Contexts.{Frame}
+use Rattle.action_terms.specs.Frames.{Frame}
 use Rattle.action_sos.specs.Parts.{frames_steps}
 use Rattle.action_sos.specs.Views.{part_of}
 use Rattle.action_sos.specs.Kept.{IsCounted}
