@@ -6,6 +6,7 @@ use Rattle.action_terms.specs.Labels.{AnAction, operand_lengths}
 use Rattle.action_terms.specs.Numbering.{ListedNode, ListedYielder, Listed, action_count, nodes_of, yielders_of, IsGraph}
 use Rattle.action_terms.specs.Actions.{Yielder, NumberLiteral, Item, Single, And, AndThen, Complete, Failing, Send, Simple, Both, Phases, Node, Stray, node_or_stray, node_at}
 use Rattle.action_terms.specs.Meaning.{item_of, item_or_them, picked, items_from, node_of, node_with, action_of}
+use Rattle.action_terms.specs.declared.kinds.Kind.{Kind}
 use Rattle.action_terms.specs.declared.kinds.Kind.TheVariants as kind
 use Rattle.action_terms.specs.declared.kinds.YKind.TheVariants as ykind
 use Rattle.action_terms.proofs.Each.{Each-at_first}
@@ -13,7 +14,8 @@ use Rattle.action_terms.proofs.NodeCounts.{length-nodes_of, length-yielders_of, 
 use Rattle.action_terms.proofs.ChildrenLaws.{Sits, sits-tree, child_count}
 use Rattle.action_terms.proofs.ParentLaws.{OneParent, one_parent-tree}
 use Rattle.action_terms.proofs.SoundNodes.{never_stray-tree}
-use Rattle.action_terms.proofs.NodeForms.{and_form, and_then_form, send_form}
+use Rattle.action_terms.proofs.NodeForms.{Wanted, wanted}
+use Rattle.action_terms.proofs.OperandItems.{operand_items, only_number}
 
 -- each node stands well, and isn't stray
 sits : (g : Listed) (w : IsGraph g) (k : ℕ) (n : ListedNode) → slice_get g.nodes k ≡ Some n → Sits (length g.nodes) (length g.yielders) k n
@@ -91,32 +93,45 @@ never_stray g w k within =
     let P : Node → Type 0 = λ n. n ≢ Stray in
     subst P (sym (node_at-action_of g k found.0 found.1)) (node_with-sound g w k found.0 found.1)
 
+-- what is listed, and the node of the meaning, where the kind is known
+pub wanted_at : (g : Listed) → IsGraph g → (k : ℕ) (n : ListedNode) (m : Kind) → slice_get g.nodes k ≡ Some n → n.kind ≡ m → Wanted m n.children (operand_items g.yielders n)
+wanted_at g w k n m at is =
+    subst (λ x. Wanted x n.children (operand_items g.yielders n)) is (wanted n.kind n.token n.body n.children (operand_items g.yielders n) (node_with-sound g w k n at))
+
+pub node_at-kind : (g : Listed) (k : ℕ) (n : ListedNode) (m : Kind) → slice_get g.nodes k ≡ Some n → n.kind ≡ m → node_at (action_of g) k ≡ node_of m n.token n.body n.children (operand_items g.yielders n)
+node_at-kind g k n m at is = node_at-action_of g k n at ∙ ap (λ x. node_of x n.token n.body n.children (operand_items g.yielders n)) is
+
 -- the nodes of some kinds
 pub node_at-and : (g : Listed) → IsGraph g → (k : ℕ) (n : ListedNode) → slice_get g.nodes k ≡ Some n → n.kind ≡ kind.And → (l : ℕ) × (r : ℕ) × (n.children ≡ l ∷ r ∷ []) × (node_at (action_of g) k ≡ Both And l r)
 node_at-and g w k n at is =
-    let form = and_form (items_from 0 g.yielders) n is (node_with-sound g w k n at) in
-    (form.0, form.1, form.2, node_at-action_of g k n at ∙ form.3)
+    let h = wanted_at g w k n kind.And at is in
+    (h.0, h.1, h.2, node_at-kind g k n kind.And at is ∙ ap (λ ps. node_of kind.And n.token n.body ps (operand_items g.yielders n)) h.2)
 
 pub node_at-and_then : (g : Listed) → IsGraph g → (k : ℕ) (n : ListedNode) → slice_get g.nodes k ≡ Some n → n.kind ≡ kind.AndThen → (l : ℕ) × (r : ℕ) × (n.children ≡ l ∷ r ∷ []) × (node_at (action_of g) k ≡ Phases AndThen l r)
 node_at-and_then g w k n at is =
-    let form = and_then_form (items_from 0 g.yielders) n is (node_with-sound g w k n at) in
-    (form.0, form.1, form.2, node_at-action_of g k n at ∙ form.3)
+    let h = wanted_at g w k n kind.AndThen at is in
+    (h.0, h.1, h.2, node_at-kind g k n kind.AndThen at is ∙ ap (λ ps. node_of kind.AndThen n.token n.body ps (operand_items g.yielders n)) h.2)
 
 pub node_at-complete : (g : Listed) (k : ℕ) (n : ListedNode) → slice_get g.nodes k ≡ Some n → n.kind ≡ kind.Complete → node_at (action_of g) k ≡ Simple Complete
-node_at-complete g k n at is =
-    node_at-action_of g k n at ∙ ap (λ m. node_of m n.token n.body n.children (map (picked 0 (items_from 0 g.yielders)) n.operands)) is
+node_at-complete g k n at is = node_at-kind g k n kind.Complete at is
 
 pub node_at-fail : (g : Listed) (k : ℕ) (n : ListedNode) → slice_get g.nodes k ≡ Some n → n.kind ≡ kind.Fail → node_at (action_of g) k ≡ Simple Failing
-node_at-fail g k n at is =
-    node_at-action_of g k n at ∙ ap (λ m. node_of m n.token n.body n.children (map (picked 0 (items_from 0 g.yielders)) n.operands)) is
+node_at-fail g k n at is = node_at-kind g k n kind.Fail at is
 
 -- the datum that a `send` sends is the item of its one yielder
 pub node_at-send : (g : Listed) → IsGraph g → (k : ℕ) (n : ListedNode) → slice_get g.nodes k ≡ Some n → n.kind ≡ kind.Send
     → (y : ℕ) × (e : Yielder) × (n.operands ≡ (y ∷ []) ∷ []) × (y < length g.yielders) × (item_or_them (slice_get (items_from 0 g.yielders) y) ≡ Single e) × (node_at (action_of g) k ≡ Simple (Send e))
 node_at-send g w k n at is =
-    let form = send_form (items_from 0 g.yielders) n is (node_with-sound g w k n at) in
-    let first : slice_get n.operands 0 ≡ Some (form.0 ∷ []) = ap (λ os. slice_get os 0) form.2 in
-    (form.0, form.1, form.2, operand_within g w k 0 0 form.0 n (form.0 ∷ []) at first refl, form.3, node_at-action_of g k n at ∙ form.4)
+    let h = wanted_at g w k n kind.Send at is in
+    let one = only_number (items_from 0 g.yielders) n.operands (Single h.0) h.1 in
+    let first : slice_get n.operands 0 ≡ Some (one.0 ∷ []) = ap (λ os. slice_get os 0) one.1 in (
+      one.0,
+      h.0,
+      one.1,
+      operand_within g w k 0 0 one.0 n (one.0 ∷ []) at first refl,
+      one.2,
+      node_at-kind g k n kind.Send at is ∙ ap (node_of kind.Send n.token n.body n.children) h.1,
+    )
 
 items_from-at : (y k : ℕ) (ls : List ListedYielder) (l : ListedYielder) → slice_get ls k ≡ Some l → (args : List Item) × (slice_get (items_from y ls) k ≡ Some (item_of l.kind l.token l.body args))
 items_from-at y k [] l at = cc

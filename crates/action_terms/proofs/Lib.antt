@@ -25,8 +25,14 @@ pub mod ParentLaws
 pub mod ItemLaws
 pub mod SoundNodes
 pub mod NodeForms
+pub mod OperandItems
+pub mod ReadNodes
 pub mod GraphLaws
 pub mod ProperYielders
 pub mod ProperBodies
 pub mod ProperNodes
 pub mod ProperGraphs
+pub mod ItemsAt
+pub mod YielderLaws
+pub mod ReadYielders
+pub mod ReadGraphs

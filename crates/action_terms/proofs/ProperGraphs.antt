@@ -21,12 +21,12 @@ tree_fills g w =
     let count = ap (λ l. length l.nodes) w.1.numbered ∙ length-nodes_of None 0 0 w.0 in omega arith
 
 -- the bodies of nodes and of closures are nodes of the graph
-node_bodies : (g : Listed) → IsGraph g → All (λ n. n.body < length g.nodes) g.nodes
+pub node_bodies : (g : Listed) → IsGraph g → All (λ n. n.body < length g.nodes) g.nodes
 node_bodies g w =
     let P : Listed → Type 0 = λ l. All (λ n. n.body < length g.nodes) l.nodes in
     subst P (sym w.1.numbered) (node_bodies-tree w.0 AnAction None 0 0 (length g.nodes) w.1.action (length-nodes_some g w) tt (tree_fills g w))
 
-yielder_bodies : (g : Listed) → IsGraph g → All (λ l. l.body < length g.nodes) g.yielders
+pub yielder_bodies : (g : Listed) → IsGraph g → All (λ l. l.body < length g.nodes) g.yielders
 yielder_bodies g w =
     let P : Listed → Type 0 = λ l. All (λ y. y.body < length g.nodes) l.yielders in
     subst P (sym w.1.numbered) (yielder_bodies-tree w.0 AnAction 0 0 (length g.nodes) w.1.action (length-nodes_some g w) (tree_fills g w))

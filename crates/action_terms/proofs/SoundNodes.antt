@@ -17,7 +17,7 @@ use Rattle.action_terms.proofs.NodeCounts.{length-nodes_of, length-yielders_of}
 use Rattle.action_terms.proofs.RootCounts.{length-action_roots_under}
 use Rattle.action_terms.proofs.ItemLaws.{items_in, at_least-from, yielder_roots-at_least, picked-behind, picked-trees}
 
-abbrev IsSingle : Item → Type 0
+abbrev pub IsSingle : Item → Type 0
 IsSingle (Single e) = Unit {0}
 IsSingle Them = ⊥
 
@@ -26,7 +26,7 @@ IsClosureItem (Single (ClosureOf c)) = Unit {0}
 IsClosureItem _ = ⊥
 
 -- the items are those that the places want, which no action gives
-abbrev ItemsFit : List Wanted → List Item → Type 0
+abbrev pub ItemsFit : List Wanted → List Item → Type 0
 ItemsFit [] [] = Unit {0}
 ItemsFit [] (i ∷ is) = ⊥
 ItemsFit (AnAction ∷ xs) is = ItemsFit xs is
@@ -38,13 +38,13 @@ ItemsFit (AClosure ∷ xs) [] = ⊥
 ItemsFit (AClosure ∷ xs) (i ∷ is) = IsClosureItem i × ItemsFit xs is
 
 -- the forms of the items that some places want
-one_single : (is : List Item) → ItemsFit (AYielder ∷ []) is → (e : Yielder) × (is ≡ Single e ∷ [])
+pub one_single : (is : List Item) → ItemsFit (AYielder ∷ []) is → (e : Yielder) × (is ≡ Single e ∷ [])
 one_single [] h = elim h [ ]
 one_single (Single e ∷ []) h = (e, refl)
 one_single (Them ∷ is) h = elim h.0 [ ]
 one_single (Single e ∷ i ∷ is) h = elim h.1 [ ]
 
-two_singles : (is : List Item) → ItemsFit (AYielder ∷ AYielder ∷ []) is → (e : Yielder) × (f : Yielder) × (is ≡ Single e ∷ Single f ∷ [])
+pub two_singles : (is : List Item) → ItemsFit (AYielder ∷ AYielder ∷ []) is → (e : Yielder) × (f : Yielder) × (is ≡ Single e ∷ Single f ∷ [])
 two_singles [] h = elim h [ ]
 two_singles (Them ∷ is) h = elim h.0 [ ]
 two_singles (Single e ∷ is) h = let r = one_single is h.1 in (e, r.0, ap (λ l. Single e ∷ l) r.1)
@@ -175,7 +175,7 @@ sound kind.Branch n tk c roots is count h =
     subst P (sym r.2) (subst Q (sym q.1) (λ e. cc))
 
 -- the yielders of a node, as items, among all that a graph has
-picked-among : (front ls all : List ListedYielder) (ts : Trees) (a y : ℕ) → length front ≡ y → all ≡ front ++ (yielders_of_all a y ts ++ ls) → picked 0 (items_from 0 all) (yielder_roots y ts) ≡ items_in a ts
+pub picked-among : (front ls all : List ListedYielder) (ts : Trees) (a y : ℕ) → length front ≡ y → all ≡ front ++ (yielders_of_all a y ts ++ ls) → picked 0 (items_from 0 all) (yielder_roots y ts) ≡ items_in a ts
 picked-among front ls all ts a y is split =
     let zero-first : 0 + y ≡ y = omega arith in
     let P : ℕ → Type 0 = λ m. picked 0 (items_from 0 (front ++ (yielders_of_all a y ts ++ ls))) (yielder_roots y ts) ≡ picked m (items_from m (yielders_of_all a y ts ++ ls)) (yielder_roots y ts) in

@@ -14,6 +14,8 @@ pub mod Numbering
 pub mod Meaning
 pub mod Proper
 pub mod Nodes
+pub mod Forms
+pub mod ByKind
 pub mod Places
 pub mod Pushed
 pub mod Entries

@@ -9,8 +9,10 @@ pub mod kinds;
 mod linking;
 mod places;
 pub mod pushed;
+pub mod view;
 
 pub use builder::GraphBuilder;
 pub use graph::{Graph, GraphError, Node, YNode};
 pub use kinds::{Kind, Sort, YKind};
 pub use pushed::{NewAction, NewYielder};
+pub use view::{Chain, Join, NodeView, One, PrimitiveView, Two, YielderView};
