@@ -63,7 +63,7 @@ module _ (s : Setting) where
           region = h.region;
           agrees = record { here = λ o no. refl; below = λ j l lt. refl };
           units_are = units-more s h.heap h.words (plugged x.frames n) x.steps x.world.cells h.units_are;
-          left = left-same g.input x.left;
+          left = left-same {ys = g.end.input} g.input x.left;
           output = g.output ∙ x.shown;
         }
 

@@ -148,7 +148,7 @@ module _ (x : Subject) (ok : IsCompilable x.action) (labels : LabelsStand (actio
             receives = tt;
           };
           shown = s2.output;
-          left = left-same s2.input (refl, are-bytes input bytes);
+          left = left-same {ys = s2.to.input} s2.input (refl, are-bytes input bytes);
         };
         quiet = s2.output;
       }

@@ -115,7 +115,7 @@ module _ (s : Setting) where
           region = record { size = length-set h.words 0 word ∙ h.region.size; alternative = λ o. absurd (closed o); trap = λ o. absurd (closed o); mark = λ o. absurd (closed o) };
           agrees = record { here = λ o no. word-kept word (h.f + o) (omega (arith, high)); below = λ j l lt. word-kept word j (omega arith) };
           units_are = units-kept s h.heap h.words (sent_words word) x.steps (step ∷ x.steps) x.world.cells (λ j out. word-kept word j (⊎_elim (λ o. omega (arith, o.0)) (λ o. omega arith) out)) (omega arith) h.units_are;
-          left = left-same (g.input ∙ sent.input) x.left;
+          left = left-same {ys = g.end.input} (g.input ∙ sent.input) x.left;
           output = g.output ∙ sent.output ∙ ap₂ ◌++◌ x.shown (bytes_of-message z) ∙ sym (messages_bytes-append x.world.output z);
         }
       where

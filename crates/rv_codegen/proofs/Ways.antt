@@ -38,7 +38,7 @@ module _ (s : Setting) (laid : Laid s) where
         runs = g.runs;
         quiet = g.output;
         output = g.output ∙ x.shown;
-        related = record { rests = x.rests g; shown = g.output ∙ x.shown; left = left-same g.input x.left };
+        related = record { rests = x.rests g; shown = g.output ∙ x.shown; left = left-same {ys = g.end.input} g.input x.left };
         reached = x.reached;
         paid = omega (arith, g.few, x.paid);
       }))

@@ -1,18 +1,21 @@
 -- What an action of the built kinds is measured by: all data and bindings of its nodes are empty.
-use Rattle.std.specs.Prelude.{ℕ, ◌+◌, ◌*◌, [], length}
+use Rattle.std.specs.Prelude.{ℕ, ◌+◌, length}
 use Rattle.action_terms.specs.Actions.{Action}
 use Rattle.action_terms.specs.Need.{Sizes, most_yielders, factor}
 use Rattle.action_terms.specs.Numbering.{Listed}
 use Rattle.action_terms.specs.Meaning.{action_of}
+use Rattle.sort_rules.specs.Measures.{sizes}
+use Rattle.sort_rules.specs.Parts.{Unreached}
+use Rattle.sort_rules.specs.Tables.{MarkedTable}
 use Rattle.rv_codegen.specs.RightImage.{Subject}
 
--- the slots of a procedure with so many nodes, all of whose data and bindings are empty
-abbrev pub empty_slots : ℕ → ℕ
-empty_slots nodes = 32 + 8 * nodes
+-- the table of an action none of whose nodes has data or bindings
+abbrev pub empty_table : MarkedTable
+empty_table x = Unreached
 
--- the whole action is the main procedure: it has no body that is called
-abbrev pub sizes_of : Action → Sizes
-sizes_of a = record { main_slots = empty_slots (length a); slots = λ _. 0; captured = λ _. [] }
+-- the slots of each procedure, by the nodes that are its own: those of a body are the body's
+unfoldable pub sizes_of : Action → Sizes
+sizes_of a = sizes a empty_table
 
 -- no data and no bindings have a length above 0
 abbrev pub factor_of : Action → ℕ
