@@ -13,7 +13,7 @@ use Rattle.action_text.specs.ActionText.{Spells}
 use Rattle.action_text.specs.Answers.{IsTextOf, IsBadText, IsReadAs, IsTextError, token_bytes}
 use Rattle.action_text.specs.declared.errors.TextError.{TextError}
 use Rattle.action_text.specs.declared.errors.TextError.TheVariants as error
-use Rattle.action_text.proofs.OneTree.{one_action}
+use Rattle.action_text.proofs.ActionTemplates.{one_action}
 use Rattle.acg_driver.specs.declared.text.Refusal.{Refusal}
 use Rattle.acg_driver.specs.declared.text.Refusal.TheVariants as refusal
 use Rattle.acg_driver.specs.Answers.{action_limit, Errs, Reads, IsTextRefusal}

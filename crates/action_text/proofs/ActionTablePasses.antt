@@ -2,8 +2,8 @@
 use Rattle.std.proofs.Common.{◌≡◌, ℕ, Bool, true, false, List, [], ◌∷◌, ◌++◌, refl, get_or, codes, nat_eq, eqb-true}
 use Rattle.action_text.specs.declared.classes.TheConstants as class
 use Rattle.action_text.specs.Tables.{other_of}
-use Rattle.action_text.specs.ActionTable.{action_table, action_lines, action_others}
-use Rattle.action_text.specs.Classes.{class_of, words}
+use Rattle.action_text.specs.ActionTable.{table_in, class_in, lines_in, template_lines, action_lines, parameter_lines, action_others}
+use Rattle.meta_terms.specs.Words.{words}
 use Rattle.action_text.proofs.Starts.{Known, Starting, Choosing}
 use Rattle.action_text.proofs.Checked.{each, starts_of, right_is_safe, line_is_good, other_is_good, lines_are_good, others_are_good, starting, choosing, can_end, below, below_each, Ending, ending, Sampled}
 
@@ -35,6 +35,38 @@ firsts =
     ∷ (class.HASH ∷ [])
     ∷ (class.INTEGER ∷ class.TRUTH_VALUE ∷ class.CELL ∷ class.ABSTRACTION ∷ [])
     ∷ (class.CLOSURE ∷ [])
+    ∷ (class.QUOTED ∷ [])
+    ∷ []
+
+-- the same for templates
+abbrev template_firsts : List (List ℕ)
+template_firsts =
+    (class.COMPLETE ∷ class.FAIL ∷ class.COMMIT ∷ class.REGIVE ∷ class.REBIND ∷ class.UNFOLD ∷ class.OPEN_PAREN ∷ class.UNFOLDING ∷ class.FURTHERMORE ∷ class.ESCAPE ∷ class.GIVE ∷ class.CHECK ∷ class.BIND ∷ class.RECURSIVELY ∷ class.STORE ∷ class.ALLOCATE ∷ class.SEND ∷ class.RECEIVE ∷ class.ENACT ∷ class.FUNCTION ∷ [])
+    ∷ (class.OR ∷ class.THEN ∷ class.TRAP ∷ class.HENCE ∷ class.MOREOVER ∷ class.BEFORE ∷ class.AND ∷ [])
+    ∷ (class.THEN ∷ class.COMPLETE ∷ class.FAIL ∷ class.COMMIT ∷ class.REGIVE ∷ class.REBIND ∷ class.UNFOLD ∷ class.OPEN_PAREN ∷ class.UNFOLDING ∷ class.FURTHERMORE ∷ class.ESCAPE ∷ class.GIVE ∷ class.CHECK ∷ class.BIND ∷ class.RECURSIVELY ∷ class.STORE ∷ class.ALLOCATE ∷ class.SEND ∷ class.RECEIVE ∷ class.ENACT ∷ class.FUNCTION ∷ [])
+    ∷ (class.OR ∷ [])
+    ∷ (class.AND ∷ [])
+    ∷ (class.AND ∷ [])
+    ∷ (class.THEN ∷ [])
+    ∷ (class.TRAP ∷ [])
+    ∷ (class.HENCE ∷ [])
+    ∷ (class.MOREOVER ∷ [])
+    ∷ (class.BEFORE ∷ [])
+    ∷ (class.COMPLETE ∷ class.FAIL ∷ class.COMMIT ∷ class.REGIVE ∷ class.REBIND ∷ class.UNFOLD ∷ class.OPEN_PAREN ∷ class.UNFOLDING ∷ class.FURTHERMORE ∷ class.ESCAPE ∷ class.GIVE ∷ class.CHECK ∷ class.BIND ∷ class.RECURSIVELY ∷ class.STORE ∷ class.ALLOCATE ∷ class.SEND ∷ class.RECEIVE ∷ class.ENACT ∷ class.FUNCTION ∷ [])
+    ∷ (class.APPLICATION ∷ class.NUMBER ∷ class.PLACE ∷ class.TRUE ∷ class.FALSE ∷ class.THE ∷ class.SUM ∷ class.DIFFERENCE ∷ class.PRODUCT ∷ class.INTEGER_QUOTIENT ∷ class.INTEGER_REMAINDER ∷ class.BOTH ∷ class.EITHER ∷ class.IS ∷ class.NEGATION ∷ class.NOT ∷ class.CLOSURE ∷ class.VALUE ∷ [])
+    ∷ (class.WITH ∷ [])
+    ∷ (class.THEM ∷ class.OPEN_PAREN ∷ class.NUMBER ∷ class.PLACE ∷ class.TRUE ∷ class.FALSE ∷ class.THE ∷ class.SUM ∷ class.DIFFERENCE ∷ class.PRODUCT ∷ class.INTEGER_QUOTIENT ∷ class.INTEGER_REMAINDER ∷ class.BOTH ∷ class.EITHER ∷ class.IS ∷ class.NEGATION ∷ class.NOT ∷ class.CLOSURE ∷ class.VALUE ∷ [])
+    ∷ (class.CLOSE_PAREN ∷ class.THEM ∷ class.NUMBER ∷ class.PLACE ∷ class.TRUE ∷ class.FALSE ∷ class.THE ∷ class.SUM ∷ class.DIFFERENCE ∷ class.PRODUCT ∷ class.INTEGER_QUOTIENT ∷ class.INTEGER_REMAINDER ∷ class.BOTH ∷ class.EITHER ∷ class.IS ∷ class.NEGATION ∷ class.NOT ∷ class.CLOSURE ∷ class.VALUE ∷ [])
+    ∷ (class.CLOSE_PAREN ∷ class.COMMA ∷ [])
+    ∷ (class.THEM ∷ class.NUMBER ∷ class.PLACE ∷ class.TRUE ∷ class.FALSE ∷ class.THE ∷ class.SUM ∷ class.DIFFERENCE ∷ class.PRODUCT ∷ class.INTEGER_QUOTIENT ∷ class.INTEGER_REMAINDER ∷ class.BOTH ∷ class.EITHER ∷ class.IS ∷ class.NEGATION ∷ class.NOT ∷ class.CLOSURE ∷ class.VALUE ∷ [])
+    ∷ (class.NUMBER ∷ class.PLACE ∷ class.TRUE ∷ class.FALSE ∷ class.THE ∷ class.SUM ∷ class.DIFFERENCE ∷ class.PRODUCT ∷ class.INTEGER_QUOTIENT ∷ class.INTEGER_REMAINDER ∷ class.BOTH ∷ class.EITHER ∷ class.IS ∷ class.NEGATION ∷ class.NOT ∷ class.CLOSURE ∷ class.VALUE ∷ [])
+    ∷ (class.LESS ∷ class.OPEN_PAREN ∷ [])
+    ∷ (class.GIVEN ∷ class.INTEGER ∷ class.TRUTH_VALUE ∷ class.CELL ∷ class.ABSTRACTION ∷ [])
+    ∷ (class.BOUND ∷ class.STORED ∷ [])
+    ∷ (class.HASH ∷ [])
+    ∷ (class.INTEGER ∷ class.TRUTH_VALUE ∷ class.CELL ∷ class.ABSTRACTION ∷ [])
+    ∷ (class.CLOSURE ∷ [])
+    ∷ (class.QUOTED ∷ class.TOKEN ∷ [])
     ∷ []
 
 -- the classes that never follow each name
@@ -65,47 +97,63 @@ nevers =
     ∷ (class.HASH ∷ [])
     ∷ ([])
     ∷ (class.WITH ∷ class.HASH ∷ [])
+    ∷ ([])
     ∷ []
 
 -- whether each name can be nothing
 abbrev empties : List Bool
-empties = false ∷ true ∷ false ∷ true ∷ true ∷ true ∷ true ∷ true ∷ true ∷ true ∷ true ∷ false ∷ false ∷ true ∷ false ∷ false ∷ false ∷ false ∷ false ∷ false ∷ false ∷ false ∷ true ∷ false ∷ false ∷ []
+empties = false ∷ true ∷ false ∷ true ∷ true ∷ true ∷ true ∷ true ∷ true ∷ true ∷ true ∷ false ∷ false ∷ true ∷ false ∷ false ∷ false ∷ false ∷ false ∷ false ∷ false ∷ false ∷ true ∷ false ∷ false ∷ false ∷ []
 
 -- a token of each class
 abbrev samples : List (List ℕ)
 samples = words ++ codes "0" ∷ codes "1" ∷ (34 ∷ 120 ∷ 34 ∷ []) ∷ []
 
-abbrev pub known : Known
-known = record {
+abbrev template_samples : List (List ℕ)
+template_samples = samples ++ codes "|" ∷ codes "value" ∷ codes "token" ∷ codes "f" ∷ codes "V" ∷ []
+
+abbrev pub known : Bool → Known
+known false = record {
   firsts = λ n. get_or firsts n [];
   empty = λ n. get_or empties n false;
   never = λ n. get_or nevers n [];
-  count = 25;
+  count = 26;
   classes = class.COUNT;
   sample = λ c. get_or samples c [];
 }
+known true = record {
+  firsts = λ n. get_or template_firsts n [];
+  empty = λ n. get_or empties n false;
+  never = λ n. get_or nevers n [];
+  count = 26;
+  classes = class.ALL;
+  sample = λ c. get_or template_samples c [];
+}
 
-pub lines_pass : lines_are_good action_table known action_table.lines ≡ true
-unfolding each right_is_safe line_is_good lines_are_good other_of action_lines action_others
-lines_pass = refl
+lines_pass : (p : Bool) → lines_are_good (table_in p) (known p) (lines_in p) ≡ true
+unfolding each right_is_safe line_is_good lines_are_good other_of template_lines action_lines parameter_lines action_others
+lines_pass true = refl
+lines_pass false = refl
 
-pub others_pass : others_are_good known action_table.others ≡ true
+others_pass : (p : Bool) → others_are_good (known p) action_others ≡ true
 unfolding each starts_of right_is_safe other_is_good others_are_good action_others
-others_pass = refl
+others_pass true = refl
+others_pass false = refl
 
-pub action_starting : Starting action_table known
-action_starting = starting action_table known lines_pass others_pass
+pub table_starting : (p : Bool) → Starting (table_in p) (known p)
+table_starting p = starting (table_in p) (known p) (lines_pass p) (others_pass p)
 
-pub action_choosing : Choosing action_table known
-action_choosing = choosing action_table known lines_pass others_pass
+pub table_choosing : (p : Bool) → Choosing (table_in p) (known p)
+table_choosing p = choosing (table_in p) (known p) (lines_pass p) (others_pass p)
 
-samples_pass : below (λ c. nat_eq (class_of (get_or samples c [])) c) class.COUNT ≡ true
+samples_pass : (p : Bool) → below (λ c. nat_eq (class_in p ((known p).sample c)) c) (known p).classes ≡ true
 unfolding below
-samples_pass = refl
+samples_pass true = refl
+samples_pass false = refl
 
-pub action_sampled : Sampled action_table known
-action_sampled c h = eqb-true (class_of (get_or samples c [])) c (below_each (λ c. nat_eq (class_of (get_or samples c [])) c) class.COUNT c samples_pass h)
+pub table_sampled : (p : Bool) → Sampled (table_in p) (known p)
+table_sampled p c h = eqb-true (class_in p ((known p).sample c)) c (below_each (λ c. nat_eq (class_in p ((known p).sample c)) c) (known p).classes c (samples_pass p) h)
 
-pub action_ending : Ending action_table known
-unfolding below can_end other_of action_lines action_others
-action_ending = ending action_table known action_sampled 40 refl
+pub table_ending : (p : Bool) → Ending (table_in p) (known p)
+unfolding below can_end other_of template_lines action_lines parameter_lines action_others
+table_ending true = ending (table_in true) (known true) (table_sampled true) 40 refl
+table_ending false = ending (table_in false) (known false) (table_sampled false) 40 refl

@@ -1,7 +1,9 @@
 -- The table of action text and the grammar agree: what the one reads the other spells.
-use Rattle.std.proofs.Common.{◌≡◌, ◌⊎◌, inl, inr, ℕ, false, List, [], ◌∷◌, ◌++◌, Some, refl, sym, ap, subst, ◌∙◌, append_assoc, append-nil, codes}
-use Rattle.action_terms.specs.Labels.{Label, ActionNode, YielderNode, AnAction, AYielder, AnItem, AClosure}
-use Rattle.action_terms.specs.Trees.{Tree, tree, Trees, none, more, Is, Are, IsAction}
+use Rattle.std.proofs.Common.{◌≡◌, ◌⊎◌, inl, inr, ℕ, zero, suc, false, List, [], ◌∷◌, ◌++◌, Some, refl, sym, ap, subst, ◌∙◌, append_assoc, append-nil, codes}
+use Rattle.action_terms.specs.Labels.{AnAction, AYielder, AnItem, AClosure}
+use Rattle.meta_terms.specs.Names.{is_function, is_variable}
+use Rattle.meta_terms.specs.Templates.{ActionTokenOf, YielderTokenOf, Applied, ValueOf, Label, ActionNode, YielderNode, Tree, Trees, Is, Are, IsAction}
+use Rattle.action_terms.specs.Trees.{tree, none, more}
 use Rattle.action_terms.specs.declared.kinds.Kind.{Kind}
 use Rattle.action_terms.specs.declared.kinds.Kind.TheVariants as kind
 use Rattle.action_terms.specs.declared.kinds.YKind.TheVariants as ykind
@@ -11,11 +13,12 @@ use Rattle.action_text.specs.declared.classes.TheConstants as class
 use Rattle.action_text.specs.declared.names.TheConstants as name
 use Rattle.action_text.specs.Tables.{Written, line_of, other_of, Reads}
 use Rattle.action_text.specs.Shapes.{Fixed, Part, operator}
-use Rattle.action_text.specs.ActionText.{IsPlain, IsChain, IsOperand, Spells, label_of}
+use Rattle.action_text.specs.ActionText.{IsOperand, label_of}
+use Rattle.action_text.specs.TemplateText.{IsPlain, IsChain, Spells}
 use Rattle.action_text.specs.Posts.{postorder}
 use Rattle.action_text.specs.Notes.{Noting, noted}
-use Rattle.action_text.specs.Classes.{class_of}
-use Rattle.action_text.specs.ActionTable.{action_table, action_lines, action_others, line}
+use Rattle.action_text.specs.Classes.{template_class}
+use Rattle.action_text.specs.ActionTable.{template_table, template_lines, action_lines, parameter_lines, action_others, line}
 use Rattle.action_text.proofs.Meanings.{moves_mean, does_nothing, does_other}
 use Rattle.action_text.proofs.Means.{means, wrote}
 use Rattle.action_text.proofs.Chains.{IsOperator, joined, joined_labels, last_name}
@@ -23,13 +26,14 @@ use Rattle.action_text.proofs.Rows.{lines_mean, others_mean}
 use Rattle.action_text.proofs.ChainRows.{op_Or, op_And, op_AndThen, op_Then, op_Trap, op_Hence, op_Moreover, op_Before}
 use Rattle.action_text.proofs.Spelling.{Goes, PlainGoes, ChainGoes, AllGo, more_of, more_ends, chain_label, operand_goes, word_line, word_read, name_then, on_tokens}
 use Rattle.action_text.proofs.SpeltNodes.{NodeGoes, node_goes, no_token}
-use Rattle.action_text.proofs.SpeltActions.{action_goes, item_cases}
-use Rattle.action_text.proofs.SpeltYielders.{yielder_goes}
+use Rattle.action_text.proofs.SpeltActions.{action_goes, item_cases, action_token_goes, applied_goes}
+use Rattle.action_text.proofs.Nodes.{and_left, and_right}
+use Rattle.action_text.proofs.SpeltYielders.{yielder_goes, yielder_token_goes, value_of_goes}
 
 -- what the table reads spells an action, and its labels are written
-pub read_is_spelled : (st : Noting) (ts : List (List ℕ)) (o : List Written) → Reads action_table (Name name.ACTION ∷ []) ts o → (t : Tree) × Spells t ts × (noted o st ≡ wrote (postorder t) st)
+pub read_is_spelled : (st : Noting) (ts : List (List ℕ)) (o : List Written) → Reads template_table (Name name.ACTION ∷ []) ts o → (t : Tree) × Spells t ts × (noted o st ≡ wrote (postorder t) st)
 read_is_spelled st ts o r =
-    let m = last_name means name.ACTION st (noted o st) ts (moves_mean action_table means lines_mean others_mean r.0 (Name name.ACTION ∷ []) st ts o r.1) in
+    let m = last_name means name.ACTION st (noted o st) ts (moves_mean template_table means lines_mean others_mean r.0 (Name name.ACTION ∷ []) st ts o r.1) in
     (m.0, (m.1, m.2), m.3)
 
 -- the rows of an operator: behind the first operand, and behind a chain of it
@@ -37,23 +41,23 @@ pub record HasRows (k : Kind) (w : List ℕ) (ws : List (List ℕ)) : Type 0 whe
   pub first : (st end : Noting) (ts : List (List ℕ)) → Goes (Name name.OPERAND ∷ Emit (mark.Action k) ∷ Name (more_of k) ∷ []) st ts end → Goes (Name name.CHAIN ∷ []) st ((w ∷ ws) ++ ts) end
   pub next : (st end : Noting) (ts : List (List ℕ)) → Goes (Name name.OPERAND ∷ Emit (mark.Action k) ∷ Name (more_of k) ∷ []) st ts end → Goes (Name (more_of k) ∷ []) st ((w ∷ ws) ++ ts) end
 
-simple_rows : (k : Kind) (w : List ℕ) → line_of action_lines name.CHAIN (class_of w) ≡ Some (line name.CHAIN (class_of w) false (Name name.OPERAND ∷ Emit (mark.Action k) ∷ Name (more_of k) ∷ []))
-    → line_of action_lines (more_of k) (class_of w) ≡ Some (line (more_of k) (class_of w) false (Name name.OPERAND ∷ Emit (mark.Action k) ∷ Name (more_of k) ∷ [])) → HasRows k w []
+simple_rows : (k : Kind) (w : List ℕ) → line_of template_lines name.CHAIN (template_class w) ≡ Some (line name.CHAIN (template_class w) false (Name name.OPERAND ∷ Emit (mark.Action k) ∷ Name (more_of k) ∷ []))
+    → line_of template_lines (more_of k) (template_class w) ≡ Some (line (more_of k) (template_class w) false (Name name.OPERAND ∷ Emit (mark.Action k) ∷ Name (more_of k) ∷ [])) → HasRows k w []
 simple_rows k w first next = record {
   first = λ st end ts d. word_line name.CHAIN w w (Name name.OPERAND ∷ Emit (mark.Action k) ∷ Name (more_of k) ∷ []) st end ts first refl d;
   next = λ st end ts d. word_line (more_of k) w w (Name name.OPERAND ∷ Emit (mark.Action k) ∷ Name (more_of k) ∷ []) st end ts next refl d;
 }
 
 and_rows : HasRows kind.And (codes "and") []
-unfolding line_of action_lines other_of action_others
+unfolding line_of template_lines action_lines parameter_lines other_of action_others
 and_rows = record {
   first = λ st end ts d. word_line name.CHAIN (codes "and") (codes "and") (Name name.AND_NEXT ∷ []) st end ts refl refl
-      (does_other action_table name.AND_NEXT (Name name.OPERAND ∷ Emit (mark.Action kind.And) ∷ Name name.MORE_AND ∷ []) st end ts refl d);
+      (does_other template_table name.AND_NEXT (Name name.OPERAND ∷ Emit (mark.Action kind.And) ∷ Name name.MORE_AND ∷ []) st end ts refl d);
   next = λ st end ts d. word_line name.MORE_AND (codes "and") (codes "and") (Name name.OPERAND ∷ Emit (mark.Action kind.And) ∷ Name name.MORE_AND ∷ []) st end ts refl refl d;
 }
 
 and_then_rows : HasRows kind.AndThen (codes "and") (codes "then" ∷ [])
-unfolding line_of action_lines
+unfolding line_of template_lines action_lines parameter_lines
 and_then_rows = record {
   first = λ st end ts d. word_line name.CHAIN (codes "and") (codes "and") (Name name.AND_NEXT ∷ []) st end (codes "then" ∷ ts) refl refl
       (word_line name.AND_NEXT (codes "then") (codes "then") (Name name.OPERAND ∷ Emit (mark.Action kind.AndThen) ∷ Name name.MORE_AND_THEN ∷ []) st end ts refl refl d);
@@ -70,8 +74,8 @@ abbrev OperatesBy : Kind → List (List ℕ) → Type 0
 OperatesBy k [] = ⊥
 OperatesBy k (w ∷ ws) = Operates k w ws
 
-operates : (k : Kind) (w : List ℕ) (ws : List (List ℕ)) → operator k ≡ w ∷ ws → Operates k w ws
-unfolding line_of action_lines
+pub operates : (k : Kind) (w : List ℕ) (ws : List (List ℕ)) → operator k ≡ w ∷ ws → Operates k w ws
+unfolding line_of template_lines action_lines parameter_lines
 operates kind.Or w ws e = subst (OperatesBy kind.Or) e (record { is = op_Or; rows = simple_rows kind.Or (codes "or") refl refl })
 operates kind.And w ws e = subst (OperatesBy kind.And) e (record { is = op_And; rows = and_rows })
 operates kind.AndThen w ws e = subst (OperatesBy kind.AndThen) e (record { is = op_AndThen; rows = and_then_rows })
@@ -92,7 +96,7 @@ right_goes : (k : Kind) (a b : Tree) (right us : List (List ℕ)) (st end : Noti
 right_goes k a b right us st end operand onward =
     let behind : Noting = wrote (postorder b) (wrote (postorder a) st) in
     name_then name.OPERAND (Emit (mark.Action k) ∷ Name (more_of k) ∷ []) (wrote (postorder a) st) behind end right us operand
-    (Rattle.action_text.proofs.Meanings.does_emit action_table (mark.Action k) (Name (more_of k) ∷ []) behind end us
+    (Rattle.action_text.proofs.Meanings.does_emit template_table (mark.Action k) (Name (more_of k) ∷ []) behind end us
     (subst (λ z. Goes (Name (more_of k) ∷ []) z us end) (sym (joined_labels k a b st.labels (wrote (postorder a) st) refl)) onward))
 
 -- a chain is read, and what goes it on
@@ -116,7 +120,7 @@ joined_goes k a b pa ca pb cb is ts (left, w, ws, right, whole, words, leftmost,
         → Goes (Name name.ACTION ∷ []) st (left ++ ((w ∷ ws) ++ (right ++ us))) end
     by_left (inl h) is_a first next = ca is_a k h.0 left h.1 st end ((w ∷ ws) ++ (right ++ us)) next
     by_left (inr h) is_a first next =
-        does_other action_table name.ACTION (Name name.OPERAND ∷ Name name.CHAIN ∷ []) st end (left ++ ((w ∷ ws) ++ (right ++ us))) refl
+        does_other template_table name.ACTION (Name name.OPERAND ∷ Name name.CHAIN ∷ []) st end (left ++ ((w ∷ ws) ++ (right ++ us))) refl
         (name_then name.OPERAND (Name name.CHAIN ∷ []) st (wrote (postorder a) st) end left ((w ∷ ws) ++ (right ++ us)) (operand_goes a pa ca is_a h.0 left h.1 st) first)
 
 chain_goes : (l : Label) (kids : Trees) → AllGo kids → ChainGoes (tree l kids)
@@ -129,11 +133,11 @@ chain_goes l (more a (more b none)) all is k label ts c st end us onward =
 chain_goes l (more a (more b (more d kids))) all is k label ts c st end us onward = absurd c
 
 them_item : NodeGoes name.ITEM (YielderNode ykind.Them [])
-unfolding line_of action_lines
+unfolding line_of template_lines action_lines parameter_lines
 them_item = node_goes name.ITEM (YielderNode ykind.Them []) (codes "them") [] (mark.Yielder ykind.Them) refl refl (λ z. refl) refl
 
 closure_goes : NodeGoes name.CLOSURE (YielderNode ykind.Closure [])
-unfolding line_of action_lines
+unfolding line_of template_lines action_lines parameter_lines
 closure_goes = node_goes name.CLOSURE (YielderNode ykind.Closure []) (codes "closure") (Fixed (codes "abstraction") ∷ Fixed (codes "of") ∷ Part ∷ []) (mark.Yielder ykind.Closure) refl refl (λ z. refl) refl
 
 them_alone_goes : (kids : Trees) → Are [] kids → (ts : List (List ℕ)) → IsPlain (tree (YielderNode ykind.Them []) kids) ts → (st : Noting) → Goes (Name name.ITEM ∷ []) st ts (wrote (postorder (tree (YielderNode ykind.Them []) kids)) st)
@@ -154,8 +158,30 @@ plain_goes (YielderNode k q) kids all AnItem is ts p st = by_case (item_cases (t
     by_case (inl h) =
         subst (λ u. Goes (Name name.ITEM ∷ []) st ts (wrote (postorder u) st)) (sym h.1) (them_alone_goes h.0 h.2 ts (subst (λ u. IsPlain u ts) h.1 p) st)
     by_case (inr h) =
-        does_other action_table name.ITEM (Name name.YIELDER ∷ []) st (wrote (postorder (tree (YielderNode k q) kids)) st) ts refl (yielder_goes k q h.0 kids all h.1 ts p st)
+        does_other template_table name.ITEM (Name name.YIELDER ∷ []) st (wrote (postorder (tree (YielderNode k q) kids)) st) ts refl (yielder_goes k q h.0 kids all h.1 ts p st)
 plain_goes (ActionNode k n q) kids all AClosure is ts p st = absurd (cc)
+plain_goes (ActionTokenOf k zero [] q) kids all AnAction is ts p st = action_token_goes k q is.0 kids all is.1 ts p st
+plain_goes (ActionTokenOf k zero (b ∷ o) q) kids all AnAction is ts p st = absurd (cc)
+plain_goes (ActionTokenOf k (suc n) o q) kids all AnAction is ts p st = absurd (cc)
+plain_goes (ActionTokenOf k n o q) kids all AYielder is ts p st = absurd (cc)
+plain_goes (ActionTokenOf k n o q) kids all AnItem is ts p st = absurd (cc)
+plain_goes (ActionTokenOf k n o q) kids all AClosure is ts p st = absurd (cc)
+plain_goes (Applied f q) kids all AnAction is ts p st = applied_goes f q (and_left (is_function f) (is_variable q) is.0) (and_right (is_function f) (is_variable q) is.0) kids all is.1 ts p st
+plain_goes (Applied f q) kids all AYielder is ts p st = absurd (cc)
+plain_goes (Applied f q) kids all AnItem is ts p st = absurd (cc)
+plain_goes (Applied f q) kids all AClosure is ts p st = absurd (cc)
+plain_goes (YielderTokenOf k o q) kids all AnAction is ts p st = absurd (cc)
+plain_goes (YielderTokenOf k [] q) kids all AYielder is ts p st = yielder_token_goes k q is.0 kids all is.1 ts p st
+plain_goes (YielderTokenOf k (b ∷ o) q) kids all AYielder is ts p st = absurd (cc)
+plain_goes (YielderTokenOf k [] q) kids all AnItem is ts p st =
+    does_other template_table name.ITEM (Name name.YIELDER ∷ []) st (wrote (postorder (tree (YielderTokenOf k [] q) kids)) st) ts refl (yielder_token_goes k q is.0 kids all is.1 ts p st)
+plain_goes (YielderTokenOf k (b ∷ o) q) kids all AnItem is ts p st = absurd (cc)
+plain_goes (YielderTokenOf k o q) kids all AClosure is ts p st = absurd (cc)
+plain_goes (ValueOf q) kids all AnAction is ts p st = absurd (cc)
+plain_goes (ValueOf q) kids all AYielder is ts p st = value_of_goes q is.0 kids all is.1 ts p st
+plain_goes (ValueOf q) kids all AnItem is ts p st =
+    does_other template_table name.ITEM (Name name.YIELDER ∷ []) st (wrote (postorder (tree (ValueOf q) kids)) st) ts refl (value_of_goes q is.0 kids all is.1 ts p st)
+plain_goes (ValueOf q) kids all AClosure is ts p st = absurd (cc)
 plain_goes (YielderNode ykind.Closure q) kids all AClosure is ts p st =
     Rattle.action_text.proofs.SpeltNodes.bare_yielder name.CLOSURE ykind.Closure q is.0 closure_goes kids all is.1 ts p st
 plain_goes (YielderNode _ q) kids all AClosure is ts p st = absurd (cc)
@@ -175,9 +201,9 @@ spelled_is_read t ts (is, inl o) st =
     let both = tree_goes t in
     let end : Noting = wrote (postorder t) st in
     on_tokens (Name name.ACTION ∷ []) st end (ts ++ []) ts (append-nil ts)
-    (does_other action_table name.ACTION (Name name.OPERAND ∷ Name name.CHAIN ∷ []) st end (ts ++ []) refl
+    (does_other template_table name.ACTION (Name name.OPERAND ∷ Name name.CHAIN ∷ []) st end (ts ++ []) refl
     (name_then name.OPERAND (Name name.CHAIN ∷ []) st end end ts [] (operand_goes t both.0 both.1 is o.0 ts o.1 st)
-    (does_other action_table name.CHAIN [] end end [] refl (does_nothing action_table end))))
+    (does_other template_table name.CHAIN [] end end [] refl (does_nothing template_table end))))
 spelled_is_read t ts (is, inr c) st =
     let both = tree_goes t in
     let l = chain_label t ts is c in

@@ -163,8 +163,8 @@ same_words_is [] [] h = refl
 same_words_is [] (w ∷ ws) h = absurd (cc)
 same_words_is (v ∷ vs) [] h = absurd (cc)
 same_words_is (v ∷ vs) (w ∷ ws) h =
-    let a : v ≡ w = same_is v w (and_left (Rattle.action_text.specs.Classes.same_bytes v w) (same_words vs ws) h) in
-    let b : vs ≡ ws = same_words_is vs ws (and_right (Rattle.action_text.specs.Classes.same_bytes v w) (same_words vs ws) h) in
+    let a : v ≡ w = same_is v w (and_left (Rattle.meta_terms.specs.Words.same_bytes v w) (same_words vs ws) h) in
+    let b : vs ≡ ws = same_words_is vs ws (and_right (Rattle.meta_terms.specs.Words.same_bytes v w) (same_words vs ws) h) in
     cc
 
 -- actions with one operator have one label

@@ -1,15 +1,17 @@
 -- Chains: an operand behind an operator goes a chain on.
 use Rattle.std.proofs.Common.{◌≡◌, ◌⊎◌, inl, inr, ℕ, true, List, [], ◌∷◌, ◌++◌, refl, sym, ap, subst, ◌∙◌, append_assoc, append-nil}
-use Rattle.action_terms.specs.Labels.{Label, ActionNode, AnAction, under, serves}
-use Rattle.action_terms.specs.Trees.{Tree, tree, none, more, IsAction}
+use Rattle.action_terms.specs.Labels.{AnAction}
+use Rattle.meta_terms.specs.Templates.{Label, ActionNode, under, serves, Tree, IsAction}
+use Rattle.action_terms.specs.Trees.{tree, none, more}
 use Rattle.action_terms.specs.declared.kinds.Kind.{Kind}
 use Rattle.action_text.specs.declared.table.Symbol.TheVariants.{Name}
 use Rattle.action_text.specs.declared.table.Mark.TheVariants as mark
 use Rattle.action_text.specs.Shapes.{operator}
-use Rattle.action_text.specs.ActionText.{IsPlain, IsChain, IsOperand, IsActionText, label_of}
+use Rattle.action_text.specs.ActionText.{IsOperand, label_of}
+use Rattle.action_text.specs.TemplateText.{IsPlain, IsChain, IsActionText}
 use Rattle.action_text.specs.Posts.{postorder}
 use Rattle.action_text.specs.Notes.{Noting, marked}
-use Rattle.action_text.specs.ActionTable.{action_table}
+use Rattle.action_text.specs.ActionTable.{template_table}
 use Rattle.action_text.proofs.Meanings.{Meant, Meaning}
 use Rattle.action_text.proofs.Means.{wrote, replaced, MeansPart, MeansAction, MeansChain, MeansMore}
 
@@ -95,7 +97,7 @@ operand_alone st end ts nothing same ls a is labels =
     (a, is, same ∙ same_state st ls (postorder a) labels, λ left h. inl (subst (λ y. IsOperand (IsPlain a) (IsChain a) (left ++ y)) (sym nothing) (subst (λ y. IsOperand (IsPlain a) (IsChain a) y) (sym (append-nil left)) h)))
 
 -- the last name of a right side
-pub last_name : (M : Meant) (n : ℕ) (st end : Noting) (ts : List (List ℕ)) → Meaning action_table M (Name n ∷ []) st ts end → M n st ts end
+pub last_name : (M : Meant) (n : ℕ) (st end : Noting) (ts : List (List ℕ)) → Meaning template_table M (Name n ∷ []) st ts end → M n st ts end
 last_name M n st end ts h =
     let whole : ts ≡ h.0 = h.3 ∙ ap (λ y. h.0 ++ y) h.5.0 ∙ append-nil h.0 in
     subst (λ y. M n st y end) (sym whole) (subst (λ z. M n st h.0 z) (sym h.5.1) h.4)

@@ -12,7 +12,8 @@ use Rattle.meta_lex.specs.declared.token.TokenKind.{TokenKind}
 use Rattle.meta_lex.specs.declared.token.TokenKind.TheVariants.{Number, Quoted}
 use Rattle.meta_lex.proofs.FirstBytes.{kind_of_front, no_form}
 use Rattle.action_text.specs.declared.classes.TheConstants as class
-use Rattle.action_text.specs.Classes.{words, word_class, number_class, class_of}
+use Rattle.meta_terms.specs.Words.{words}
+use Rattle.action_text.specs.Classes.{word_class, number_class, class_of}
 
 -- the first byte of a token says its kind
 first_kind : (kind : TokenKind) (b : ℕ) (rest : List ℕ) → has_form kind (b ∷ rest) ≡ true → kind_of b ≡ kind

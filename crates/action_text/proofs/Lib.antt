@@ -4,6 +4,7 @@ pub mod Checked
 pub mod ActionTablePasses
 pub mod Meanings
 pub mod Words
+pub mod TemplateWords
 pub mod Means
 pub mod Nodes
 pub mod Chains
@@ -18,8 +19,12 @@ pub mod SpeltNodes
 pub mod SpeltActions
 pub mod SpeltYielders
 pub mod Agreement
+pub mod EmbeddedActions
+pub mod LowTokens
+pub mod Parameters
 pub mod OneWriting
 pub mod OneTree
+pub mod ActionTemplates
 pub mod RowLookups
 pub mod WordCuts
 pub mod KindClasses

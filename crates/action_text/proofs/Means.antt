@@ -1,13 +1,17 @@
 -- What each name of the table of action text means.
-use Rattle.std.proofs.Common.{◌≡◌, ℕ, ◌+◌, List, [], ◌∷◌, ◌++◌, get_or, codes}
-use Rattle.action_terms.specs.Labels.{Label, ActionNode, Wanted, AnAction, AYielder, AnItem, AClosure, copies}
-use Rattle.action_terms.specs.Trees.{Tree, Trees, Is, Are, IsAction}
+use Rattle.std.proofs.Common.{◌≡◌, ◌⊎◌, true, ℕ, ◌+◌, List, [], ◌∷◌, ◌++◌, get_or, codes}
+use Rattle.action_terms.specs.Labels.{Wanted, AnAction, AYielder, AnItem, AClosure, copies}
+use Rattle.meta_terms.specs.Templates.{Label, ActionNode, Tree, Trees, Is, Are, IsAction}
 use Rattle.action_terms.specs.declared.kinds.Kind.{Kind}
 use Rattle.action_terms.specs.declared.kinds.Kind.TheVariants as kind
 use Rattle.action_text.specs.Shapes.{items, more_items, sort_word, open_paren}
-use Rattle.action_text.specs.ActionText.{IsPlain, IsChain, ArePartsOf, IsPart, IsOperand, IsActionText, Weaves, label_of}
+use Rattle.action_text.specs.ActionText.{IsPart, IsOperand, Weaves, label_of}
+use Rattle.action_text.specs.TemplateText.{IsPlain, IsChain, ArePartsOf, IsActionText}
 use Rattle.action_text.specs.Posts.{postorder, postorders}
-use Rattle.action_text.specs.Notes.{Noting, Note, Count, NotedSort}
+use Rattle.meta_lex.specs.Forms.{is_quoted}
+use Rattle.meta_terms.specs.Names.{is_variable}
+use Rattle.action_text.specs.Tables.{Token}
+use Rattle.action_text.specs.Notes.{Noting, Note, Count, NotedSort, note}
 use Rattle.action_text.proofs.Meanings.{Meant}
 
 -- more labels are written
@@ -61,6 +65,14 @@ MeansSorted before st ts end = (s : Rattle.action_terms.specs.declared.kinds.Sor
 abbrev pub MeansSort : Noting → List (List ℕ) → Noting → Type 0
 MeansSort st ts end = (s : Rattle.action_terms.specs.declared.kinds.Sort.Sort) × (ts ≡ sort_word s ∷ []) × (end ≡ record { notes = NotedSort s ∷ st.notes; labels = st.labels })
 
+-- the token is a quoted text, or the variable of `token of V`
+abbrev pub IsTokenForm : List ℕ → List (List ℕ) → Type 0
+IsTokenForm kept ts = ((is_quoted kept ≡ true) × (ts ≡ kept ∷ [])) ⊎ ((is_variable kept ≡ true) × (ts ≡ codes "token" ∷ codes "of" ∷ kept ∷ []))
+
+-- the tokens spell a token of a node, and it is kept
+abbrev pub MeansToken : Noting → List (List ℕ) → Noting → Type 0
+MeansToken st ts end = (kept : List ℕ) × (end ≡ note (Token kept) st) × IsTokenForm kept ts
+
 abbrev pub MeansNothing : Noting → List (List ℕ) → Noting → Type 0
 MeansNothing st ts end = ⊥
 
@@ -92,6 +104,7 @@ meanings =
     ∷ MeansSorted (codes "the" ∷ codes "given" ∷ [])
     ∷ MeansSort
     ∷ MeansPart AClosure
+    ∷ MeansToken
     ∷ []
 
 abbrev pub means : Meant

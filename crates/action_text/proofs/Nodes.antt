@@ -1,20 +1,22 @@
 -- The nodes whose own tokens are words and symbols alone: from the symbols of a row to the node.
 use Rattle.std.proofs.Common.{◌≡◌, ℕ, Bool, true, false, ◌&&◌, List, [], ◌∷◌, ◌++◌, refl, sym, ap, subst, ◌∙◌, append_assoc, append-nil, nat_lt}
-use Rattle.action_terms.specs.Labels.{Label, Wanted, AnAction, AYielder, AnItem, AClosure, under, serves}
-use Rattle.action_terms.specs.Trees.{Tree, tree, Trees, none, more, Is, Are}
+use Rattle.action_terms.specs.Labels.{Wanted, AnAction, AYielder, AnItem, AClosure}
+use Rattle.meta_terms.specs.Templates.{Label, under, serves, Tree, Trees, Is, Are}
+use Rattle.action_terms.specs.Trees.{tree, none, more}
 use Rattle.action_text.specs.declared.table.Symbol.{Symbol}
 use Rattle.action_text.specs.declared.table.Symbol.TheVariants.{Read, Emit, Name}
 use Rattle.action_text.specs.declared.table.Mark.{Mark}
 use Rattle.action_text.specs.declared.names.TheConstants as name
-use Rattle.action_text.specs.Shapes.{Piece, Fixed, Numeral, Quoted, Part, shape}
-use Rattle.action_text.specs.ActionText.{IsPlain, IsChain, ArePartsOf, IsPart, Weaves}
+use Rattle.action_text.specs.Shapes.{Piece, Fixed, Numeral, Quoted, Part}
+use Rattle.action_text.specs.TemplateText.{shape, IsPlain, IsChain, ArePartsOf}
+use Rattle.action_text.specs.ActionText.{IsPart, Weaves}
 use Rattle.action_text.specs.Posts.{postorder, postorders}
 use Rattle.action_text.specs.Notes.{Noting, Note, marked, writes}
-use Rattle.action_text.specs.Classes.{class_of}
-use Rattle.action_text.specs.ActionTable.{action_table}
+use Rattle.action_text.specs.Classes.{template_class}
+use Rattle.action_text.specs.ActionTable.{template_table}
 use Rattle.action_text.proofs.Meanings.{Meaning}
 use Rattle.action_text.proofs.Means.{means, wrote, MeansPart, MeansRest}
-use Rattle.action_text.proofs.Words.{word_count, is_word_of}
+use Rattle.action_text.proofs.TemplateWords.{word_count, is_word_of}
 
 -- the name of what stands in a place
 abbrev pub name_of : Wanted → ℕ
@@ -28,7 +30,7 @@ abbrev pub symbols : List Piece → List Wanted → List Symbol
 symbols [] xs = []
 symbols (Part ∷ ps) [] = []
 symbols (Part ∷ ps) (x ∷ xs) = Name (name_of x) ∷ symbols ps xs
-symbols (Fixed w ∷ ps) xs = Read (class_of w) ∷ symbols ps xs
+symbols (Fixed w ∷ ps) xs = Read (template_class w) ∷ symbols ps xs
 symbols (Numeral z ∷ ps) xs = []
 symbols (Quoted t ∷ ps) xs = []
 
@@ -44,7 +46,7 @@ fits [] [] = true
 fits [] (x ∷ xs) = false
 fits (Part ∷ ps) [] = false
 fits (Part ∷ ps) (x ∷ xs) = is_named x && fits ps xs
-fits (Fixed w ∷ ps) xs = nat_lt (class_of w) word_count && fits ps xs
+fits (Fixed w ∷ ps) xs = nat_lt (template_class w) word_count && fits ps xs
 fits (Numeral z ∷ ps) xs = false
 fits (Quoted t ∷ ps) xs = false
 
@@ -69,8 +71,8 @@ wrote_both a b st = ap (λ ls. let r : Noting = record { notes = st.notes; label
 pub wrote_nothing : (st : Noting) → wrote [] st ≡ st
 wrote_nothing st = ap (λ ls. let r : Noting = record { notes = st.notes; labels = ls } in r) (append-nil st.labels)
 
-wrote_on : (s : List Symbol) (a b : List Label) (st mid end : Noting) (ts : List (List ℕ)) → mid ≡ wrote a st → Meaning action_table means s (wrote b mid) ts end → Meaning action_table means s (wrote (a ++ b) st) ts end
-wrote_on s a b st mid end ts e h = subst (λ z. Meaning action_table means s z ts end) (ap (wrote b) e ∙ wrote_both a b st) h
+wrote_on : (s : List Symbol) (a b : List Label) (st mid end : Noting) (ts : List (List ℕ)) → mid ≡ wrote a st → Meaning template_table means s (wrote b mid) ts end → Meaning template_table means s (wrote (a ++ b) st) ts end
+wrote_on s a b st mid end ts e h = subst (λ z. Meaning template_table means s z ts end) (ap (wrote b) e ∙ wrote_both a b st) h
 
 -- what words and parts mean: the trees under a node
 pub record IsUnder (ps : List Piece) (xs : List Wanted) (s : List Symbol) (st : Noting) (ts : List (List ℕ)) (end : Noting) : Type 0 where
@@ -82,10 +84,10 @@ pub record IsUnder (ps : List Piece) (xs : List Wanted) (s : List Symbol) (st : 
   pub sorts : Are xs kids
   pub spelled : ArePartsOf kids xs parts
   pub woven : Weaves ps parts front
-  pub then_means : Meaning action_table means s (wrote (postorders kids) st) back end
+  pub then_means : Meaning template_table means s (wrote (postorders kids) st) back end
 
 pub under_means : (ps : List Piece) (xs : List Wanted) (s : List Symbol) (st end : Noting) (ts : List (List ℕ)) → fits ps xs ≡ true
-    → Meaning action_table means (symbols ps xs ++ s) st ts end → IsUnder ps xs s st ts end
+    → Meaning template_table means (symbols ps xs ++ s) st ts end → IsUnder ps xs s st ts end
 under_means [] [] s st end ts h m = record {
   front = [];
   back = ts;
@@ -115,7 +117,7 @@ under_means (Part ∷ ps) (x ∷ xs) s st end ts h m =
     }
 under_means (Fixed w ∷ ps) xs s st end [] h m = absurd m
 under_means (Fixed w ∷ ps) xs s st end (t ∷ ts) h m =
-    let r = under_means ps xs s st end ts (and_right (nat_lt (class_of w) word_count) (fits ps xs) h) m.1 in
+    let r = under_means ps xs s st end ts (and_right (nat_lt (template_class w) word_count) (fits ps xs) h) m.1 in
     record {
       front = t ∷ r.front;
       back = r.back;
@@ -124,7 +126,7 @@ under_means (Fixed w ∷ ps) xs s st end (t ∷ ts) h m =
       cut = ap (λ y. t ∷ y) r.cut;
       sorts = r.sorts;
       spelled = r.spelled;
-      woven = (is_word_of t w m.0 (and_left (nat_lt (class_of w) word_count) (fits ps xs) h), r.woven);
+      woven = (is_word_of t w m.0 (and_left (nat_lt (template_class w) word_count) (fits ps xs) h), r.woven);
       then_means = r.then_means;
     }
 under_means (Numeral z ∷ ps) xs s st end ts h m = absurd (cc)
@@ -140,7 +142,7 @@ pub record IsNode (l : Label) (ps : List Piece) (st : Noting) (ts : List (List �
   pub written : end ≡ wrote (postorder (tree l kids)) st
 
 pub node_means : (l : Label) (ps : List Piece) (m : Mark) (st end : Noting) (ts : List (List ℕ)) → fits ps (under l) ≡ true → ((z : Noting) → marked m z ≡ writes 0 l z)
-    → Meaning action_table means (symbols ps (under l) ++ Emit m ∷ []) st ts end → IsNode l ps st ts end
+    → Meaning template_table means (symbols ps (under l) ++ Emit m ∷ []) st ts end → IsNode l ps st ts end
 node_means l ps m st end ts fit mark h =
     let u = under_means ps (under l) (Emit m ∷ []) st end ts fit h in
     let whole : ts ≡ u.front = u.cut ∙ ap (λ y. u.front ++ y) u.then_means.0 ∙ append-nil u.front in
@@ -164,18 +166,18 @@ pub is_of : (x : Wanted) (l : Label) (kids : Trees) → serves x l ≡ true → 
 is_of x l kids h a = (h, a)
 
 -- a row of a node: its first word, then its other words and its parts
-pub node_row : (x : Wanted) (l : Label) (w : List ℕ) (ps : List Piece) (m : Mark) → serves x l ≡ true → shape l ≡ Fixed w ∷ ps → fits ps (under l) ≡ true → nat_lt (class_of w) word_count ≡ true
-    → ((z : Noting) → marked m z ≡ writes 0 l z) → (t : List ℕ) (st end : Noting) (ts : List (List ℕ)) → class_of t ≡ class_of w
-    → Meaning action_table means (symbols ps (under l) ++ Emit m ∷ []) st ts end → MeansPart x st (t ∷ ts) end
+pub node_row : (x : Wanted) (l : Label) (w : List ℕ) (ps : List Piece) (m : Mark) → serves x l ≡ true → shape l ≡ Fixed w ∷ ps → fits ps (under l) ≡ true → nat_lt (template_class w) word_count ≡ true
+    → ((z : Noting) → marked m z ≡ writes 0 l z) → (t : List ℕ) (st end : Noting) (ts : List (List ℕ)) → template_class t ≡ template_class w
+    → Meaning template_table means (symbols ps (under l) ++ Emit m ∷ []) st ts end → MeansPart x st (t ∷ ts) end
 node_row x l w ps m serve form fit word mark t st end ts e h =
     let n = node_means l ps m st end ts fit mark h in
     let spell : Weaves (shape l) n.parts (t ∷ ts) = rw form (is_word_of t w e word, n.woven) in
     (tree l n.kids, is_of x l n.kids serve n.sorts, plain_part x (tree l n.kids) (t ∷ ts) (n.parts, n.spelled, spell), n.written)
 
 -- a row that goes on behind one word with another
-pub rest_row : (x : Wanted) (l : Label) (v w : List ℕ) (ps : List Piece) (m : Mark) → serves x l ≡ true → shape l ≡ Fixed v ∷ Fixed w ∷ ps → fits ps (under l) ≡ true → nat_lt (class_of w) word_count ≡ true
-    → ((z : Noting) → marked m z ≡ writes 0 l z) → (t : List ℕ) (st end : Noting) (ts : List (List ℕ)) → class_of t ≡ class_of w
-    → Meaning action_table means (symbols ps (under l) ++ Emit m ∷ []) st ts end → MeansRest x (v ∷ []) st (t ∷ ts) end
+pub rest_row : (x : Wanted) (l : Label) (v w : List ℕ) (ps : List Piece) (m : Mark) → serves x l ≡ true → shape l ≡ Fixed v ∷ Fixed w ∷ ps → fits ps (under l) ≡ true → nat_lt (template_class w) word_count ≡ true
+    → ((z : Noting) → marked m z ≡ writes 0 l z) → (t : List ℕ) (st end : Noting) (ts : List (List ℕ)) → template_class t ≡ template_class w
+    → Meaning template_table means (symbols ps (under l) ++ Emit m ∷ []) st ts end → MeansRest x (v ∷ []) st (t ∷ ts) end
 rest_row x l v w ps m serve form fit word mark t st end ts e h =
     let n = node_means l ps m st end ts fit mark h in
     let spell : Weaves (shape l) n.parts (v ∷ t ∷ ts) = rw form (refl, (is_word_of t w e word, n.woven)) in
@@ -184,7 +186,7 @@ rest_row x l v w ps m serve form fit word mark t st end ts e h =
 -- a row that goes on behind one word with no other
 pub rest_other : (x : Wanted) (l : Label) (v : List ℕ) (ps : List Piece) (m : Mark) → serves x l ≡ true → shape l ≡ Fixed v ∷ ps → fits ps (under l) ≡ true
     → ((z : Noting) → marked m z ≡ writes 0 l z) → (st end : Noting) (ts : List (List ℕ))
-    → Meaning action_table means (symbols ps (under l) ++ Emit m ∷ []) st ts end → MeansRest x (v ∷ []) st ts end
+    → Meaning template_table means (symbols ps (under l) ++ Emit m ∷ []) st ts end → MeansRest x (v ∷ []) st ts end
 rest_other x l v ps m serve form fit mark st end ts h =
     let n = node_means l ps m st end ts fit mark h in
     let spell : Weaves (shape l) n.parts (v ∷ ts) = rw form (refl, n.woven) in
@@ -201,7 +203,7 @@ pub record IsNotedNode (l : Label) (ps : List Piece) (st : Noting) (ns : List No
 
 pub noted_node : (l : Label) (ps : List Piece) (m : Mark) (st end : Noting) (ns : List Note) (ts : List (List ℕ)) → fits ps (under l) ≡ true
     → ((ls : List Label) → marked m (record { notes = st.notes; labels = ls }) ≡ record { notes = ns; labels = ls ++ l ∷ [] })
-    → Meaning action_table means (symbols ps (under l) ++ Emit m ∷ []) st ts end → IsNotedNode l ps st ns ts end
+    → Meaning template_table means (symbols ps (under l) ++ Emit m ∷ []) st ts end → IsNotedNode l ps st ns ts end
 noted_node l ps m st end ns ts fit mark h =
     let u = under_means ps (under l) (Emit m ∷ []) st end ts fit h in
     let whole : ts ≡ u.front = u.cut ∙ ap (λ y. u.front ++ y) u.then_means.0 ∙ append-nil u.front in

@@ -1,19 +1,20 @@
 -- Labels in postorder are those of one tree; so tokens spell one action.
-use Rattle.std.proofs.Common.{◌≡◌, ℕ, zero, suc, ◌+◌, List, [], ◌∷◌, ◌++◌, length, refl, sym, ap, ◌∙◌, append_assoc, append-nil, arith}
-use Rattle.action_terms.specs.Labels.{Label, Wanted, AnAction, under}
-use Rattle.action_terms.specs.Trees.{Tree, tree, Trees, none, more, Is, Are, IsAction}
+use Rattle.std.proofs.Common.{◌≡◌, Bool, true, false, ℕ, zero, suc, ◌+◌, List, [], ◌∷◌, ◌++◌, length, refl, sym, ap, ◌∙◌, append_assoc, append-nil, arith}
+use Rattle.action_terms.specs.Labels.{Wanted, AnAction}
+use Rattle.meta_terms.specs.Templates.{Label, under, Tree, Trees, Is, Are, IsAction}
+use Rattle.action_terms.specs.Trees.{tree, none, more}
 use Rattle.action_text.specs.declared.table.Symbol.TheVariants.{Name}
 use Rattle.action_text.specs.declared.names.TheConstants as name
 use Rattle.action_text.specs.Tables.{Written, Reads}
-use Rattle.action_text.specs.ActionText.{Spells}
+use Rattle.action_text.specs.TemplateText.{SpellsIn}
 use Rattle.action_text.specs.Posts.{postorder, postorders}
 use Rattle.action_text.specs.Notes.{Noting, noted}
-use Rattle.action_text.specs.ActionTable.{action_table}
+use Rattle.action_text.specs.ActionTable.{table_in}
 use Rattle.action_text.proofs.Means.{wrote}
 use Rattle.action_text.proofs.Starts.{Safe}
-use Rattle.action_text.proofs.ActionTablePasses.{known, action_starting, action_choosing}
+use Rattle.action_text.proofs.ActionTablePasses.{known, table_starting, table_choosing}
 use Rattle.action_text.proofs.OneWriting.{one_writing}
-use Rattle.action_text.proofs.Agreement.{spelled_is_read}
+use Rattle.action_text.proofs.Parameters.{spelled_is_read_in}
 
 -- the trees one behind the other
 abbrev pub joined_trees : Trees → Trees → Trees
@@ -102,17 +103,22 @@ abbrev pub nothing_noted : Noting
 nothing_noted = record { notes = []; labels = [] }
 
 -- the tokens are read in one way
-pub one_reading : (ts : List (List ℕ)) (o p : List Written) → Reads action_table (Name name.ACTION ∷ []) ts o → Reads action_table (Name name.ACTION ∷ []) ts p → o ≡ p
-one_reading ts o p h e = one_writing action_table known action_starting action_choosing h.0 e.0 (Name name.ACTION ∷ []) ts o p start h.1 e.1
+pub one_reading : (p : Bool) (ts : List (List ℕ)) (o q : List Written) → Reads (table_in p) (Name name.ACTION ∷ []) ts o → Reads (table_in p) (Name name.ACTION ∷ []) ts q → o ≡ q
+one_reading p ts o q h e = one_writing (table_in p) (known p) (table_starting p) (table_choosing p) h.0 e.0 (Name name.ACTION ∷ []) ts o q (start p) h.1 e.1
   where
-    start : Safe known (Name name.ACTION ∷ [])
-    start = (omega arith, (λ c h. refl), tt)
+    start : (p : Bool) → Safe (known p) (Name name.ACTION ∷ [])
+    start true = (omega arith, (λ c h. refl), tt)
+    start false = (omega arith, (λ c h. refl), tt)
 
--- tokens spell one action at most
-pub one_action : (t u : Tree) (ts : List (List ℕ)) → Spells t ts → Spells u ts → t ≡ u
-one_action t u ts a b =
-    let x = spelled_is_read t ts a nothing_noted in
-    let y = spelled_is_read u ts b nothing_noted in
-    let o : x.written ≡ y.written = one_reading ts x.written y.written x.reads y.reads in
+spelled_action : (p : Bool) (t : Tree) (ts : List (List ℕ)) → SpellsIn p t ts → IsAction t
+spelled_action true t ts h = h.0
+spelled_action false t ts h = h.1.0
+
+-- tokens spell one template at most
+pub one_template : (p : Bool) (t u : Tree) (ts : List (List ℕ)) → SpellsIn p t ts → SpellsIn p u ts → t ≡ u
+one_template p t u ts a b =
+    let x = spelled_is_read_in p t ts a nothing_noted in
+    let y = spelled_is_read_in p u ts b nothing_noted in
+    let o : x.written ≡ y.written = one_reading p ts x.written y.written x.reads y.reads in
     let same : wrote (postorder t) nothing_noted ≡ wrote (postorder u) nothing_noted = sym x.ends ∙ ap (λ w. noted w nothing_noted) o ∙ y.ends in
-    one_postorder t u a.0 b.0 (ap (λ (z : Noting). z.labels) same)
+    one_postorder t u (spelled_action p t ts a) (spelled_action p u ts b) (ap (λ (z : Noting). z.labels) same)

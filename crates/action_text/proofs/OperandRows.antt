@@ -1,37 +1,42 @@
 -- The rows of operands do what their names mean.
-use Rattle.std.proofs.Common.{◌≡◌, ℕ, true, false, List, [], ◌∷◌, ◌++◌, refl, sym, ap, subst, ◌∙◌, append_assoc, append-nil, codes, nat_lt}
-use Rattle.action_terms.specs.Labels.{Label, ActionNode, AnAction, AnItem, under, copies, serves}
-use Rattle.action_terms.specs.Trees.{tree, Trees, more, Are}
+use Rattle.std.proofs.Common.{◌≡◌, inl, inr, ℕ, Bool, true, false, ◌&&◌, ◌==◌, eqb-true, if◌then◌else◌, List, [], ◌∷◌, ◌++◌, refl, sym, ap, subst, ◌∙◌, append_assoc, append-nil, codes, nat_lt}
+use Rattle.action_terms.specs.Labels.{AnAction, AnItem, copies}
+use Rattle.meta_terms.specs.Names.{is_function, is_variable}
+use Rattle.meta_terms.specs.Templates.{Label, ActionNode, ActionTokenOf, Applied, ValueOf, under, serves, Trees, Are}
+use Rattle.action_terms.specs.Trees.{tree, none, more}
 use Rattle.action_terms.specs.declared.kinds.Kind.{Kind}
 use Rattle.action_terms.specs.declared.kinds.Kind.TheVariants as kind
 use Rattle.action_text.specs.declared.table.Symbol.TheVariants.{Read, Keep, Emit, Name}
 use Rattle.action_text.specs.declared.table.Mark.TheVariants as mark
 use Rattle.action_text.specs.declared.classes.TheConstants as class
 use Rattle.action_text.specs.declared.names.TheConstants as name
-use Rattle.action_text.specs.Shapes.{Fixed, Part, shape, items}
-use Rattle.action_text.specs.ActionText.{IsPlain, ArePartsOf, Weaves}
+use Rattle.action_text.specs.Shapes.{Fixed, Part, items}
+use Rattle.action_text.specs.TemplateText.{shape, IsPlain, ArePartsOf}
+use Rattle.action_text.specs.ActionText.{Weaves}
 use Rattle.action_text.specs.Posts.{postorder, postorders}
-use Rattle.action_text.specs.Notes.{Noting, marked, note, unquoted}
-use Rattle.action_text.specs.Classes.{class_of}
-use Rattle.action_text.specs.ActionTable.{action_table, line}
+use Rattle.action_text.specs.Notes.{Noting, marked, note, unquoted, action_with, begins_quoted}
+use Rattle.action_text.specs.Classes.{template_class}
+use Rattle.action_text.specs.ActionTable.{template_table, line}
 use Rattle.action_text.proofs.Meanings.{Meaning, LineMeans}
-use Rattle.action_text.proofs.Means.{means, wrote, MeansPart, MeansRest}
-use Rattle.action_text.proofs.Words.{word_count, is_word_of, quoted_of_class}
+use Rattle.action_text.proofs.Means.{means, wrote, MeansPart, MeansRest, IsTokenForm}
+use Rattle.action_text.proofs.TemplateWords.{word_count, is_word_of, quoted_of_class, function_of_class, variable_of_class, value_of_class, token_of_class}
+use Rattle.meta_lex.specs.Forms.{is_quoted, is_closed}
+use Rattle.action_text.specs.Tables.{Token}
 use Rattle.action_text.proofs.QuotedTokens.{quoted_is}
-use Rattle.action_text.proofs.Nodes.{noted_node}
+use Rattle.action_text.proofs.Nodes.{noted_node, and_left}
 use Rattle.action_text.proofs.Chains.{last_name}
 
 -- what stands behind the first word of a node
-pub rest_operand : (n : ℕ) (w : List ℕ) → ((st : Noting) (ts : List (List ℕ)) (end : Noting) → means n st ts end → MeansRest AnAction (w ∷ []) st ts end) → nat_lt (class_of w) word_count ≡ true
-    → (t : List ℕ) (st end : Noting) (ts : List (List ℕ)) → class_of t ≡ class_of w → Meaning action_table means (Name n ∷ []) st ts end → MeansPart AnAction st (t ∷ ts) end
+pub rest_operand : (n : ℕ) (w : List ℕ) → ((st : Noting) (ts : List (List ℕ)) (end : Noting) → means n st ts end → MeansRest AnAction (w ∷ []) st ts end) → nat_lt (template_class w) word_count ≡ true
+    → (t : List ℕ) (st end : Noting) (ts : List (List ℕ)) → template_class t ≡ template_class w → Meaning template_table means (Name n ∷ []) st ts end → MeansPart AnAction st (t ∷ ts) end
 rest_operand n w conv word t st end ts e h =
     let m = conv st ts end (last_name means n st end ts h) in
     (m.0, m.1, (0, subst (λ v. IsPlain m.0 (v ∷ ts)) (sym (is_word_of t w e word)) m.2), m.3)
 
-pub operand_escape : LineMeans action_table means (line name.OPERAND class.ESCAPE false (Name name.ESCAPED ∷ []))
+pub operand_escape : LineMeans template_table means (line name.OPERAND class.ESCAPE false (Name name.ESCAPED ∷ []))
 operand_escape t st end ts e h = rest_operand name.ESCAPED (codes "escape") (λ z u v m. m) refl t st end ts e h
 
-pub operand_enact : LineMeans action_table means (line name.OPERAND class.ENACT false (Name name.ENACTED ∷ []))
+pub operand_enact : LineMeans template_table means (line name.OPERAND class.ENACT false (Name name.ENACTED ∷ []))
 operand_enact t st end ts e h = rest_operand name.ENACTED (codes "enact") (λ z u v m. m) refl t st end ts e h
 
 -- a node with data: its labels and the number of its items
@@ -55,7 +60,7 @@ pub record HasData (k : Kind) (st : Noting) (ts : List (List ℕ)) (end : Noting
   pub woven : Weaves (items number) parts ts
   pub written : end ≡ wrote (postorders kids ++ ActionNode k number [] ∷ []) st
 
-pub has_data : (k : Kind) (st end : Noting) (ts : List (List ℕ)) → Meaning action_table means (Name name.DATA ∷ Emit (mark.ActionWithItems k) ∷ []) st ts end → HasData k st ts end
+pub has_data : (k : Kind) (st end : Noting) (ts : List (List ℕ)) → Meaning template_table means (Name name.DATA ∷ Emit (mark.ActionWithItems k) ∷ []) st ts end → HasData k st ts end
 has_data k st end ts h =
     let d = h.4 in
     let whole : ts ≡ h.0 = h.3 ∙ ap (λ y. h.0 ++ y) h.5.0 ∙ append-nil h.0 in
@@ -70,9 +75,9 @@ has_data k st end ts h =
           ∙ ap (λ ls. let r : Noting = record { notes = st.notes; labels = ls } in r) (append_assoc st.labels (postorders d.1) (ActionNode k d.0 [] ∷ []));
     }
 
-pub data_row : (k : Kind) (w : List ℕ) → IsDataKind k → ((n : ℕ) → shape (ActionNode k n []) ≡ Fixed w ∷ items n) → nat_lt (class_of w) word_count ≡ true
-    → (t : List ℕ) (st end : Noting) (ts : List (List ℕ)) → class_of t ≡ class_of w
-    → Meaning action_table means (Name name.DATA ∷ Emit (mark.ActionWithItems k) ∷ []) st ts end → MeansPart AnAction st (t ∷ ts) end
+pub data_row : (k : Kind) (w : List ℕ) → IsDataKind k → ((n : ℕ) → shape (ActionNode k n []) ≡ Fixed w ∷ items n) → nat_lt (template_class w) word_count ≡ true
+    → (t : List ℕ) (st end : Noting) (ts : List (List ℕ)) → template_class t ≡ template_class w
+    → Meaning template_table means (Name name.DATA ∷ Emit (mark.ActionWithItems k) ∷ []) st ts end → MeansPart AnAction st (t ∷ ts) end
 data_row k w is form word t st end ts e h =
     let d = has_data k st end ts h in
     let l : Label = ActionNode k d.number [] in
@@ -81,46 +86,126 @@ data_row k w is form word t st end ts e h =
     let kids_spelled : ArePartsOf d.kids (under l) d.parts = rw (is.under_is d.number) d.spelled in
     (tree l d.kids, (is.serves_is d.number, kids_are), (0, (d.parts, kids_spelled, spell)), d.written)
 
-pub operand_give : LineMeans action_table means (line name.OPERAND class.GIVE false (Name name.DATA ∷ Emit (mark.ActionWithItems kind.Give) ∷ []))
+pub operand_give : LineMeans template_table means (line name.OPERAND class.GIVE false (Name name.DATA ∷ Emit (mark.ActionWithItems kind.Give) ∷ []))
 operand_give t st end ts e h = data_row kind.Give (codes "give") give_items (λ n. refl) refl t st end ts e h
 
-pub escaped_with : LineMeans action_table means (line name.ESCAPED class.WITH false (Name name.DATA ∷ Emit (mark.ActionWithItems kind.EscapeWith) ∷ []))
+pub escaped_with : LineMeans template_table means (line name.ESCAPED class.WITH false (Name name.DATA ∷ Emit (mark.ActionWithItems kind.EscapeWith) ∷ []))
 escaped_with t st end ts e h =
     let d = has_data kind.EscapeWith st end ts h in
     (tree (ActionNode kind.EscapeWith d.number []) d.kids, (refl, d.sorts), (d.parts, d.spelled, (refl, (is_word_of t (codes "with") e refl, d.woven))), d.written)
 
--- one token that is kept, a word, and a part
-pub operand_bind : LineMeans action_table means (line name.OPERAND class.BIND false (Keep class.QUOTED ∷ Read class.TO ∷ Name name.YIELDER ∷ Emit (mark.ActionWithToken kind.Bind) ∷ []))
-operand_bind t st end [] e h = absurd h
-operand_bind t st end (u ∷ []) e h = absurd h.1
-operand_bind t st end (u ∷ v ∷ ts) e h =
-    let q = quoted_is u (quoted_of_class u h.0) in
-    let l : Label = ActionNode kind.Bind 0 (unquoted u) in
-    let n = noted_node l (Part ∷ []) (mark.ActionWithToken kind.Bind) (note (Rattle.action_text.specs.Tables.Token u) st) end st.notes ts refl (λ ls. refl) h.1.1 in
-    (tree l n.kids, (q.1, n.sorts), (0, (n.parts, n.spelled, (is_word_of t (codes "bind") e refl, (q.0, (is_word_of v (codes "to") h.1.0 refl, n.woven))))), n.written)
+-- a variable doesn't begin with a quote
+pub variable_unquoted : (t : List ℕ) → is_variable t ≡ true → begins_quoted t ≡ false
+variable_unquoted [] h = refl
+variable_unquoted (b ∷ rest) h = pick (b == 34) refl
+  where
+    never : (b == 34) ≡ true → ⊥
+    never e = let s : b ≡ 34 = eqb-true b 34 e in let v : is_variable (34 ∷ rest) ≡ true = rw s at h in cc
 
-pub operand_recursively : LineMeans action_table means (line name.OPERAND class.RECURSIVELY false (Read class.BIND ∷ Keep class.QUOTED ∷ Read class.TO ∷ Name name.CLOSURE ∷ Emit (mark.ActionWithToken kind.BindRec) ∷ []))
+    pick : (x : Bool) → (b == 34) ≡ x → x ≡ false
+    pick true e = absurd (never e)
+    pick false e = refl
+
+-- a quoted text does
+pub quoted_begins : (t : List ℕ) → is_quoted t ≡ true → begins_quoted t ≡ true
+quoted_begins [] h = absurd (cc)
+quoted_begins (b ∷ rest) h = and_left (b == 34) (is_closed rest) h
+
+pub with_quoted : (k : Kind) (kept : List ℕ) → is_quoted kept ≡ true → action_with k kept ≡ ActionNode k 0 (unquoted kept)
+with_quoted k kept q = ap (λ b. if b then ActionNode k 0 (unquoted kept) else ActionTokenOf k 0 [] kept) (quoted_begins kept q)
+
+pub with_variable : (k : Kind) (kept : List ℕ) → is_variable kept ≡ true → action_with k kept ≡ ActionTokenOf k 0 [] kept
+with_variable k kept v = ap (λ b. if b then ActionNode k 0 (unquoted kept) else ActionTokenOf k 0 [] kept) (variable_unquoted kept v)
+
+-- the mark of a node with the token that was kept
+pub with_mark : (k : Kind) (kept : List ℕ) (l : Label) (st : Noting) → action_with k kept ≡ l → (ls : List Label)
+    → marked (mark.ActionWithToken k) (record { notes = (note (Token kept) st).notes; labels = ls }) ≡ record { notes = st.notes; labels = ls ++ l ∷ [] }
+with_mark k kept l st e ls = ap (λ x. let r : Noting = record { notes = st.notes; labels = ls ++ x ∷ [] } in r) e
+
+-- a token, a word, and a part
+bind_row : (t v kept : List ℕ) (st end : Noting) (front us : List (List ℕ)) → t ≡ codes "bind" → v ≡ codes "to" → IsTokenForm kept front
+    → Meaning template_table means (Name name.YIELDER ∷ Emit (mark.ActionWithToken kind.Bind) ∷ []) (note (Token kept) st) us end → MeansPart AnAction st (t ∷ (front ++ v ∷ us)) end
+bind_row t v kept st end front us a b (inl f) m =
+    let q = quoted_is kept f.0 in
+    let l : Label = ActionNode kind.Bind 0 (unquoted kept) in
+    let n = noted_node l (Part ∷ []) (mark.ActionWithToken kind.Bind) (note (Token kept) st) end st.notes us refl (with_mark kind.Bind kept l st (with_quoted kind.Bind kept f.0)) m in
+    subst (λ y. MeansPart AnAction st (t ∷ (y ++ v ∷ us)) end) (sym f.1)
+    (tree l n.kids, (q.1, n.sorts), (0, (n.parts, n.spelled, (a, (q.0, (b, n.woven))))), n.written)
+bind_row t v kept st end front us a b (inr f) m =
+    let l : Label = ActionTokenOf kind.Bind 0 [] kept in
+    let n = noted_node l (Part ∷ []) (mark.ActionWithToken kind.Bind) (note (Token kept) st) end st.notes us refl (with_mark kind.Bind kept l st (with_variable kind.Bind kept f.0)) m in
+    subst (λ y. MeansPart AnAction st (t ∷ (y ++ v ∷ us)) end) (sym f.1)
+    (tree l n.kids, (f.0, n.sorts), (0, (n.parts, n.spelled, (a, (refl, (refl, (refl, (b, n.woven))))))), n.written)
+
+pub operand_bind : LineMeans template_table means (line name.OPERAND class.BIND false (Name name.TOKEN ∷ Read class.TO ∷ Name name.YIELDER ∷ Emit (mark.ActionWithToken kind.Bind) ∷ []))
+operand_bind t st end ts e h = behind h.1 h.3 h.5
+  where
+    behind : (back : List (List ℕ)) → ts ≡ h.0 ++ back → Meaning template_table means (Read class.TO ∷ Name name.YIELDER ∷ Emit (mark.ActionWithToken kind.Bind) ∷ []) h.2 back end → MeansPart AnAction st (t ∷ ts) end
+    behind [] cut m = absurd m
+    behind (v ∷ us) cut m =
+        let after = subst (λ z. Meaning template_table means (Name name.YIELDER ∷ Emit (mark.ActionWithToken kind.Bind) ∷ []) z us end) h.4.1 m.1 in
+        subst (λ y. MeansPart AnAction st (t ∷ y) end) (sym cut)
+        (bind_row t v h.4.0 st end h.0 us (is_word_of t (codes "bind") e refl) (is_word_of v (codes "to") m.0 refl) h.4.2 after)
+
+recursively_row : (t w v kept : List ℕ) (st end : Noting) (front us : List (List ℕ)) → t ≡ codes "recursively" → w ≡ codes "bind" → v ≡ codes "to" → IsTokenForm kept front
+    → Meaning template_table means (Name name.CLOSURE ∷ Emit (mark.ActionWithToken kind.BindRec) ∷ []) (note (Token kept) st) us end → MeansPart AnAction st (t ∷ w ∷ (front ++ v ∷ us)) end
+recursively_row t w v kept st end front us a c b (inl f) m =
+    let q = quoted_is kept f.0 in
+    let l : Label = ActionNode kind.BindRec 0 (unquoted kept) in
+    let n = noted_node l (Part ∷ []) (mark.ActionWithToken kind.BindRec) (note (Token kept) st) end st.notes us refl (with_mark kind.BindRec kept l st (with_quoted kind.BindRec kept f.0)) m in
+    subst (λ y. MeansPart AnAction st (t ∷ w ∷ (y ++ v ∷ us)) end) (sym f.1)
+    (tree l n.kids, (q.1, n.sorts), (0, (n.parts, n.spelled, (a, (c, (q.0, (b, n.woven)))))), n.written)
+recursively_row t w v kept st end front us a c b (inr f) m =
+    let l : Label = ActionTokenOf kind.BindRec 0 [] kept in
+    let n = noted_node l (Part ∷ []) (mark.ActionWithToken kind.BindRec) (note (Token kept) st) end st.notes us refl (with_mark kind.BindRec kept l st (with_variable kind.BindRec kept f.0)) m in
+    subst (λ y. MeansPart AnAction st (t ∷ w ∷ (y ++ v ∷ us)) end) (sym f.1)
+    (tree l n.kids, (f.0, n.sorts), (0, (n.parts, n.spelled, (a, (c, (refl, (refl, (refl, (b, n.woven)))))))), n.written)
+
+pub operand_recursively : LineMeans template_table means (line name.OPERAND class.RECURSIVELY false (Read class.BIND ∷ Name name.TOKEN ∷ Read class.TO ∷ Name name.CLOSURE ∷ Emit (mark.ActionWithToken kind.BindRec) ∷ []))
 operand_recursively t st end [] e h = absurd h
-operand_recursively t st end (b ∷ []) e h = absurd h.1
-operand_recursively t st end (b ∷ u ∷ []) e h = absurd h.1.1
-operand_recursively t st end (b ∷ u ∷ v ∷ ts) e h =
-    let q = quoted_is u (quoted_of_class u h.1.0) in
-    let l : Label = ActionNode kind.BindRec 0 (unquoted u) in
-    let n = noted_node l (Part ∷ []) (mark.ActionWithToken kind.BindRec) (note (Rattle.action_text.specs.Tables.Token u) st) end st.notes ts refl (λ ls. refl) h.1.1.1 in (
-      tree l n.kids,
-      (q.1, n.sorts),
-      (0, (n.parts, n.spelled, (is_word_of t (codes "recursively") e refl, (is_word_of b (codes "bind") h.0 refl, (q.0, (is_word_of v (codes "to") h.1.1.0 refl, n.woven)))))),
-      n.written,
-    )
+operand_recursively t st end (w ∷ ts) e h = behind h.1.1 h.1.3 h.1.5
+  where
+    behind : (back : List (List ℕ)) → ts ≡ h.1.0 ++ back → Meaning template_table means (Read class.TO ∷ Name name.CLOSURE ∷ Emit (mark.ActionWithToken kind.BindRec) ∷ []) h.1.2 back end → MeansPart AnAction st (t ∷ w ∷ ts) end
+    behind [] cut m = absurd m
+    behind (v ∷ us) cut m =
+        let after = subst (λ z. Meaning template_table means (Name name.CLOSURE ∷ Emit (mark.ActionWithToken kind.BindRec) ∷ []) z us end) h.1.4.1 m.1 in
+        subst (λ y. MeansPart AnAction st (t ∷ w ∷ y) end) (sym cut)
+        (recursively_row t w v h.1.4.0 st end h.1.0 us (is_word_of t (codes "recursively") e refl) (is_word_of w (codes "bind") h.0 refl) (is_word_of v (codes "to") m.0 refl) h.1.4.2 after)
 
-pub enacted_application : LineMeans action_table means (line name.ENACTED class.APPLICATION false (Read class.OF ∷ Name name.YIELDER ∷ Read class.TO ∷ Name name.DATA ∷ Emit (mark.ActionWithItems kind.Apply) ∷ []))
+pub token_quoted : LineMeans template_table means (line name.TOKEN class.QUOTED true [])
+token_quoted t st end ts e h = (t, h.1, inl (quoted_of_class t e, ap (λ y. t ∷ y) h.0))
+
+pub token_of : LineMeans template_table means (line name.TOKEN class.TOKEN false (Read class.OF ∷ Keep class.VARIABLE ∷ []))
+token_of t st end [] e h = absurd h
+token_of t st end (o ∷ []) e h = absurd h.1
+token_of t st end (o ∷ v ∷ ts) e h =
+    let first : t ≡ codes "token" = token_of_class t e in
+    let second : o ≡ codes "of" = is_word_of o (codes "of") h.0 refl in
+    (v, h.1.1.1, inr (variable_of_class v h.1.0, ap (λ x. x ∷ o ∷ v ∷ ts) first ∙ ap (λ x. codes "token" ∷ x ∷ v ∷ ts) second ∙ ap (λ y. codes "token" ∷ codes "of" ∷ v ∷ y) h.1.1.0))
+
+both_true : (a b : Bool) → a ≡ true → b ≡ true → (a && b) ≡ true
+both_true true b x y = y
+both_true false b x y = absurd (cc)
+
+pub operand_applied : LineMeans template_table means (line name.OPERAND class.FUNCTION true (Keep class.VARIABLE ∷ Emit mark.Applied ∷ []))
+operand_applied t st end [] e h = absurd h
+operand_applied t st end (v ∷ ts) e h =
+    (tree (Applied t v) none, (both_true (is_function t) (is_variable v) (function_of_class t e) (variable_of_class v h.0), tt), (0, ([], refl, (refl, (refl, h.1.0)))), h.1.1)
+
+pub yielder_value : LineMeans template_table means (line name.YIELDER class.VALUE false (Read class.OF ∷ Keep class.VARIABLE ∷ Emit mark.ValueOf ∷ []))
+yielder_value t st end [] e h = absurd h
+yielder_value t st end (o ∷ []) e h = absurd h.1
+yielder_value t st end (o ∷ v ∷ ts) e h =
+    (tree (ValueOf v) none, (variable_of_class v h.1.0, tt), ([], refl, (value_of_class t e, (is_word_of o (codes "of") h.0 refl, (refl, h.1.1.0)))), h.1.1.1)
+
+pub enacted_application : LineMeans template_table means (line name.ENACTED class.APPLICATION false (Read class.OF ∷ Name name.YIELDER ∷ Read class.TO ∷ Name name.DATA ∷ Emit (mark.ActionWithItems kind.Apply) ∷ []))
 enacted_application t st end [] e h = absurd h
 enacted_application t st end (o ∷ ts) e h = behind h.1.1 h.1.3 h.1.5
   where
     regroup : (ls a b : List Label) (l : Label) → (ls ++ a) ++ (b ++ l ∷ []) ≡ ls ++ ((a ++ b) ++ l ∷ [])
     regroup ls a b l = simp append_assoc
 
-    behind : (back : List (List ℕ)) → ts ≡ h.1.0 ++ back → Meaning action_table means (Read class.TO ∷ Name name.DATA ∷ Emit (mark.ActionWithItems kind.Apply) ∷ []) h.1.2 back end
+    behind : (back : List (List ℕ)) → ts ≡ h.1.0 ++ back → Meaning template_table means (Read class.TO ∷ Name name.DATA ∷ Emit (mark.ActionWithItems kind.Apply) ∷ []) h.1.2 back end
         → MeansRest AnAction (codes "enact" ∷ []) st (t ∷ o ∷ ts) end
     behind [] cut m = absurd m
     behind (u ∷ us) cut m =

@@ -1,12 +1,13 @@
 -- The walk from labels in postorder to labels in preorder: a stack of the ends of trees, the first tree on top.
 use Rattle.std.proofs.Common.{◌≡◌, ℕ, zero, suc, ◌+◌, ◌-◌, ◌<◌, ◌≤◌, List, [], ◌∷◌, ◌++◌, length, get_or, reverse, refl, sym, ap, subst, ◌∙◌, arith, append_assoc, append-nil, length-append}
 use Rattle.std.proofs.Common.{◌≢◌, ◌⊎◌, inl, inr, true, false, nat_eq, map}
-use Rattle.action_terms.specs.Pushed.{label_of}
-use Rattle.action_terms.specs.declared.pushed.Pushed.{Pushed}
+use Rattle.meta_terms.specs.Nodes.{label_of}
+use Rattle.meta_terms.specs.declared.template.TemplateNode.{TemplateNode}
 use Rattle.std.proofs.lemmas.Bool.Decides.{eqb_tells}
 use Rattle.std.proofs.lemmas.List.{reverse-append, map-append}
-use Rattle.action_terms.specs.Labels.{Label, Wanted, AnAction, under, copies}
-use Rattle.action_terms.specs.Trees.{Tree, tree, Trees, none, more, Is, Are, IsAction, preorder, preorders}
+use Rattle.action_terms.specs.Labels.{Wanted, AnAction, copies}
+use Rattle.meta_terms.specs.Templates.{Label, under, Tree, Trees, Is, Are, IsAction}
+use Rattle.action_terms.specs.Trees.{TreeOf, TreesOf, tree, none, more, preorder, preorders}
 use Rattle.action_text.specs.Posts.{postorder, postorders}
 use Rattle.action_text.specs.Sizes.{step_back, start_back, tree_ends, AreSizes}
 use Rattle.action_text.proofs.OneTree.{count_of}
@@ -36,7 +37,7 @@ abbrev pub to_come : List Tree → List Label
 to_come [] = []
 to_come (t ∷ ts) = preorder t ++ to_come ts
 
-abbrev pub listed : Trees → List Tree
+abbrev pub listed : {L : Type 0} → TreesOf L → List (TreeOf L)
 listed none = []
 listed (more t ts) = t ∷ listed ts
 
@@ -211,18 +212,22 @@ back_one sizes n k s h = let e : n - k ≡ suc (n - (k + 1)) = omega arith in ap
 pub ends_one : (sizes : List ℕ) (n k s : ℕ) → k < n → tree_ends sizes (n - k) s ≡ s ∷ tree_ends sizes (n - (k + 1)) (step_back sizes s)
 ends_one sizes n k s h = let e : n - k ≡ suc (n - (k + 1)) = omega arith in ap (λ m. tree_ends sizes m s) e
 
-pub length_labels : (labels : List Pushed) → length (map label_of labels) ≡ length labels
+pub length_mapped : {A B : Type 0} (f : A → B) (xs : List A) → length (map f xs) ≡ length xs
+length_mapped f [] = refl
+length_mapped f (x ∷ xs) = ap suc (length_mapped f xs)
+
+pub length_labels : (labels : List TemplateNode) → length (map label_of labels) ≡ length labels
 length_labels [] = refl
 length_labels (l ∷ labels) = ap suc (length_labels labels)
 
 -- the label at a place
-pub label_there : (labels : List Pushed) (i : ℕ) (d : Pushed) (l : Label) → i < length labels → get_or (map label_of labels) i l ≡ label_of (get_or labels i d)
+pub label_there : (labels : List TemplateNode) (i : ℕ) (d : TemplateNode) (l : Label) → i < length labels → get_or (map label_of labels) i l ≡ label_of (get_or labels i d)
 label_there [] i d l h = absurd (omega arith)
 label_there (x ∷ labels) zero d l h = refl
 label_there (x ∷ labels) (suc i) d l h = label_there labels i d l (omega arith)
 
 -- a step of the walk over nodes as they are pushed
-pub walk_step : (labels : List Pushed) (sizes list old new newer : List ℕ) (end count : ℕ) (ordered others : List Pushed) (d : Pushed) (t : Tree) → AreSizes (map label_of labels) list → sizes ≡ list
+pub walk_step : (labels : List TemplateNode) (sizes list old new newer : List ℕ) (end count : ℕ) (ordered others : List TemplateNode) (d : TemplateNode) (t : Tree) → AreSizes (map label_of labels) list → sizes ≡ list
     → old ≡ new ++ end ∷ [] → Walks (map label_of labels) old (map label_of ordered) t → 0 < end → end ≤ length labels → count ≡ length (under (label_of (get_or labels (end - 1) d)))
     → newer ≡ new ++ tree_ends sizes count (end - 1) → others ≡ ordered ++ get_or labels (end - 1) d ∷ [] → Walks (map label_of labels) newer (map label_of others) t
 walk_step labels sizes list old new newer end count ordered others d t ok same e h some within parts f g =

@@ -21,7 +21,7 @@ use Rattle.action_text.specs.Canonical.{action_tokens, canonical_text, IsReadabl
 use Rattle.action_text.specs.Answers.{IsTextOf, token_bytes}
 use Rattle.action_text.proofs.CanonicalTokens.{action_tokens_spell}
 use Rattle.action_text.proofs.Nodes.{and_left, and_right}
-use Rattle.action_text.proofs.OneTree.{one_action}
+use Rattle.action_text.proofs.ActionTemplates.{one_action}
 use Rattle.action_text.proofs.QuotedTokens.{quoted_of_token}
 use Rattle.action_text.proofs.PrintedTokens.{is_printable, is_mark}
 use Rattle.action_text.proofs.PrintedTexts.{ArePrintable, placed, placed_bytes, spaced_are_tokens}

@@ -4,7 +4,7 @@ use Rattle.std.specs.List.{list_any, prefix_len}
 use Rattle.meta_lex.specs.Bytes.{is_blank}
 use Rattle.meta_lex.specs.Tokens.{PlainToken, IsLongest, IsTokenAt, Reads, AreTokens, after_blanks}
 use Rattle.action_text.specs.Shapes.{open_paren, close_paren, comma}
-use Rattle.action_text.specs.Classes.{same_bytes}
+use Rattle.meta_terms.specs.Words.{same_bytes}
 use Rattle.action_text.specs.Canonical.{is_joined, spaced, function_words}
 use Rattle.action_text.specs.Answers.{token_bytes}
 use Rattle.action_text.proofs.Nodes.{and_left}

@@ -2,20 +2,18 @@
 use Rattle.std.proofs.Common.{◌≡◌, ◌≢◌, ◌⊎◌, inl, inr, ℕ, suc, zero, ◌+◌, ◌<◌, ◌≤◌, ◌-◌, ◌*◌, Bool, true, false, List, [], ◌∷◌, ◌++◌, length, take, drop, map, reverse, Some, None, refl, sym, ap, subst, ◌∙◌, arith, get_or, append_assoc, append-nil, add-one, take_all}
 use Rattle.std.proofs.Math.Seq.{drop-cons, take-suc}
 use Rattle.std.proofs.lemmas.List.{reverse-append, drop_all, reverse-reverse}
-use Rattle.action_terms.specs.Labels.{Label}
-use Rattle.action_terms.specs.Trees.{Tree}
+use Rattle.meta_terms.specs.Templates.{Label, Tree}
 use Rattle.action_text.specs.declared.table.Symbol.{Symbol}
 use Rattle.action_text.specs.declared.table.Symbol.TheVariants.{Read, Keep, Emit, Name}
 use Rattle.action_text.specs.declared.table.Mark.{Mark}
 use Rattle.action_text.specs.declared.names.TheConstants as name
 use Rattle.action_text.specs.Tables.{Written, Token, Noted, Line, line_of, other_of, Reads}
-use Rattle.action_text.specs.ActionText.{Spells, BeginsAction, IsFirstBad}
-use Rattle.action_text.specs.ActionTable.{action_table, action_lines, action_others}
-use Rattle.action_text.specs.Classes.{class_of}
+use Rattle.action_text.specs.TemplateText.{SpellsIn, BeginsIn, IsFirstBadIn}
+use Rattle.action_text.specs.ActionTable.{table_in, class_in, template_lines, action_others}
 use Rattle.std.proofs.Common.{if◌then◌else◌}
 use Rattle.std.proofs.lemmas.Bool.Decides.{eqb_tells}
 use Rattle.meta_lex.specs.declared.token.Token.{Token as PlaceToken}
-use Rattle.action_terms.specs.declared.pushed.Pushed.{Pushed}
+use Rattle.meta_terms.specs.declared.template.TemplateNode.{TemplateNode}
 use Rattle.action_text.specs.declared.notes.Note.{Note as ReadNote}
 use Rattle.action_text.specs.Texts.{texts}
 use Rattle.action_text.specs.Views.{noting_of}
@@ -24,205 +22,210 @@ use Rattle.action_text.specs.Posts.{postorder}
 use Rattle.action_text.specs.Reading.{AreLabelsOf}
 use Rattle.action_text.specs.Rows.{HasNoLineAt}
 use Rattle.action_text.proofs.Moves.{Stands, HasNoLine, IsStuck, emit_step, read_step, keep_step, line_step, other_step, ended, begin, token_list, stuck, stuck_empty, stuck_read_end, stuck_keep_end, stuck_read, stuck_keep, stuck_name}
-use Rattle.action_text.proofs.ActionTablePasses.{known, action_starting, action_choosing, action_sampled, action_ending}
+use Rattle.action_text.proofs.ActionTablePasses.{known, table_starting, table_choosing, table_sampled, table_ending}
 use Rattle.action_text.proofs.Checked.{all_end}
 use Rattle.action_text.proofs.Weights.{weigh, weights, weigh-append, line_lighter, other_lighter}
 use Rattle.action_text.proofs.Meanings.{keeping, noted-append}
 use Rattle.action_text.proofs.Means.{wrote}
 use Rattle.action_text.proofs.OneTree.{nothing_noted}
-use Rattle.action_text.proofs.Agreement.{read_is_spelled, spelled_is_read}
+use Rattle.action_text.proofs.Parameters.{read_is_spelled_in, spelled_is_read_in, line_in}
 
--- the state of the loop: what was written so far led to the notes and labels
-abbrev pub State : List (List ℕ) → ℕ → List Symbol → Noting → Type 0
-State all at s st = (o : List Written) × Stands action_table known name.ACTION (take at all) (drop at all) s o × (noted o nothing_noted ≡ st)
+count_some : (p : Bool) → name.ACTION < (known p).count
+count_some true = omega arith
+count_some false = omega arith
 
-pub first_state : (all : List (List ℕ)) → State all 0 (Name name.ACTION ∷ []) nothing_noted
-first_state all = ([], begin action_table known name.ACTION (omega arith) all, refl)
+module _ (p : Bool) where
+  -- the state of the loop: what was written so far led to the notes and labels
+  abbrev pub State : List (List ℕ) → ℕ → List Symbol → Noting → Type 0
+  State all at s st = (o : List Written) × Stands (table_in p) (known p) name.ACTION (take at all) (drop at all) s o × (noted o nothing_noted ≡ st)
 
-pub start_state : (all : List (List ℕ)) (stack : List Symbol) (notes : List ReadNote) (labels : List Pushed) → stack ≡ Name name.ACTION ∷ [] → notes ≡ [] → labels ≡ [] → State all 0 (reverse stack) (noting_of notes labels)
-start_state all stack notes labels e f g = rw e (rw f (rw g (first_state all)))
+  pub first_state : (all : List (List ℕ)) → State all 0 (Name name.ACTION ∷ []) nothing_noted
+  first_state all = ([], begin (table_in p) (known p) name.ACTION (count_some p) all, refl)
 
-pub last_off : (new : List Symbol) (top : Symbol) (old : List Symbol) → old ≡ new ++ top ∷ [] → reverse old ≡ top ∷ reverse new
-last_off new top old e = ap reverse e ∙ reverse-append new (top ∷ [])
+  pub start_state : (all : List (List ℕ)) (stack : List Symbol) (notes : List ReadNote) (labels : List TemplateNode) → stack ≡ Name name.ACTION ∷ [] → notes ≡ [] → labels ≡ [] → State all 0 (reverse stack) (noting_of notes labels)
+  start_state all stack notes labels e f g = rw e (rw f (rw g (first_state all)))
 
-pub put_on : (old right new : List Symbol) → new ≡ old ++ reverse right → reverse new ≡ right ++ reverse old
-put_on old right new e = ap reverse e ∙ (reverse-append old (reverse right) ∙ ap (λ r. r ++ reverse old) (reverse-reverse right))
+  pub last_off : (new : List Symbol) (top : Symbol) (old : List Symbol) → old ≡ new ++ top ∷ [] → reverse old ≡ top ∷ reverse new
+  last_off new top old e = ap reverse e ∙ reverse-append new (top ∷ [])
 
--- the symbols of a right side are put on the stack
-pub on_stack : (all : List (List ℕ)) (at : ℕ) (old right new : List Symbol) (st : Noting) → new ≡ old ++ reverse right → State all at (right ++ reverse old) st → State all at (reverse new) st
-on_stack all at old right new st e h = subst (λ s. State all at s st) (sym (put_on old right new e)) h
+  pub put_on : (old right new : List Symbol) → new ≡ old ++ reverse right → reverse new ≡ right ++ reverse old
+  put_on old right new e = ap reverse e ∙ (reverse-append old (reverse right) ∙ ap (λ r. r ++ reverse old) (reverse-reverse right))
 
--- a move that takes the token at the place
-on_token : (all : List (List ℕ)) (at : ℕ) (s r : List Symbol) (out onward : List Written) → at < length all
-    → ((before rest : List (List ℕ)) → Stands action_table known name.ACTION before (get_or all at [] ∷ rest) s out → Stands action_table known name.ACTION (before ++ get_or all at [] ∷ []) rest r onward)
-    → Stands action_table known name.ACTION (take at all) (drop at all) s out → Stands action_table known name.ACTION (take (at + 1) all) (drop (at + 1) all) r onward
-on_token all at s r out onward lt move h =
-    let n : at + 1 ≡ suc at = add-one at in
-    let a : drop at all ≡ get_or all at [] ∷ drop (suc at) all = drop-cons all at [] lt in
-    let b : take (suc at) all ≡ take at all ++ get_or all at [] ∷ [] = take-suc all at [] lt in
-    rw n (rw b (move (take at all) (drop (suc at) all) (rw a at h)))
+  -- the symbols of a right side are put on the stack
+  pub on_stack : (all : List (List ℕ)) (at : ℕ) (old right new : List Symbol) (st : Noting) → new ≡ old ++ reverse right → State all at (right ++ reverse old) st → State all at (reverse new) st
+  on_stack all at old right new st e h = subst (λ s. State all at s st) (sym (put_on old right new e)) h
 
--- the reader stops where it can't go on
-first_bad : (all : List (List ℕ)) (at : ℕ) (s : List Symbol) (out : List Written) → at ≤ length all → IsStuck action_table s (drop at all) → Stands action_table known name.ACTION (take at all) (drop at all) s out → IsFirstBad all at
-first_bad all at s out le none h = record {
-  inside = le;
-  before =
-      let x = all_end action_table known action_sampled action_ending s h.safe in
-      let y = read_is_spelled nothing_noted (take at all ++ x.0) (out ++ x.1) (h.back x.0 x.1 x.2) in
-      (x.0, y.0, y.1);
-  token = λ lt b. bad_token lt b;
-  early = λ e t r. too_early e t r;
-}
-  where
-    bad_token : at < length all → BeginsAction (take (at + 1) all) → ⊥
-    bad_token lt b =
-        let n : at + 1 ≡ suc at = add-one at in
-        let e : take (suc at) all ≡ take at all ++ get_or all at [] ∷ [] = take-suc all at [] lt in
-        let f : drop at all ≡ get_or all at [] ∷ drop (suc at) all = drop-cons all at [] lt in
-        let c : BeginsAction (take (suc at) all) = rw n at b in
-        let d = spelled_is_read c.1 (take (suc at) all ++ c.0) c.2 nothing_noted in
-        let whole : take (suc at) all ++ c.0 ≡ take at all ++ (get_or all at [] ∷ c.0) = ap (λ y. y ++ c.0) e ∙ append_assoc (take at all) (get_or all at [] ∷ []) c.0 in
-        let r : Reads action_table (Name name.ACTION ∷ []) (take at all ++ (get_or all at [] ∷ c.0)) d.written = subst (λ y. Reads action_table (Name name.ACTION ∷ []) y d.written) whole d.reads in
-        stuck action_table known name.ACTION (take at all) (drop at all) s out h none (get_or all at [] ∷ c.0) d.written (rw f (c.0, refl)) r
+  -- a move that takes the token at the place
+  on_token : (all : List (List ℕ)) (at : ℕ) (s r : List Symbol) (out onward : List Written) → at < length all
+      → ((before rest : List (List ℕ)) → Stands (table_in p) (known p) name.ACTION before (get_or all at [] ∷ rest) s out → Stands (table_in p) (known p) name.ACTION (before ++ get_or all at [] ∷ []) rest r onward)
+      → Stands (table_in p) (known p) name.ACTION (take at all) (drop at all) s out → Stands (table_in p) (known p) name.ACTION (take (at + 1) all) (drop (at + 1) all) r onward
+  on_token all at s r out onward lt move h =
+      let n : at + 1 ≡ suc at = add-one at in
+      let a : drop at all ≡ get_or all at [] ∷ drop (suc at) all = drop-cons all at [] lt in
+      let b : take (suc at) all ≡ take at all ++ get_or all at [] ∷ [] = take-suc all at [] lt in
+      rw n (rw b (move (take at all) (drop (suc at) all) (rw a at h)))
 
-    too_early : at ≡ length all → (t : Tree) → Spells t all → ⊥
-    too_early e t sp =
-        let d = spelled_is_read t all sp nothing_noted in
-        let f : drop at all ≡ [] = drop_all at all (omega arith) in
-        let g : take at all ≡ all = take_all at all (omega arith) in
-        let whole : all ≡ take at all ++ [] = sym g ∙ sym (append-nil (take at all)) in
-        stuck action_table known name.ACTION (take at all) (drop at all) s out h none [] d.written (rw f refl) (subst (λ y. Reads action_table (Name name.ACTION ∷ []) y d.written) whole d.reads)
+  -- the reader stops where it can't go on
+  first_bad : (all : List (List ℕ)) (at : ℕ) (s : List Symbol) (out : List Written) → at ≤ length all → IsStuck (table_in p) s (drop at all) → Stands (table_in p) (known p) name.ACTION (take at all) (drop at all) s out → IsFirstBadIn p all at
+  first_bad all at s out le none h = record {
+    inside = le;
+    before =
+        let x = all_end (table_in p) (known p) (table_sampled p) (table_ending p) s h.safe in
+        let y = read_is_spelled_in p nothing_noted (take at all ++ x.0) (out ++ x.1) (h.back x.0 x.1 x.2) in
+        (x.0, y.0, y.1);
+    token = λ lt b. bad_token lt b;
+    early = λ e t r. too_early e t r;
+  }
+    where
+      bad_token : at < length all → BeginsIn p (take (at + 1) all) → ⊥
+      bad_token lt b =
+          let n : at + 1 ≡ suc at = add-one at in
+          let e : take (suc at) all ≡ take at all ++ get_or all at [] ∷ [] = take-suc all at [] lt in
+          let f : drop at all ≡ get_or all at [] ∷ drop (suc at) all = drop-cons all at [] lt in
+          let c : BeginsIn p (take (suc at) all) = rw n at b in
+          let d = spelled_is_read_in p c.1 (take (suc at) all ++ c.0) c.2 nothing_noted in
+          let whole : take (suc at) all ++ c.0 ≡ take at all ++ (get_or all at [] ∷ c.0) = ap (λ y. y ++ c.0) e ∙ append_assoc (take at all) (get_or all at [] ∷ []) c.0 in
+          let r : Reads (table_in p) (Name name.ACTION ∷ []) (take at all ++ (get_or all at [] ∷ c.0)) d.written = subst (λ y. Reads (table_in p) (Name name.ACTION ∷ []) y d.written) whole d.reads in
+          stuck (table_in p) (known p) name.ACTION (take at all) (drop at all) s out h none (get_or all at [] ∷ c.0) d.written (rw f (c.0, refl)) r
 
--- all tokens are read and nothing is expected
-pub all_read : (all : List (List ℕ)) (at : ℕ) (st : Noting) → at ≡ length all → State all at [] st → AreLabelsOf all st.labels
-all_read all at st e (o, h, noted_is) =
-    let f : drop at all ≡ [] = drop_all at all (omega arith) in
-    let g : take at all ≡ all = take_all at all (omega arith) in
-    let x = ended action_table known name.ACTION all o (rw f at (rw g at h)) in
-    let y = read_is_spelled nothing_noted all o x.0 in
-    (y.0, y.1, same_labels st (noted o nothing_noted) (postorder y.0) noted_is y.2)
-  where
-    same_labels : (st end : Noting) (ls : List Label) → end ≡ st → end ≡ wrote ls nothing_noted → st.labels ≡ ls
-    same_labels st end ls e f = ap (λ (z : Noting). z.labels) (sym e ∙ f)
+      too_early : at ≡ length all → (t : Tree) → SpellsIn p t all → ⊥
+      too_early e t sp =
+          let d = spelled_is_read_in p t all sp nothing_noted in
+          let f : drop at all ≡ [] = drop_all at all (omega arith) in
+          let g : take at all ≡ all = take_all at all (omega arith) in
+          let whole : all ≡ take at all ++ [] = sym g ∙ sym (append-nil (take at all)) in
+          stuck (table_in p) (known p) name.ACTION (take at all) (drop at all) s out h none [] d.written (rw f refl) (subst (λ y. Reads (table_in p) (Name name.ACTION ∷ []) y d.written) whole d.reads)
 
-no_more : (all : List (List ℕ)) (at : ℕ) → at ≡ length all → drop at all ≡ []
-no_more all at e = drop_all at all (omega arith)
+  -- all tokens are read and nothing is expected
+  pub all_read : (all : List (List ℕ)) (at : ℕ) (st : Noting) → at ≡ length all → State all at [] st → AreLabelsOf p all st.labels
+  all_read all at st e (o, h, noted_is) =
+      let f : drop at all ≡ [] = drop_all at all (omega arith) in
+      let g : take at all ≡ all = take_all at all (omega arith) in
+      let x = ended (table_in p) (known p) name.ACTION all o (rw f at (rw g at h)) in
+      let y = read_is_spelled_in p nothing_noted all o x.0 in
+      (y.0, y.1, same_labels st (noted o nothing_noted) (postorder y.0) noted_is y.2)
+    where
+      same_labels : (st end : Noting) (ls : List Label) → end ≡ st → end ≡ wrote ls nothing_noted → st.labels ≡ ls
+      same_labels st end ls e f = ap (λ (z : Noting). z.labels) (sym e ∙ f)
 
-one_more : (all : List (List ℕ)) (at : ℕ) → at < length all → drop at all ≡ get_or all at [] ∷ drop (suc at) all
-one_more all at lt = drop-cons all at [] lt
+  no_more : (all : List (List ℕ)) (at : ℕ) → at ≡ length all → drop at all ≡ []
+  no_more all at e = drop_all at all (omega arith)
 
-pub with_top : (all : List (List ℕ)) (at : ℕ) (old new : List Symbol) (top x : Symbol) (st : Noting) → old ≡ new ++ top ∷ [] → top ≡ x → State all at (reverse old) st → State all at (x ∷ reverse new) st
-with_top all at old new top x st e f h = subst (λ s. State all at s st) (last_off new top old e ∙ ap (λ y. y ∷ reverse new) f) h
+  one_more : (all : List (List ℕ)) (at : ℕ) → at < length all → drop at all ≡ get_or all at [] ∷ drop (suc at) all
+  one_more all at lt = drop-cons all at [] lt
 
-pub after_emit : (all : List (List ℕ)) (at : ℕ) (m : Mark) (s : List Symbol) (st end : Noting) → end ≡ marked m st → State all at (Emit m ∷ s) st → State all at s end
-after_emit all at m s st end e (o, h, noted_is) = (
-  o ++ Noted m ∷ [],
-  emit_step action_table known name.ACTION (take at all) (drop at all) m s o h,
-  noted-append o (Noted m ∷ []) nothing_noted ∙ ap (marked m) noted_is ∙ sym e,
-)
+  pub with_top : (all : List (List ℕ)) (at : ℕ) (old new : List Symbol) (top x : Symbol) (st : Noting) → old ≡ new ++ top ∷ [] → top ≡ x → State all at (reverse old) st → State all at (x ∷ reverse new) st
+  with_top all at old new top x st e f h = subst (λ s. State all at s st) (last_off new top old e ∙ ap (λ y. y ∷ reverse new) f) h
 
-pub after_read : (all : List (List ℕ)) (at c : ℕ) (s : List Symbol) (st : Noting) → at < length all → class_of (get_or all at []) ≡ c → State all at (Read c ∷ s) st → State all (at + 1) s st
-after_read all at c s st lt e (o, h, noted_is) = (o, on_token all at (Read c ∷ s) s o o lt (λ b r x. read_step action_table known name.ACTION b r (get_or all at []) c s o e x) h, noted_is)
+  pub after_emit : (all : List (List ℕ)) (at : ℕ) (m : Mark) (s : List Symbol) (st end : Noting) → end ≡ marked m st → State all at (Emit m ∷ s) st → State all at s end
+  after_emit all at m s st end e (o, h, noted_is) = (
+    o ++ Noted m ∷ [],
+    emit_step (table_in p) (known p) name.ACTION (take at all) (drop at all) m s o h,
+    noted-append o (Noted m ∷ []) nothing_noted ∙ ap (marked m) noted_is ∙ sym e,
+  )
 
-pub after_keep : (all : List (List ℕ)) (at c : ℕ) (s : List Symbol) (st end : Noting) → at < length all → class_of (get_or all at []) ≡ c → end ≡ note (Token (get_or all at [])) st → State all at (Keep c ∷ s) st → State all (at + 1) s end
-after_keep all at c s st end lt e kept (o, h, noted_is) = (
-  o ++ Token (get_or all at []) ∷ [],
-  on_token all at (Keep c ∷ s) s o (o ++ Token (get_or all at []) ∷ []) lt (λ b r x. keep_step action_table known name.ACTION b r (get_or all at []) c s o e x) h,
-  noted-append o (Token (get_or all at []) ∷ []) nothing_noted ∙ ap (note (Token (get_or all at []))) noted_is ∙ sym kept,
-)
+  pub after_read : (all : List (List ℕ)) (at c : ℕ) (s : List Symbol) (st : Noting) → at < length all → (class_in p) (get_or all at []) ≡ c → State all at (Read c ∷ s) st → State all (at + 1) s st
+  after_read all at c s st lt e (o, h, noted_is) = (o, on_token all at (Read c ∷ s) s o o lt (λ b r x. read_step (table_in p) (known p) name.ACTION b r (get_or all at []) c s o e x) h, noted_is)
 
-keeping_last : (b : Bool) (t : List ℕ) (o : List Written) → noted (o ++ token_list b t) nothing_noted ≡ keeping b t (noted o nothing_noted)
-keeping_last true t o = noted-append o (Token t ∷ []) nothing_noted
-keeping_last false t o = ap (λ y. noted y nothing_noted) (append-nil o)
+  pub after_keep : (all : List (List ℕ)) (at c : ℕ) (s : List Symbol) (st end : Noting) → at < length all → (class_in p) (get_or all at []) ≡ c → end ≡ note (Token (get_or all at [])) st → State all at (Keep c ∷ s) st → State all (at + 1) s end
+  after_keep all at c s st end lt e kept (o, h, noted_is) = (
+    o ++ Token (get_or all at []) ∷ [],
+    on_token all at (Keep c ∷ s) s o (o ++ Token (get_or all at []) ∷ []) lt (λ b r x. keep_step (table_in p) (known p) name.ACTION b r (get_or all at []) c s o e x) h,
+    noted-append o (Token (get_or all at []) ∷ []) nothing_noted ∙ ap (note (Token (get_or all at []))) noted_is ∙ sym kept,
+  )
 
-pub after_line : (all : List (List ℕ)) (at n : ℕ) (s : List Symbol) (st end : Noting) (l : Line) → at < length all → line_of action_lines n (class_of (get_or all at [])) ≡ Some l → end ≡ keeping l.keeps (get_or all at []) st
-    → State all at (Name n ∷ s) st → State all (at + 1) (l.right ++ s) end
-after_line all at n s st end l lt e kept (o, h, noted_is) = (
-  o ++ token_list l.keeps (get_or all at []),
-  on_token all at (Name n ∷ s) (l.right ++ s) o (o ++ token_list l.keeps (get_or all at [])) lt (λ b r x. line_step action_table known name.ACTION action_starting action_choosing b r (get_or all at []) n s o l e x) h,
-  keeping_last l.keeps (get_or all at []) o ∙ ap (keeping l.keeps (get_or all at [])) noted_is ∙ sym kept,
-)
+  keeping_last : (b : Bool) (t : List ℕ) (o : List Written) → noted (o ++ token_list b t) nothing_noted ≡ keeping b t (noted o nothing_noted)
+  keeping_last true t o = noted-append o (Token t ∷ []) nothing_noted
+  keeping_last false t o = ap (λ y. noted y nothing_noted) (append-nil o)
 
--- the class at a place is that of its token
-pub class_at : (all : List (List ℕ)) (classes : List ℕ) (at : ℕ) → classes ≡ map class_of all → at < length all → get_or classes at 0 ≡ class_of (get_or all at [])
-class_at all classes at e lt = ap (λ y. get_or y at 0) e ∙ mapped all at lt
-  where
-    mapped : (all : List (List ℕ)) (at : ℕ) → at < length all → get_or (map class_of all) at 0 ≡ class_of (get_or all at [])
-    mapped [] at lt = absurd (omega arith)
-    mapped (t ∷ ts) zero lt = refl
-    mapped (t ∷ ts) (suc at) lt = mapped ts at (omega arith)
+  pub after_line : (all : List (List ℕ)) (at n : ℕ) (s : List Symbol) (st end : Noting) (l : Line) → at < length all → line_of template_lines n (class_in p (get_or all at [])) ≡ Some l → end ≡ keeping l.keeps (get_or all at []) st
+      → State all at (Name n ∷ s) st → State all (at + 1) (l.right ++ s) end
+  after_line all at n s st end l lt e kept (o, h, noted_is) = (
+    o ++ token_list l.keeps (get_or all at []),
+    on_token all at (Name n ∷ s) (l.right ++ s) o (o ++ token_list l.keeps (get_or all at [])) lt (λ b r x. line_step (table_in p) (known p) name.ACTION (table_starting p) (table_choosing p) b r (get_or all at []) n s o l (sym (line_in p n (get_or all at [])) ∙ e) x) h,
+    keeping_last l.keeps (get_or all at []) o ∙ ap (keeping l.keeps (get_or all at [])) noted_is ∙ sym kept,
+  )
 
-pub length_classes : (all : List (List ℕ)) (classes : List ℕ) → classes ≡ map class_of all → length classes ≡ length all
-length_classes all classes e = ap length e ∙ mapped all
-  where
-    mapped : (all : List (List ℕ)) → length (map class_of all) ≡ length all
-    mapped [] = refl
-    mapped (t ∷ ts) = ap suc (mapped ts)
+  -- the class at a place is that of its token
+  pub class_at : (all : List (List ℕ)) (classes : List ℕ) (at : ℕ) → classes ≡ map (class_in p) all → at < length all → get_or classes at 0 ≡ (class_in p) (get_or all at [])
+  class_at all classes at e lt = ap (λ y. get_or y at 0) e ∙ mapped all at lt
+    where
+      mapped : (all : List (List ℕ)) (at : ℕ) → at < length all → get_or (map (class_in p) all) at 0 ≡ (class_in p) (get_or all at [])
+      mapped [] at lt = absurd (omega arith)
+      mapped (t ∷ ts) zero lt = refl
+      mapped (t ∷ ts) (suc at) lt = mapped ts at (omega arith)
 
-no_line : (all : List (List ℕ)) (classes : List ℕ) (at n : ℕ) → classes ≡ map class_of all → at ≤ length all → HasNoLineAt classes at n → HasNoLine action_table n (drop at all)
-no_line all classes at n e le (inl h) = rw (no_more all at (omega (arith, length_classes all classes e))) tt
-no_line all classes at n e le (inr h) =
-    let lt : at < length all = omega (arith, length_classes all classes e, h.0) in
-    rw (one_more all at lt) (ap (λ c. line_of action_lines n c) (sym (class_at all classes at e lt)) ∙ h.1)
+  pub length_classes : (all : List (List ℕ)) (classes : List ℕ) → classes ≡ map (class_in p) all → length classes ≡ length all
+  length_classes all classes e = ap length e ∙ mapped all
+    where
+      mapped : (all : List (List ℕ)) → length (map (class_in p) all) ≡ length all
+      mapped [] = refl
+      mapped (t ∷ ts) = ap suc (mapped ts)
 
-pub after_other : (all : List (List ℕ)) (classes : List ℕ) (at n : ℕ) (s r : List Symbol) (st : Noting) → classes ≡ map class_of all → at ≤ length all → HasNoLineAt classes at n → other_of action_others n ≡ Some r
-    → State all at (Name n ∷ s) st → State all at (r ++ s) st
-after_other all classes at n s r st c le none e (o, h, noted_is) = (o, other_step action_table known name.ACTION action_choosing (take at all) (drop at all) n s r o (no_line all classes at n c le none) e h, noted_is)
+  no_line : (all : List (List ℕ)) (classes : List ℕ) (at n : ℕ) → classes ≡ map (class_in p) all → at ≤ length all → HasNoLineAt classes at n → HasNoLine (table_in p) n (drop at all)
+  no_line all classes at n e le (inl h) = rw (no_more all at (omega (arith, length_classes all classes e))) tt
+  no_line all classes at n e le (inr h) =
+      let lt : at < length all = omega (arith, length_classes all classes e, h.0) in
+      rw (one_more all at lt) (sym (line_in p n (get_or all at [])) ∙ ap (λ c. line_of template_lines n c) (sym (class_at all classes at e lt)) ∙ h.1)
 
--- another token, or none, stands at the place
-abbrev pub NotAt : List (List ℕ) → ℕ → ℕ → Type 0
-NotAt all at c = (at ≡ length all) ⊎ ((at < length all) × (class_of (get_or all at []) ≢ c))
+  pub after_other : (all : List (List ℕ)) (classes : List ℕ) (at n : ℕ) (s r : List Symbol) (st : Noting) → classes ≡ map (class_in p) all → at ≤ length all → HasNoLineAt classes at n → other_of action_others n ≡ Some r
+      → State all at (Name n ∷ s) st → State all at (r ++ s) st
+  after_other all classes at n s r st c le none e (o, h, noted_is) = (o, other_step (table_in p) (known p) name.ACTION (table_choosing p) (take at all) (drop at all) n s r o (no_line all classes at n c le none) e h, noted_is)
 
-pub stops_read : (all : List (List ℕ)) (at c : ℕ) (s : List Symbol) (st : Noting) → at ≤ length all → NotAt all at c → State all at (Read c ∷ s) st → IsFirstBad all at
-stops_read all at c s st le (inl e) (o, h, n) = first_bad all at (Read c ∷ s) o le (rw (no_more all at e) (stuck_read_end action_table c s)) h
-stops_read all at c s st le (inr e) (o, h, n) = first_bad all at (Read c ∷ s) o le (rw (one_more all at e.0) (stuck_read action_table c s (get_or all at []) (drop (suc at) all) e.1)) h
+  -- another token, or none, stands at the place
+  abbrev pub NotAt : List (List ℕ) → ℕ → ℕ → Type 0
+  NotAt all at c = (at ≡ length all) ⊎ ((at < length all) × ((class_in p) (get_or all at []) ≢ c))
 
-pub stops_keep : (all : List (List ℕ)) (at c : ℕ) (s : List Symbol) (st : Noting) → at ≤ length all → NotAt all at c → State all at (Keep c ∷ s) st → IsFirstBad all at
-stops_keep all at c s st le (inl e) (o, h, n) = first_bad all at (Keep c ∷ s) o le (rw (no_more all at e) (stuck_keep_end action_table c s)) h
-stops_keep all at c s st le (inr e) (o, h, n) = first_bad all at (Keep c ∷ s) o le (rw (one_more all at e.0) (stuck_keep action_table c s (get_or all at []) (drop (suc at) all) e.1)) h
+  pub stops_read : (all : List (List ℕ)) (at c : ℕ) (s : List Symbol) (st : Noting) → at ≤ length all → NotAt all at c → State all at (Read c ∷ s) st → IsFirstBadIn p all at
+  stops_read all at c s st le (inl e) (o, h, n) = first_bad all at (Read c ∷ s) o le (rw (no_more all at e) (stuck_read_end (table_in p) c s)) h
+  stops_read all at c s st le (inr e) (o, h, n) = first_bad all at (Read c ∷ s) o le (rw (one_more all at e.0) (stuck_read (table_in p) c s (get_or all at []) (drop (suc at) all) e.1)) h
 
-pub stops_name : (all : List (List ℕ)) (classes : List ℕ) (at n : ℕ) (s : List Symbol) (st : Noting) → classes ≡ map class_of all → at ≤ length all → HasNoLineAt classes at n → other_of action_others n ≡ None → State all at (Name n ∷ s) st → IsFirstBad all at
-stops_name all classes at n s st c le none e (o, h, x) = first_bad all at (Name n ∷ s) o le (stuck_name action_table n s (drop at all) (no_line all classes at n c le none) e) h
+  pub stops_keep : (all : List (List ℕ)) (at c : ℕ) (s : List Symbol) (st : Noting) → at ≤ length all → NotAt all at c → State all at (Keep c ∷ s) st → IsFirstBadIn p all at
+  stops_keep all at c s st le (inl e) (o, h, n) = first_bad all at (Keep c ∷ s) o le (rw (no_more all at e) (stuck_keep_end (table_in p) c s)) h
+  stops_keep all at c s st le (inr e) (o, h, n) = first_bad all at (Keep c ∷ s) o le (rw (one_more all at e.0) (stuck_keep (table_in p) c s (get_or all at []) (drop (suc at) all) e.1)) h
 
-pub stops_empty : (all : List (List ℕ)) (at : ℕ) (st : Noting) → at < length all → State all at [] st → IsFirstBad all at
-stops_empty all at st lt (o, h, n) = first_bad all at [] o (omega arith) (rw (one_more all at lt) (stuck_empty action_table (get_or all at []) (drop (suc at) all))) h
+  pub stops_name : (all : List (List ℕ)) (classes : List ℕ) (at n : ℕ) (s : List Symbol) (st : Noting) → classes ≡ map (class_in p) all → at ≤ length all → HasNoLineAt classes at n → other_of action_others n ≡ None → State all at (Name n ∷ s) st → IsFirstBadIn p all at
+  stops_name all classes at n s st c le none e (o, h, x) = first_bad all at (Name n ∷ s) o le (stuck_name (table_in p) n s (drop at all) (no_line all classes at n c le none) e) h
 
-pub lighter_line : (size at n c : ℕ) (l : Line) (old new onward : List Symbol) (top : Symbol) → at < size → line_of action_lines n c ≡ Some l → old ≡ new ++ top ∷ [] → top ≡ Name n → onward ≡ new ++ reverse l.right
-    → (size - (at + 1)) * 100 + weigh weights (reverse onward) < (size - at) * 100 + weigh weights (reverse old)
-lighter_line size at n c l old new onward top lt e f g h =
-    let a : weigh weights l.right < 100 = line_lighter n c l e in
-    let b : weigh weights (reverse old) ≡ weights n + weigh weights (reverse new) = ap (weigh weights) (last_off new top old f ∙ ap (λ t. t ∷ reverse new) g) in
-    let d : weigh weights (reverse onward) ≡ weigh weights l.right + weigh weights (reverse new) = ap (weigh weights) (put_on new l.right onward h) ∙ weigh-append weights l.right (reverse new) in
-    omega arith
+  pub stops_empty : (all : List (List ℕ)) (at : ℕ) (st : Noting) → at < length all → State all at [] st → IsFirstBadIn p all at
+  stops_empty all at st lt (o, h, n) = first_bad all at [] o (omega arith) (rw (one_more all at lt) (stuck_empty (table_in p) (get_or all at []) (drop (suc at) all))) h
 
-pub lighter_other : (size at n : ℕ) (r old new onward : List Symbol) (top : Symbol) → other_of action_others n ≡ Some r → old ≡ new ++ top ∷ [] → top ≡ Name n → onward ≡ new ++ reverse r
-    → (size - at) * 100 + weigh weights (reverse onward) < (size - at) * 100 + weigh weights (reverse old)
-lighter_other size at n r old new onward top e f g h =
-    let a : weigh weights r < weights n = other_lighter n r e in
-    let b : weigh weights (reverse old) ≡ weights n + weigh weights (reverse new) = ap (weigh weights) (last_off new top old f ∙ ap (λ t. t ∷ reverse new) g) in
-    let d : weigh weights (reverse onward) ≡ weigh weights r + weigh weights (reverse new) = ap (weigh weights) (put_on new r onward h) ∙ weigh-append weights r (reverse new) in
-    omega arith
+  pub lighter_line : (size at n c : ℕ) (l : Line) (old new onward : List Symbol) (top : Symbol) → at < size → line_of template_lines n c ≡ Some l → old ≡ new ++ top ∷ [] → top ≡ Name n → onward ≡ new ++ reverse l.right
+      → (size - (at + 1)) * 100 + weigh weights (reverse onward) < (size - at) * 100 + weigh weights (reverse old)
+  lighter_line size at n c l old new onward top lt e f g h =
+      let a : weigh weights l.right < 100 = line_lighter n c l e in
+      let b : weigh weights (reverse old) ≡ weights n + weigh weights (reverse new) = ap (weigh weights) (last_off new top old f ∙ ap (λ t. t ∷ reverse new) g) in
+      let d : weigh weights (reverse onward) ≡ weigh weights l.right + weigh weights (reverse new) = ap (weigh weights) (put_on new l.right onward h) ∙ weigh-append weights l.right (reverse new) in
+      omega arith
 
-pub at_bottom : (all : List (List ℕ)) (at : ℕ) (old : List Symbol) (st : Noting) → length old ≡ 0 → State all at (reverse old) st → State all at [] st
-at_bottom all at [] st e h = h
-at_bottom all at (x ∷ old) st e h = absurd (omega arith)
+  pub lighter_other : (size at n : ℕ) (r old new onward : List Symbol) (top : Symbol) → other_of action_others n ≡ Some r → old ≡ new ++ top ∷ [] → top ≡ Name n → onward ≡ new ++ reverse r
+      → (size - at) * 100 + weigh weights (reverse onward) < (size - at) * 100 + weigh weights (reverse old)
+  lighter_other size at n r old new onward top e f g h =
+      let a : weigh weights r < weights n = other_lighter n r e in
+      let b : weigh weights (reverse old) ≡ weights n + weigh weights (reverse new) = ap (weigh weights) (last_off new top old f ∙ ap (λ t. t ∷ reverse new) g) in
+      let d : weigh weights (reverse onward) ≡ weigh weights r + weigh weights (reverse new) = ap (weigh weights) (put_on new r onward h) ∙ weigh-append weights r (reverse new) in
+      omega arith
 
-le_cases : (n m : ℕ) → n ≤ m → (n ≡ m) ⊎ (n < m)
-le_cases n m le = elim (eqb_tells n m) [ inl e ↦ inl e.1 | inr e ↦ inr (let d : n ≢ m = e.1 in omega arith) ]
+  pub at_bottom : (all : List (List ℕ)) (at : ℕ) (old : List Symbol) (st : Noting) → length old ≡ 0 → State all at (reverse old) st → State all at [] st
+  at_bottom all at [] st e h = h
+  at_bottom all at (x ∷ old) st e h = absurd (omega arith)
 
--- no token of the class stands at the place
-pub not_at : (all : List (List ℕ)) (classes : List ℕ) (at c : ℕ) (found : Bool) → classes ≡ map class_of all → at ≤ length all → ((at < length classes) × (get_or classes at 0 ≡ c) → found ≡ true) → found ≡ false → NotAt all at c
-not_at all classes at c found e le test none_found =
-    elim (le_cases at (length all) le) [
-      | inl end ↦ inl end
-      | inr lt ↦ inr (lt, λ same. let both : true ≡ false = sym (test (omega (arith, length_classes all classes e), class_at all classes at e lt ∙ same)) ∙ none_found in cc)
-    ]
+  le_cases : (n m : ℕ) → n ≤ m → (n ≡ m) ⊎ (n < m)
+  le_cases n m le = elim (eqb_tells n m) [ inl e ↦ inl e.1 | inr e ↦ inr (let d : n ≢ m = e.1 in omega arith) ]
 
--- a token of the class stands at the place
-pub is_there : (all : List (List ℕ)) (classes : List ℕ) (at c : ℕ) → classes ≡ map class_of all → (at < length classes) × (get_or classes at 0 ≡ c) → (at < length all) × (class_of (get_or all at []) ≡ c)
-is_there all classes at c e h =
-    let lt : at < length all = omega (arith, length_classes all classes e, h.0) in
-    (lt, sym (class_at all classes at e lt) ∙ h.1)
+  -- no token of the class stands at the place
+  pub not_at : (all : List (List ℕ)) (classes : List ℕ) (at c : ℕ) (found : Bool) → classes ≡ map (class_in p) all → at ≤ length all → ((at < length classes) × (get_or classes at 0 ≡ c) → found ≡ true) → found ≡ false → NotAt all at c
+  not_at all classes at c found e le test none_found =
+      elim (le_cases at (length all) le) [
+        | inl end ↦ inl end
+        | inr lt ↦ inr (lt, λ same. let both : true ≡ false = sym (test (omega (arith, length_classes all classes e), class_at all classes at e lt ∙ same)) ∙ none_found in cc)
+      ]
+
+  -- a token of the class stands at the place
+  pub is_there : (all : List (List ℕ)) (classes : List ℕ) (at c : ℕ) → classes ≡ map (class_in p) all → (at < length classes) × (get_or classes at 0 ≡ c) → (at < length all) × ((class_in p) (get_or all at []) ≡ c)
+  is_there all classes at c e h =
+      let lt : at < length all = omega (arith, length_classes all classes e, h.0) in
+      (lt, sym (class_at all classes at e lt) ∙ h.1)
 
 -- the bytes of the token at a place
 pub bytes_at : (tokens : List PlaceToken) (at : ℕ) (d : PlaceToken) → at < length tokens → get_or (texts tokens) at [] ≡ (get_or tokens at d).bytes.now

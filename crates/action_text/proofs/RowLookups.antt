@@ -5,15 +5,15 @@ use Rattle.action_text.specs.declared.table.Row.{Row}
 use Rattle.action_text.specs.declared.table.OtherRow.{OtherRow}
 use Rattle.action_text.specs.declared.table.TheConstants.{SYMBOLS, ROWS, OTHER_ROWS}
 use Rattle.action_text.specs.Tables.{line_of, other_of}
-use Rattle.action_text.specs.ActionTable.{action_lines, action_others}
+use Rattle.action_text.specs.ActionTable.{template_lines, action_lines, parameter_lines, action_others}
 use Rattle.action_text.specs.Rows.{line_at, other_at, IsInside}
 
-pub rows_are_lines : map line_at ROWS ≡ action_lines
-unfolding action_lines action_others
+pub rows_are_lines : map line_at ROWS ≡ template_lines
+unfolding template_lines action_lines parameter_lines action_others
 rows_are_lines = refl
 
 pub rows_are_others : map other_at OTHER_ROWS ≡ action_others
-unfolding action_lines action_others
+unfolding template_lines action_lines parameter_lines action_others
 rows_are_others = refl
 
 -- looking one row on

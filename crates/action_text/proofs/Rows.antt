@@ -1,24 +1,25 @@
 -- Each row of the table of action text does what its name means.
 use Rattle.std.proofs.Common.{true, false, [], ◌∷◌, refl, codes}
-use Rattle.action_terms.specs.Labels.{ActionNode, YielderNode, AnAction, AYielder, AnItem, AClosure}
+use Rattle.action_terms.specs.Labels.{AnAction, AYielder, AnItem, AClosure}
+use Rattle.meta_terms.specs.Templates.{ActionNode, YielderNode}
 use Rattle.action_terms.specs.declared.kinds.Kind.TheVariants as kind
 use Rattle.action_terms.specs.declared.kinds.YKind.TheVariants as ykind
 use Rattle.action_terms.specs.declared.kinds.Sort.TheVariants as sort
 use Rattle.action_text.specs.declared.table.Mark.TheVariants as mark
 use Rattle.action_text.specs.declared.names.TheConstants as name
 use Rattle.action_text.specs.Shapes.{Fixed, Part, open_paren, close_paren, comma, one_argument, two_arguments}
-use Rattle.action_text.specs.ActionTable.{action_table, action_lines, action_others}
+use Rattle.action_text.specs.ActionTable.{template_table, template_lines, action_lines, parameter_lines, action_others}
 use Rattle.action_text.proofs.Meanings.{LinesMean, OthersMean}
 use Rattle.action_text.proofs.Means.{means}
 use Rattle.action_text.proofs.Nodes.{node_row, rest_row, rest_other}
 use Rattle.action_text.proofs.Chains.{chain_ends, operand_alone}
 use Rattle.action_text.proofs.ChainRows.{op_Or, op_And, op_Then, op_Trap, op_Hence, op_Moreover, op_Before, chain_row, more_row, chain_and, and_next_then, and_next_other, more_and_then, action_other, operand_paren}
-use Rattle.action_text.proofs.OperandRows.{operand_escape, operand_enact, operand_give, escaped_with, operand_bind, operand_recursively, enacted_application}
+use Rattle.action_text.proofs.OperandRows.{operand_escape, operand_enact, operand_give, escaped_with, operand_bind, operand_recursively, enacted_application, token_quoted, token_of, operand_applied, yielder_value}
 use Rattle.action_text.proofs.ItemRows.{data_them, data_other, data_paren, items_none, item_other, more_items_close, more_items_comma, items_other}
 use Rattle.action_text.proofs.YielderRows.{yielder_number, yielder_the, yielder_is, the_given, the_other, the_bound, the_stored, at_place, at_no_place, sort_row}
 
-pub lines_mean : LinesMean action_table means action_table.lines
-unfolding action_lines
+pub lines_mean : LinesMean template_table means template_table.lines
+unfolding template_lines action_lines parameter_lines
 lines_mean = (
   (λ t st end ts e h. chain_row kind.Or (codes "or") name.MORE_OR op_Or (λ z u v m. m) refl t st end ts e h),
   (
@@ -159,7 +160,7 @@ lines_mean = (
                                                                                                                                           (sort_row sort.Cell refl),
                                                                                                                                           (
                                                                                                                                             (sort_row sort.Abstraction refl),
-                                                                                                                                            tt,
+                                                                                                                                            (token_quoted, (operand_applied, (yielder_value, (token_of, tt)))),
                                                                                                                                           ),
                                                                                                                                         ),
                                                                                                                                       ),
@@ -231,7 +232,7 @@ lines_mean = (
   ),
 )
 
-pub others_mean : OthersMean action_table means action_table.others
+pub others_mean : OthersMean template_table means template_table.others
 unfolding action_others
 others_mean = (
   action_other,

@@ -1,7 +1,8 @@
 -- From the spelling of a node to the moves that read it: words, parts and chains.
 use Rattle.std.proofs.Common.{◌≡◌, inl, inr, ℕ, zero, suc, true, false, List, [], ◌∷◌, ◌++◌, Some, refl, sym, ap, subst, ◌∙◌, append_assoc, append-nil, nat_eq, nat_lt, eqb-true}
-use Rattle.action_terms.specs.Labels.{ActionNode, YielderNode, Wanted, AnAction, AYielder, AnItem, AClosure, items_fit, token_fits, has_no_token}
-use Rattle.action_terms.specs.Trees.{Tree, tree, Trees, none, more, Is, Are, IsAction}
+use Rattle.action_terms.specs.Labels.{Wanted, AnAction, AYielder, AnItem, AClosure, items_fit, token_fits, has_no_token}
+use Rattle.meta_terms.specs.Templates.{ActionTokenOf, YielderTokenOf, Applied, ValueOf, ActionNode, YielderNode, Tree, Trees, Is, Are, IsAction}
+use Rattle.action_terms.specs.Trees.{tree, none, more}
 use Rattle.action_terms.specs.declared.kinds.Kind.{Kind}
 use Rattle.action_terms.specs.declared.kinds.Kind.TheVariants as kind
 use Rattle.action_text.specs.declared.table.Symbol.{Symbol}
@@ -10,19 +11,20 @@ use Rattle.action_text.specs.declared.classes.TheConstants as class
 use Rattle.action_text.specs.declared.names.TheConstants as name
 use Rattle.action_text.specs.Tables.{line_of, other_of}
 use Rattle.action_text.specs.Shapes.{Piece, Fixed, Numeral, Quoted, Part, operator, open_paren, close_paren}
-use Rattle.action_text.specs.ActionText.{IsPlain, IsChain, ArePartsOf, IsPart, IsEnclosed, Weaves, label_of}
+use Rattle.action_text.specs.ActionText.{IsPart, IsEnclosed, Weaves, label_of}
+use Rattle.action_text.specs.TemplateText.{IsPlain, IsChain, ArePartsOf}
 use Rattle.action_text.specs.Posts.{postorder, postorders}
 use Rattle.action_text.specs.Notes.{Noting}
-use Rattle.action_text.specs.Classes.{class_of}
-use Rattle.action_text.specs.ActionTable.{action_table, action_lines, action_others, line, other}
+use Rattle.action_text.specs.Classes.{template_class}
+use Rattle.action_text.specs.ActionTable.{template_table, template_lines, action_lines, parameter_lines, action_others, line, other}
 use Rattle.action_text.proofs.Meanings.{Does, does_nothing, does_read, does_both, does_line, does_other}
 use Rattle.action_text.proofs.Means.{wrote}
 use Rattle.action_text.proofs.Nodes.{name_of, symbols, is_named, fits, and_left, and_right, wrote_both, wrote_nothing}
-use Rattle.action_text.proofs.Words.{word_count}
+use Rattle.action_text.proofs.TemplateWords.{word_count}
 
 -- the symbols lead from the one state over the tokens to the other
 abbrev pub Goes : List Symbol → Noting → List (List ℕ) → Noting → Type 0
-Goes s st ts end = Does action_table s st ts end
+Goes s st ts end = Does template_table s st ts end
 
 -- the name of what may follow an operand in a chain of the operator
 abbrev pub more_of : Kind → ℕ
@@ -50,16 +52,16 @@ AllGo none = Unit {0}
 AllGo (more t ts) = PlainGoes t × ChainGoes t × AllGo ts
 
 -- a row without a kept token, for its word
-pub word_line : (n : ℕ) (w t : List ℕ) (right : List Symbol) (st end : Noting) (ts : List (List ℕ)) → line_of action_lines n (class_of w) ≡ Some (line n (class_of w) false right) → t ≡ w
+pub word_line : (n : ℕ) (w t : List ℕ) (right : List Symbol) (st end : Noting) (ts : List (List ℕ)) → line_of template_lines n (template_class w) ≡ Some (line n (template_class w) false right) → t ≡ w
     → Goes right st ts end → Goes (Name n ∷ []) st (t ∷ ts) end
 word_line n w t right st end ts found same d =
-    does_line action_table n (line n (class_of w) false right) st end t ts (ap (λ v. line_of action_lines n (class_of v)) same ∙ found) d
+    does_line template_table n (line n (template_class w) false right) st end t ts (ap (λ v. line_of template_lines n (template_class v)) same ∙ found) d
 
-pub word_read : (w t : List ℕ) (s : List Symbol) (st end : Noting) (ts : List (List ℕ)) → t ≡ w → Goes s st ts end → Goes (Read (class_of w) ∷ s) st (t ∷ ts) end
-word_read w t s st end ts same d = does_read action_table (class_of w) s st end t ts (ap class_of same) d
+pub word_read : (w t : List ℕ) (s : List Symbol) (st end : Noting) (ts : List (List ℕ)) → t ≡ w → Goes s st ts end → Goes (Read (template_class w) ∷ s) st (t ∷ ts) end
+word_read w t s st end ts same d = does_read template_table (template_class w) s st end t ts (ap template_class same) d
 
 pub name_then : (n : ℕ) (s : List Symbol) (st mid end : Noting) (ts us : List (List ℕ)) → Goes (Name n ∷ []) st ts mid → Goes s mid us end → Goes (Name n ∷ s) st (ts ++ us) end
-name_then n s st mid end ts us d e = does_both action_table (Name n ∷ []) s st mid end ts us d e
+name_then n s st mid end ts us d e = does_both template_table (Name n ∷ []) s st mid end ts us d e
 
 pub end_at : (s : List Symbol) (st end other : Noting) (ts : List (List ℕ)) → end ≡ other → Goes s st ts end → Goes s st ts other
 end_at s st end other ts e d = subst (λ z. Goes s st ts z) e d
@@ -70,14 +72,14 @@ on_tokens s st end ts us e d = subst (λ y. Goes s st y end) e d
 -- an operator may be followed by no other one
 pub more_ends : (k : Kind) (st : Noting) (w : List ℕ) (ws : List (List ℕ)) → operator k ≡ w ∷ ws → Goes (Name (more_of k) ∷ []) st [] st
 unfolding other_of action_others
-more_ends kind.Or st w ws e = does_other action_table name.MORE_OR [] st st [] refl (does_nothing action_table st)
-more_ends kind.And st w ws e = does_other action_table name.MORE_AND [] st st [] refl (does_nothing action_table st)
-more_ends kind.AndThen st w ws e = does_other action_table name.MORE_AND_THEN [] st st [] refl (does_nothing action_table st)
-more_ends kind.Then st w ws e = does_other action_table name.MORE_THEN [] st st [] refl (does_nothing action_table st)
-more_ends kind.Trap st w ws e = does_other action_table name.MORE_TRAP [] st st [] refl (does_nothing action_table st)
-more_ends kind.Hence st w ws e = does_other action_table name.MORE_HENCE [] st st [] refl (does_nothing action_table st)
-more_ends kind.Moreover st w ws e = does_other action_table name.MORE_MOREOVER [] st st [] refl (does_nothing action_table st)
-more_ends kind.Before st w ws e = does_other action_table name.MORE_BEFORE [] st st [] refl (does_nothing action_table st)
+more_ends kind.Or st w ws e = does_other template_table name.MORE_OR [] st st [] refl (does_nothing template_table st)
+more_ends kind.And st w ws e = does_other template_table name.MORE_AND [] st st [] refl (does_nothing template_table st)
+more_ends kind.AndThen st w ws e = does_other template_table name.MORE_AND_THEN [] st st [] refl (does_nothing template_table st)
+more_ends kind.Then st w ws e = does_other template_table name.MORE_THEN [] st st [] refl (does_nothing template_table st)
+more_ends kind.Trap st w ws e = does_other template_table name.MORE_TRAP [] st st [] refl (does_nothing template_table st)
+more_ends kind.Hence st w ws e = does_other template_table name.MORE_HENCE [] st st [] refl (does_nothing template_table st)
+more_ends kind.Moreover st w ws e = does_other template_table name.MORE_MOREOVER [] st st [] refl (does_nothing template_table st)
+more_ends kind.Before st w ws e = does_other template_table name.MORE_BEFORE [] st st [] refl (does_nothing template_table st)
 more_ends _ st w ws e = absurd (cc)
 
 -- an action that is a chain has an operator for its label
@@ -85,6 +87,10 @@ pub chain_label : (t : Tree) (ts : List (List ℕ)) → IsAction t → IsChain t
 chain_label (tree l none) ts is c = absurd c
 chain_label (tree l (more a none)) ts is c = absurd c
 chain_label (tree (YielderNode k q) (more a (more b none))) ts is c = absurd (cc)
+chain_label (tree (ActionTokenOf k n t v) (more a (more b none))) ts is c = absurd (cc)
+chain_label (tree (YielderTokenOf k t v) (more a (more b none))) ts is c = absurd (cc)
+chain_label (tree (Applied f v) (more a (more b none))) ts is c = absurd (cc)
+chain_label (tree (ValueOf v) (more a (more b none))) ts is c = absurd (cc)
 chain_label (tree (ActionNode k n q) (more a (more b none))) ts is c =
     (k, operator_label k n q c.1 c.2 c.5 (and_left (items_fit k n) (token_fits k q) is.0) (and_right (items_fit k n) (token_fits k q) is.0), c.1, c.2, c.5)
   where
@@ -110,14 +116,14 @@ chain_label (tree l (more a (more b (more c ts)))) us is d = absurd d
 -- an operand of an action is read, in any number of parentheses
 pub operand_goes : (t : Tree) → PlainGoes t → ChainGoes t → IsAction t → (pairs : ℕ) (ts : List (List ℕ)) → IsEnclosed pairs (IsPlain t) (IsChain t) ts → (st : Noting)
     → Goes (Name name.OPERAND ∷ []) st ts (wrote (postorder t) st)
-unfolding line_of action_lines other_of action_others
+unfolding line_of template_lines action_lines parameter_lines other_of action_others
 operand_goes t p c is zero ts h st = p AnAction is ts h st
 operand_goes t p c is (suc pairs) ts (inner, whole, inl h) st =
     let o = operand_goes t p c is pairs inner h st in
     let alone : Goes (Name name.CHAIN ∷ []) (wrote (postorder t) st) [] (wrote (postorder t) st) =
-    does_other action_table name.CHAIN [] (wrote (postorder t) st) (wrote (postorder t) st) [] refl (does_nothing action_table (wrote (postorder t) st)) in
+    does_other template_table name.CHAIN [] (wrote (postorder t) st) (wrote (postorder t) st) [] refl (does_nothing template_table (wrote (postorder t) st)) in
     let action : Goes (Name name.ACTION ∷ []) st (inner ++ []) (wrote (postorder t) st) =
-    does_other action_table name.ACTION (Name name.OPERAND ∷ Name name.CHAIN ∷ []) st (wrote (postorder t) st) (inner ++ []) refl
+    does_other template_table name.ACTION (Name name.OPERAND ∷ Name name.CHAIN ∷ []) st (wrote (postorder t) st) (inner ++ []) refl
     (name_then name.OPERAND (Name name.CHAIN ∷ []) st (wrote (postorder t) st) (wrote (postorder t) st) inner [] o alone) in
     in_parens t inner ts st whole (on_tokens (Name name.ACTION ∷ []) st (wrote (postorder t) st) (inner ++ []) inner (append-nil inner) action)
   where
@@ -127,7 +133,7 @@ operand_goes t p c is (suc pairs) ts (inner, whole, inl h) st =
         on_tokens (Name name.OPERAND ∷ []) st (wrote (postorder t) st) (open_paren ∷ (inner ++ close_paren ∷ [])) ts (sym whole)
         (word_line name.OPERAND open_paren open_paren (Name name.ACTION ∷ Read class.CLOSE_PAREN ∷ []) st (wrote (postorder t) st) (inner ++ close_paren ∷ []) refl refl
         (name_then name.ACTION (Read class.CLOSE_PAREN ∷ []) st (wrote (postorder t) st) (wrote (postorder t) st) inner (close_paren ∷ []) d
-        (word_read close_paren close_paren [] (wrote (postorder t) st) (wrote (postorder t) st) [] refl (does_nothing action_table (wrote (postorder t) st)))))
+        (word_read close_paren close_paren [] (wrote (postorder t) st) (wrote (postorder t) st) [] refl (does_nothing template_table (wrote (postorder t) st)))))
 operand_goes t p c is (suc pairs) ts (inner, whole, inr h) st =
     let l = chain_label t inner is h in
     let action : Goes (Name name.ACTION ∷ []) st (inner ++ []) (wrote (postorder t) st) =
@@ -136,7 +142,7 @@ operand_goes t p c is (suc pairs) ts (inner, whole, inr h) st =
     (word_line name.OPERAND open_paren open_paren (Name name.ACTION ∷ Read class.CLOSE_PAREN ∷ []) st (wrote (postorder t) st) (inner ++ close_paren ∷ []) refl refl
     (name_then name.ACTION (Read class.CLOSE_PAREN ∷ []) st (wrote (postorder t) st) (wrote (postorder t) st) inner (close_paren ∷ [])
     (on_tokens (Name name.ACTION ∷ []) st (wrote (postorder t) st) (inner ++ []) inner (append-nil inner) action)
-    (word_read close_paren close_paren [] (wrote (postorder t) st) (wrote (postorder t) st) [] refl (does_nothing action_table (wrote (postorder t) st)))))
+    (word_read close_paren close_paren [] (wrote (postorder t) st) (wrote (postorder t) st) [] refl (does_nothing template_table (wrote (postorder t) st)))))
 
 -- a part is read in its place
 pub part_goes : (t : Tree) → PlainGoes t → ChainGoes t → (x : Wanted) → Is x t → (ts : List (List ℕ)) → IsPart x (IsPlain t) (IsChain t) ts → (st : Noting) → Goes (Name (name_of x) ∷ []) st ts (wrote (postorder t) st)
@@ -167,6 +173,6 @@ pieces_go (Part ∷ ps) (x ∷ xs) s st end (more k kids) (part ∷ parts) front
 pieces_go (Fixed w ∷ ps) xs s st end kids parts [] back fit all are spelled woven d = absurd woven
 pieces_go (Fixed w ∷ ps) xs s st end kids parts (t ∷ front) back fit all are spelled woven d =
     word_read w t (symbols ps xs ++ s) st end (front ++ back) woven.0
-    (pieces_go ps xs s st end kids parts front back (and_right (nat_lt (class_of w) word_count) (fits ps xs) fit) all are spelled woven.1 d)
+    (pieces_go ps xs s st end kids parts front back (and_right (nat_lt (template_class w) word_count) (fits ps xs) fit) all are spelled woven.1 d)
 pieces_go (Numeral z ∷ ps) xs s st end kids parts front back fit all are spelled woven d = absurd (cc)
 pieces_go (Quoted q ∷ ps) xs s st end kids parts front back fit all are spelled woven d = absurd (cc)

@@ -1,7 +1,9 @@
 -- The action nodes that are spelled by their own tokens are read.
-use Rattle.std.proofs.Common.{◌≡◌, ◌⊎◌, inl, inr, ℕ, zero, suc, ◌+◌, true, List, [], ◌∷◌, ◌++◌, refl, sym, ap, subst, ◌∙◌, append_assoc, append-nil, codes, nat_eq, eqb-true, arith}
-use Rattle.action_terms.specs.Labels.{Label, ActionNode, YielderNode, AnAction, AYielder, AnItem, AClosure, copies, serves, has_no_token, is_token}
-use Rattle.action_terms.specs.Trees.{Tree, tree, Trees, none, more, Is, Are}
+use Rattle.std.proofs.Common.{◌≡◌, Some, ◌&&◌, ◌⊎◌, inl, inr, ℕ, zero, suc, ◌+◌, true, List, [], ◌∷◌, ◌++◌, refl, sym, ap, subst, ◌∙◌, append_assoc, append-nil, codes, nat_eq, eqb-true, arith}
+use Rattle.action_terms.specs.Labels.{Wanted, AnAction, AYielder, AnItem, AClosure, copies, has_no_token, is_token}
+use Rattle.meta_terms.specs.Names.{is_function, is_variable}
+use Rattle.meta_terms.specs.Templates.{ActionTokenOf, YielderTokenOf, Applied, ValueOf, under, Label, ActionNode, YielderNode, serves, Tree, Trees, Is, Are}
+use Rattle.action_terms.specs.Trees.{tree, none, more}
 use Rattle.action_terms.specs.declared.kinds.Kind.{Kind}
 use Rattle.action_terms.specs.declared.kinds.Kind.TheVariants as kind
 use Rattle.action_terms.specs.declared.kinds.YKind.TheVariants as ykind
@@ -11,14 +13,18 @@ use Rattle.action_text.specs.declared.classes.TheConstants as class
 use Rattle.action_text.specs.declared.names.TheConstants as name
 use Rattle.action_text.specs.Tables.{line_of, other_of, Token}
 use Rattle.action_text.specs.Shapes.{Fixed, Part, items, more_items, open_paren, close_paren, comma}
-use Rattle.action_text.specs.ActionText.{IsPlain, ArePartsOf, Weaves}
+use Rattle.action_text.specs.ActionText.{Weaves}
+use Rattle.action_text.specs.TemplateText.{IsPlain, ArePartsOf}
 use Rattle.action_text.specs.Posts.{postorder, postorders}
-use Rattle.action_text.specs.Notes.{Noting, Note, Count, marked, note}
-use Rattle.action_text.specs.ActionTable.{action_table, action_lines, action_others}
-use Rattle.action_text.proofs.Meanings.{does_nothing, does_keep, does_emit, does_other}
+use Rattle.action_text.specs.Notes.{Noting, Note, Count, marked, note, action_with}
+use Rattle.action_text.specs.ActionTable.{template_table, template_lines, action_lines, parameter_lines, action_others, line}
+use Rattle.action_text.proofs.Meanings.{does_nothing, does_line, does_keep, does_emit, does_other}
 use Rattle.action_text.proofs.Means.{wrote}
-use Rattle.action_text.proofs.Nodes.{and_left, and_right}
-use Rattle.action_text.proofs.QuotedTokens.{unquoted_back}
+use Rattle.action_text.proofs.Nodes.{and_left, and_right, name_of, is_named}
+use Rattle.action_text.proofs.QuotedTokens.{unquoted_back, quoted_of_token}
+use Rattle.action_text.proofs.OperandRows.{with_quoted, with_variable}
+use Rattle.action_text.proofs.TemplateWords.{function_class, variable_class}
+use Rattle.action_text.specs.Classes.{template_class}
 use Rattle.action_text.proofs.Spelling.{Goes, AllGo, PlainGoes, word_line, word_read, name_then, end_at, on_tokens, part_goes, pieces_go}
 use Rattle.action_text.proofs.SpeltNodes.{NodeGoes, node_goes, begun_other_goes, shapeless, bare, no_token, quoted_class}
 
@@ -28,11 +34,16 @@ behind_items n kids st = record { notes = Count n ∷ st.notes; labels = st.labe
 
 -- one mark, and then nothing
 pub emits : (m : Rattle.action_text.specs.declared.table.Mark.Mark) (st end : Noting) → marked m st ≡ end → Goes (Emit m ∷ []) st [] end
-emits m st end e = does_emit action_table m [] st end [] (end_at [] (marked m st) (marked m st) end [] e (does_nothing action_table (marked m st)))
+emits m st end e = does_emit template_table m [] st end [] (end_at [] (marked m st) (marked m st) end [] e (does_nothing template_table (marked m st)))
 
 -- an item is `them` or a yielder
 pub item_cases : (t : Tree) → Is AnItem t → ((kids : Trees) × (t ≡ tree (YielderNode ykind.Them []) kids) × Are [] kids) ⊎ Is AYielder t
 item_cases (tree (ActionNode k n q) kids) h = absurd (cc)
+item_cases (tree (ActionTokenOf k n t v) kids) h = absurd (cc)
+item_cases (tree (Applied f v) kids) h = absurd (cc)
+item_cases (tree (YielderTokenOf k [] v) kids) h = inr h
+item_cases (tree (YielderTokenOf k (b ∷ t) v) kids) h = absurd (cc)
+item_cases (tree (ValueOf v) kids) h = inr h
 item_cases (tree (YielderNode ykind.Them q) kids) h = inl (kids, ap (λ r. tree (YielderNode ykind.Them r) kids) (no_token q h.0), h.1)
 item_cases (tree (YielderNode (ykind.Number z) q) kids) h = inr h
 item_cases (tree (YielderNode (ykind.Truth b) q) kids) h = inr h
@@ -62,7 +73,7 @@ them_alone (more k kids) ts are p = absurd are
 
 -- data of one item that stands alone
 one_item_goes : (t : Tree) → PlainGoes t → Is AnItem t → (ts : List (List ℕ)) → IsPlain t ts → (st : Noting) → Goes (Name name.DATA ∷ []) st ts (behind_items 1 (more t none) st)
-unfolding line_of action_lines other_of action_others
+unfolding line_of template_lines action_lines parameter_lines other_of action_others
 one_item_goes t p is ts plain st = go (item_cases t is)
   where
     end_is : (t : Tree) (st : Noting) → marked mark.FirstItem (wrote (postorder t) st) ≡ behind_items 1 (more t none) st
@@ -74,13 +85,13 @@ one_item_goes t p is ts plain st = go (item_cases t is)
         let whole : t ≡ tree (YielderNode ykind.Them []) none = e ∙ ap (λ k. tree (YielderNode ykind.Them []) k) alone.0 in
         on_tokens (Name name.DATA ∷ []) st (behind_items 1 (more t none) st) (codes "them" ∷ []) ts (sym alone.1)
         (word_line name.DATA (codes "them") (codes "them") (Emit (mark.Yielder ykind.Them) ∷ Emit mark.FirstItem ∷ []) st (behind_items 1 (more t none) st) [] refl refl
-        (does_emit action_table (mark.Yielder ykind.Them) (Emit mark.FirstItem ∷ []) st (behind_items 1 (more t none) st) []
+        (does_emit template_table (mark.Yielder ykind.Them) (Emit mark.FirstItem ∷ []) st (behind_items 1 (more t none) st) []
         (emits mark.FirstItem (marked (mark.Yielder ykind.Them) st) (behind_items 1 (more t none) st) (ap (λ u. behind_items 1 (more u none) st) (sym whole)))))
 
     go : ((kids : Trees) × (t ≡ tree (YielderNode ykind.Them []) kids) × Are [] kids) ⊎ Is AYielder t → Goes (Name name.DATA ∷ []) st ts (behind_items 1 (more t none) st)
     go (inl h) = them_goes h.0 h.1 h.2
     go (inr h) =
-        does_other action_table name.DATA (Name name.YIELDER ∷ Emit mark.FirstItem ∷ []) st (behind_items 1 (more t none) st) ts refl
+        does_other template_table name.DATA (Name name.YIELDER ∷ Emit mark.FirstItem ∷ []) st (behind_items 1 (more t none) st) ts refl
         (on_tokens (Name name.YIELDER ∷ Emit mark.FirstItem ∷ []) st (behind_items 1 (more t none) st) (ts ++ []) ts (append-nil ts)
         (name_then name.YIELDER (Emit mark.FirstItem ∷ []) st (wrote (postorder t) st) (behind_items 1 (more t none) st) ts [] (p AYielder h ts plain st)
         (emits mark.FirstItem (wrote (postorder t) st) (behind_items 1 (more t none) st) (end_is t st))))
@@ -96,7 +107,7 @@ count_on n m ns ls = let e : (n + 1) + m ≡ n + suc m = omega arith in ap (λ k
 more_items_go : (m : ℕ) (kids : Trees) (parts : List (List (List ℕ))) (ts : List (List ℕ)) (n : ℕ) (ns : List Note) (ls : List Label) → AllGo kids → Are (copies m AnItem) kids → ArePartsOf kids (copies m AnItem) parts
     → Weaves (more_items m) parts ts
     → Goes (Name name.MORE_ITEMS ∷ []) (record { notes = Count n ∷ ns; labels = ls }) ts (record { notes = Count (n + m) ∷ ns; labels = ls ++ postorders kids })
-unfolding line_of action_lines other_of action_others
+unfolding line_of template_lines action_lines parameter_lines other_of action_others
 more_items_go zero none parts [] n ns ls all are spelled woven = absurd woven
 more_items_go zero none parts (t ∷ ts) n ns ls all are spelled woven =
     let st : Noting = record { notes = Count n ∷ ns; labels = ls } in
@@ -105,7 +116,7 @@ more_items_go zero none parts (t ∷ ts) n ns ls all are spelled woven =
     ap (λ k. let r : Noting = record { notes = Count k ∷ ns; labels = ls } in r) same ∙ ap (λ y. let r : Noting = record { notes = Count (n + 0) ∷ ns; labels = y } in r) (sym (append-nil ls)) in
     let rest : ts ≡ [] = subst (λ (p : List (List (List ℕ))). Weaves [] p ts) spelled woven.1 in
     on_tokens (Name name.MORE_ITEMS ∷ []) st (record { notes = Count (n + 0) ∷ ns; labels = ls ++ [] }) (t ∷ []) (t ∷ ts) (ap (λ y. t ∷ y) (sym rest))
-    (word_line name.MORE_ITEMS close_paren t [] st (record { notes = Count (n + 0) ∷ ns; labels = ls ++ [] }) [] refl woven.0 (end_at [] st st (record { notes = Count (n + 0) ∷ ns; labels = ls ++ [] }) [] end_is (does_nothing action_table st)))
+    (word_line name.MORE_ITEMS close_paren t [] st (record { notes = Count (n + 0) ∷ ns; labels = ls ++ [] }) [] refl woven.0 (end_at [] st st (record { notes = Count (n + 0) ∷ ns; labels = ls ++ [] }) [] end_is (does_nothing template_table st)))
 more_items_go zero (more k kids) parts ts n ns ls all are spelled woven = absurd are
 more_items_go (suc m) none parts ts n ns ls all are spelled woven = absurd are
 more_items_go (suc m) (more k kids) [] ts n ns ls all are spelled woven = absurd spelled
@@ -118,7 +129,7 @@ more_items_go (suc m) (more k kids) (part ∷ parts) (t ∷ ts) n ns ls all are 
     let end_is : record { notes = Count ((n + 1) + m) ∷ ns; labels = (ls ++ postorder k) ++ postorders kids } ≡ end =
     count_on n m ns ((ls ++ postorder k) ++ postorders kids) ∙ ap (λ y. let r : Noting = record { notes = Count (n + suc m) ∷ ns; labels = y } in r) (append_assoc ls (postorder k) (postorders kids)) in
     let behind : Goes (Emit mark.NextItem ∷ Name name.MORE_ITEMS ∷ []) (wrote (postorder k) st) woven.1.0 end =
-    does_emit action_table mark.NextItem (Name name.MORE_ITEMS ∷ []) (wrote (postorder k) st) end woven.1.0 (end_at (Name name.MORE_ITEMS ∷ []) (marked mark.NextItem (wrote (postorder k) st)) (record { notes = Count ((n + 1) + m) ∷ ns; labels = (ls ++ postorder k) ++ postorders kids }) end woven.1.0 end_is rest) in
+    does_emit template_table mark.NextItem (Name name.MORE_ITEMS ∷ []) (wrote (postorder k) st) end woven.1.0 (end_at (Name name.MORE_ITEMS ∷ []) (marked mark.NextItem (wrote (postorder k) st)) (record { notes = Count ((n + 1) + m) ∷ ns; labels = (ls ++ postorder k) ++ postorders kids }) end woven.1.0 end_is rest) in
     word_line name.MORE_ITEMS comma t (Name name.ITEM ∷ Emit mark.NextItem ∷ Name name.MORE_ITEMS ∷ []) st end ts refl woven.0
     (on_tokens (Name name.ITEM ∷ Emit mark.NextItem ∷ Name name.MORE_ITEMS ∷ []) st end (part ++ woven.1.0) ts (sym woven.1.1)
     (name_then name.ITEM (Emit mark.NextItem ∷ Name name.MORE_ITEMS ∷ []) st (wrote (postorder k) st) end part woven.1.0 item behind))
@@ -126,7 +137,7 @@ more_items_go (suc m) (more k kids) (part ∷ parts) (t ∷ ts) n ns ls all are 
 -- data is read, and the number of its items noted
 items_go : (n : ℕ) (kids : Trees) (parts : List (List (List ℕ))) (ts : List (List ℕ)) (st : Noting) → AllGo kids → Are (copies n AnItem) kids → ArePartsOf kids (copies n AnItem) parts → Weaves (items n) parts ts
     → Goes (Name name.DATA ∷ []) st ts (behind_items n kids st)
-unfolding line_of action_lines other_of action_others
+unfolding line_of template_lines action_lines parameter_lines other_of action_others
 items_go zero none parts [] st all are spelled woven = absurd woven
 items_go zero none parts (t ∷ []) st all are spelled woven = absurd woven.1
 items_go zero none parts (t ∷ u ∷ ts) st all are spelled woven =
@@ -167,14 +178,14 @@ items_go (suc (suc n)) (more a (more b kids)) (p ∷ q ∷ parts) (t ∷ ts) st 
         ∙ ap (λ k. let r : Noting = record { notes = Count k ∷ st.notes; labels = ((st.labels ++ postorder a) ++ postorder b) ++ postorders kids } in r) (one_more n)
         ∙ ap (λ y. let r : Noting = record { notes = Count (suc (suc n)) ∷ st.notes; labels = y } in r) (regroup st.labels (postorder a) (postorder b) (postorders kids)) in
         let tail : Goes (Emit mark.NextItem ∷ Name name.MORE_ITEMS ∷ []) after_b w.1.0 end =
-        does_emit action_table mark.NextItem (Name name.MORE_ITEMS ∷ []) after_b end w.1.0 (end_at (Name name.MORE_ITEMS ∷ []) (marked mark.NextItem after_b) (record { notes = Count ((1 + 1) + n) ∷ st.notes; labels = ((st.labels ++ postorder a) ++ postorder b) ++ postorders kids }) end w.1.0 end_is rest) in
+        does_emit template_table mark.NextItem (Name name.MORE_ITEMS ∷ []) after_b end w.1.0 (end_at (Name name.MORE_ITEMS ∷ []) (marked mark.NextItem after_b) (record { notes = Count ((1 + 1) + n) ∷ st.notes; labels = ((st.labels ++ postorder a) ++ postorder b) ++ postorders kids }) end w.1.0 end_is rest) in
         let from_b : Goes (Name name.ITEM ∷ Emit mark.NextItem ∷ Name name.MORE_ITEMS ∷ []) one back end =
         on_tokens (Name name.ITEM ∷ Emit mark.NextItem ∷ Name name.MORE_ITEMS ∷ []) one end (q ++ w.1.0) back (sym w.1.1) (name_then name.ITEM (Emit mark.NextItem ∷ Name name.MORE_ITEMS ∷ []) one after_b end q w.1.0 second tail) in
         let from_comma : Goes (Emit mark.FirstItem ∷ Read class.COMMA ∷ Name name.ITEM ∷ Emit mark.NextItem ∷ Name name.MORE_ITEMS ∷ []) after_a (u ∷ back) end =
-        does_emit action_table mark.FirstItem (Read class.COMMA ∷ Name name.ITEM ∷ Emit mark.NextItem ∷ Name name.MORE_ITEMS ∷ []) after_a end (u ∷ back)
+        does_emit template_table mark.FirstItem (Read class.COMMA ∷ Name name.ITEM ∷ Emit mark.NextItem ∷ Name name.MORE_ITEMS ∷ []) after_a end (u ∷ back)
         (word_read comma u (Name name.ITEM ∷ Emit mark.NextItem ∷ Name name.MORE_ITEMS ∷ []) one end back w.0 from_b) in
         word_line name.DATA open_paren t (Name name.ITEMS ∷ []) st end ts refl woven.0
-        (does_other action_table name.ITEMS (Name name.ITEM ∷ Emit mark.FirstItem ∷ Read class.COMMA ∷ Name name.ITEM ∷ Emit mark.NextItem ∷ Name name.MORE_ITEMS ∷ []) st end ts refl
+        (does_other template_table name.ITEMS (Name name.ITEM ∷ Emit mark.FirstItem ∷ Read class.COMMA ∷ Name name.ITEM ∷ Emit mark.NextItem ∷ Name name.MORE_ITEMS ∷ []) st end ts refl
         (on_tokens (Name name.ITEM ∷ Emit mark.FirstItem ∷ Read class.COMMA ∷ Name name.ITEM ∷ Emit mark.NextItem ∷ Name name.MORE_ITEMS ∷ []) st end (p ++ (u ∷ back)) ts (sym cut)
         (name_then name.ITEM (Emit mark.FirstItem ∷ Read class.COMMA ∷ Name name.ITEM ∷ Emit mark.NextItem ∷ Name name.MORE_ITEMS ∷ []) st after_a end p (u ∷ back) first from_comma)))
 
@@ -193,14 +204,14 @@ data_goes k n kids parts ts st all are spelled woven =
     (emits (mark.ActionWithItems k) (behind_items n kids st) (wrote (postorders kids ++ ActionNode k n [] ∷ []) st) (data_written k n kids st)))
 
 give_goes : (n : ℕ) → NodeGoes name.OPERAND (ActionNode kind.Give n [])
-unfolding line_of action_lines other_of action_others
+unfolding line_of template_lines action_lines parameter_lines other_of action_others
 give_goes n kids all are [] (parts, spelled, woven) st = absurd woven
 give_goes n kids all are (t ∷ ts) (parts, spelled, woven) st =
     word_line name.OPERAND (codes "give") t (Name name.DATA ∷ Emit (mark.ActionWithItems kind.Give) ∷ []) st (wrote (postorder (tree (ActionNode kind.Give n []) kids)) st) ts refl woven.0
     (data_goes kind.Give n kids parts ts st all are spelled woven.1)
 
 escape_with_goes : (n : ℕ) → NodeGoes name.OPERAND (ActionNode kind.EscapeWith n [])
-unfolding line_of action_lines other_of action_others
+unfolding line_of template_lines action_lines parameter_lines other_of action_others
 escape_with_goes n kids all are [] (parts, spelled, woven) st = absurd woven
 escape_with_goes n kids all are (t ∷ []) (parts, spelled, woven) st = absurd woven.1
 escape_with_goes n kids all are (t ∷ u ∷ ts) (parts, spelled, woven) st =
@@ -209,7 +220,7 @@ escape_with_goes n kids all are (t ∷ u ∷ ts) (parts, spelled, woven) st =
     (data_goes kind.EscapeWith n kids parts ts st all are spelled woven.1.1))
 
 apply_goes : (n : ℕ) → NodeGoes name.OPERAND (ActionNode kind.Apply n [])
-unfolding line_of action_lines other_of action_others
+unfolding line_of template_lines action_lines parameter_lines other_of action_others
 apply_goes n kids all are [] (parts, spelled, woven) st = absurd woven
 apply_goes n kids all are (t ∷ []) (parts, spelled, woven) st = absurd woven.1
 apply_goes n kids all are (t ∷ u ∷ []) (parts, spelled, woven) st = absurd woven.1.1
@@ -235,49 +246,124 @@ apply_goes n (more k kids) all are (t ∷ u ∷ v ∷ ts) (part ∷ parts, spell
         (end_at (Name name.DATA ∷ Emit (mark.ActionWithItems kind.Apply) ∷ []) (wrote (postorder k) st) (wrote (postorders kids ++ ActionNode kind.Apply n [] ∷ []) (wrote (postorder k) st)) end back end_is last))))))
 
 -- the mark of a node that takes the token that was kept last
-token_written : (k : Kind) (q t : List ℕ) (kids : Trees) (st : Noting) → t ≡ 34 ∷ (q ++ 34 ∷ [])
-    → marked (mark.ActionWithToken k) (wrote (postorders kids) (note (Token t) st)) ≡ wrote (postorders kids ++ ActionNode k 0 q ∷ []) st
-token_written k q t kids st e =
-    ap (λ r. let x : Noting = record { notes = st.notes; labels = (st.labels ++ postorders kids) ++ ActionNode k 0 r ∷ [] } in x) (unquoted_back q t e)
-    ∙ ap (λ y. let x : Noting = record { notes = st.notes; labels = y } in x) (append_assoc st.labels (postorders kids) (ActionNode k 0 q ∷ []))
+with_written : (k : Kind) (l : Label) (kept : List ℕ) (kids : Trees) (st : Noting) → action_with k kept ≡ l
+    → marked (mark.ActionWithToken k) (wrote (postorders kids) (note (Token kept) st)) ≡ wrote (postorders kids ++ l ∷ []) st
+with_written k l kept kids st e =
+    ap (λ r. let x : Noting = record { notes = st.notes; labels = (st.labels ++ postorders kids) ++ r ∷ [] } in x) e
+    ∙ ap (λ y. let x : Noting = record { notes = st.notes; labels = y } in x) (append_assoc st.labels (postorders kids) (l ∷ []))
+
+-- a quoted text is read as a token
+pub token_goes : (q t : List ℕ) (st : Noting) → is_token q ≡ true → t ≡ 34 ∷ (q ++ 34 ∷ []) → Goes (Name name.TOKEN ∷ []) st (t ∷ []) (note (Token t) st)
+unfolding line_of template_lines action_lines parameter_lines
+token_goes q t st h e =
+    does_line template_table name.TOKEN (line name.TOKEN class.QUOTED true []) st (note (Token t) st) t [] (ap (λ c. line_of template_lines name.TOKEN c) (quoted_class q t h e)) (does_nothing template_table (note (Token t) st))
+
+-- so is `token of V`
+pub token_of_goes : (v a b c : List ℕ) (st : Noting) → is_variable v ≡ true → a ≡ codes "token" → b ≡ codes "of" → c ≡ v → Goes (Name name.TOKEN ∷ []) st (a ∷ b ∷ c ∷ []) (note (Token c) st)
+unfolding line_of template_lines action_lines parameter_lines
+token_of_goes v a b c st h e f g =
+    word_line name.TOKEN (codes "token") a (Read class.OF ∷ Keep class.VARIABLE ∷ []) st (note (Token c) st) (b ∷ c ∷ []) refl e
+    (word_read (codes "of") b (Keep class.VARIABLE ∷ []) st (note (Token c) st) (c ∷ []) f
+    (does_keep template_table class.VARIABLE [] st (note (Token c) st) c [] (ap template_class g ∙ variable_class v h) (does_nothing template_table (note (Token c) st))))
+
+-- what stands behind the token of a node
+behind_token : (k : Kind) (l : Label) (x : Wanted) (kept v : List ℕ) (kids : Trees) (parts : List (List (List ℕ))) (ts : List (List ℕ)) (st : Noting) → action_with k kept ≡ l → under l ≡ x ∷ []
+    → v ≡ codes "to" → AllGo kids → Are (x ∷ []) kids → ArePartsOf kids (x ∷ []) parts → Weaves (Part ∷ []) parts ts → is_named x ≡ true
+    → Goes (Read class.TO ∷ Name (name_of x) ∷ Emit (mark.ActionWithToken k) ∷ []) (note (Token kept) st) (v ∷ ts) (wrote (postorder (tree l kids)) st)
+behind_token k l x kept v kids parts ts st kept_as one to all are spelled woven named =
+    let end : Noting = wrote (postorder (tree l kids)) st in
+    word_read (codes "to") v (Name (name_of x) ∷ Emit (mark.ActionWithToken k) ∷ []) (note (Token kept) st) end ts to
+    (on_tokens (Name (name_of x) ∷ Emit (mark.ActionWithToken k) ∷ []) (note (Token kept) st) end (ts ++ []) ts (append-nil ts)
+    (pieces_go (Part ∷ []) (x ∷ []) (Emit (mark.ActionWithToken k) ∷ []) (note (Token kept) st) end kids parts ts [] (fits_one x named) all are spelled woven
+    (emits (mark.ActionWithToken k) (wrote (postorders kids) (note (Token kept) st)) end (with_written k l kept kids st kept_as))))
+  where
+    fits_one : (x : Wanted) → is_named x ≡ true → (is_named x && true) ≡ true
+    fits_one x n = rw n refl
 
 bind_goes : (q : List ℕ) → is_token q ≡ true → NodeGoes name.OPERAND (ActionNode kind.Bind 0 q)
-unfolding line_of action_lines other_of action_others
+unfolding line_of template_lines action_lines parameter_lines other_of action_others
 bind_goes q token kids all are [] (parts, spelled, woven) st = absurd woven
 bind_goes q token kids all are (t ∷ []) (parts, spelled, woven) st = absurd woven.1
 bind_goes q token kids all are (t ∷ u ∷ []) (parts, spelled, woven) st = absurd woven.1.1
 bind_goes q token kids all are (t ∷ u ∷ v ∷ ts) (parts, spelled, woven) st =
     let end : Noting = wrote (postorder (tree (ActionNode kind.Bind 0 q) kids)) st in
-    let kept : Noting = note (Token u) st in
-    let last : Goes (Emit (mark.ActionWithToken kind.Bind) ∷ []) (wrote (postorders kids) kept) [] end =
-    emits (mark.ActionWithToken kind.Bind) (wrote (postorders kids) kept) end (token_written kind.Bind q u kids st woven.1.0) in
-    word_line name.OPERAND (codes "bind") t (Keep class.QUOTED ∷ Read class.TO ∷ Name name.YIELDER ∷ Emit (mark.ActionWithToken kind.Bind) ∷ []) st end (u ∷ v ∷ ts) refl woven.0
-    (does_keep action_table class.QUOTED (Read class.TO ∷ Name name.YIELDER ∷ Emit (mark.ActionWithToken kind.Bind) ∷ []) st end u (v ∷ ts) (quoted_class q u token woven.1.0)
-    (word_read (codes "to") v (Name name.YIELDER ∷ Emit (mark.ActionWithToken kind.Bind) ∷ []) kept end ts woven.1.1.0
-    (on_tokens (Name name.YIELDER ∷ Emit (mark.ActionWithToken kind.Bind) ∷ []) kept end (ts ++ []) ts (append-nil ts)
-    (pieces_go (Part ∷ []) (AYielder ∷ []) (Emit (mark.ActionWithToken kind.Bind) ∷ []) kept end kids parts ts [] refl all are spelled woven.1.1.1 last))))
+    let kept_as : action_with kind.Bind u ≡ ActionNode kind.Bind 0 q = with_quoted kind.Bind u (quoted_of_token q u token woven.1.0) ∙ ap (λ r. ActionNode kind.Bind 0 r) (unquoted_back q u woven.1.0) in
+    word_line name.OPERAND (codes "bind") t (Name name.TOKEN ∷ Read class.TO ∷ Name name.YIELDER ∷ Emit (mark.ActionWithToken kind.Bind) ∷ []) st end (u ∷ v ∷ ts) refl woven.0
+    (name_then name.TOKEN (Read class.TO ∷ Name name.YIELDER ∷ Emit (mark.ActionWithToken kind.Bind) ∷ []) st (note (Token u) st) end (u ∷ []) (v ∷ ts) (token_goes q u st token woven.1.0)
+    (behind_token kind.Bind (ActionNode kind.Bind 0 q) AYielder u v kids parts ts st kept_as refl woven.1.1.0 all are spelled woven.1.1.1 refl))
 
 bind_rec_goes : (q : List ℕ) → is_token q ≡ true → NodeGoes name.OPERAND (ActionNode kind.BindRec 0 q)
-unfolding line_of action_lines other_of action_others
+unfolding line_of template_lines action_lines parameter_lines other_of action_others
 bind_rec_goes q token kids all are [] (parts, spelled, woven) st = absurd woven
 bind_rec_goes q token kids all are (t ∷ []) (parts, spelled, woven) st = absurd woven.1
 bind_rec_goes q token kids all are (t ∷ b ∷ []) (parts, spelled, woven) st = absurd woven.1.1
 bind_rec_goes q token kids all are (t ∷ b ∷ u ∷ []) (parts, spelled, woven) st = absurd woven.1.1.1
 bind_rec_goes q token kids all are (t ∷ b ∷ u ∷ v ∷ ts) (parts, spelled, woven) st =
     let end : Noting = wrote (postorder (tree (ActionNode kind.BindRec 0 q) kids)) st in
-    let kept : Noting = note (Token u) st in
-    let last : Goes (Emit (mark.ActionWithToken kind.BindRec) ∷ []) (wrote (postorders kids) kept) [] end =
-    emits (mark.ActionWithToken kind.BindRec) (wrote (postorders kids) kept) end (token_written kind.BindRec q u kids st woven.1.1.0) in
-    word_line name.OPERAND (codes "recursively") t (Read class.BIND ∷ Keep class.QUOTED ∷ Read class.TO ∷ Name name.CLOSURE ∷ Emit (mark.ActionWithToken kind.BindRec) ∷ []) st end (b ∷ u ∷ v ∷ ts) refl woven.0
-    (word_read (codes "bind") b (Keep class.QUOTED ∷ Read class.TO ∷ Name name.CLOSURE ∷ Emit (mark.ActionWithToken kind.BindRec) ∷ []) st end (u ∷ v ∷ ts) woven.1.0
-    (does_keep action_table class.QUOTED (Read class.TO ∷ Name name.CLOSURE ∷ Emit (mark.ActionWithToken kind.BindRec) ∷ []) st end u (v ∷ ts) (quoted_class q u token woven.1.1.0)
-    (word_read (codes "to") v (Name name.CLOSURE ∷ Emit (mark.ActionWithToken kind.BindRec) ∷ []) kept end ts woven.1.1.1.0
-    (on_tokens (Name name.CLOSURE ∷ Emit (mark.ActionWithToken kind.BindRec) ∷ []) kept end (ts ++ []) ts (append-nil ts)
-    (pieces_go (Part ∷ []) (AClosure ∷ []) (Emit (mark.ActionWithToken kind.BindRec) ∷ []) kept end kids parts ts [] refl all are spelled woven.1.1.1.1 last)))))
+    let kept_as : action_with kind.BindRec u ≡ ActionNode kind.BindRec 0 q = with_quoted kind.BindRec u (quoted_of_token q u token woven.1.1.0) ∙ ap (λ r. ActionNode kind.BindRec 0 r) (unquoted_back q u woven.1.1.0) in
+    word_line name.OPERAND (codes "recursively") t (Read class.BIND ∷ Name name.TOKEN ∷ Read class.TO ∷ Name name.CLOSURE ∷ Emit (mark.ActionWithToken kind.BindRec) ∷ []) st end (b ∷ u ∷ v ∷ ts) refl woven.0
+    (word_read (codes "bind") b (Name name.TOKEN ∷ Read class.TO ∷ Name name.CLOSURE ∷ Emit (mark.ActionWithToken kind.BindRec) ∷ []) st end (u ∷ v ∷ ts) woven.1.0
+    (name_then name.TOKEN (Read class.TO ∷ Name name.CLOSURE ∷ Emit (mark.ActionWithToken kind.BindRec) ∷ []) st (note (Token u) st) end (u ∷ []) (v ∷ ts) (token_goes q u st token woven.1.1.0)
+    (behind_token kind.BindRec (ActionNode kind.BindRec 0 q) AClosure u v kids parts ts st kept_as refl woven.1.1.1.0 all are spelled woven.1.1.1.1 refl)))
+
+bind_of_goes : (q : List ℕ) → is_variable q ≡ true → NodeGoes name.OPERAND (ActionTokenOf kind.Bind 0 [] q)
+unfolding line_of template_lines action_lines parameter_lines other_of action_others
+bind_of_goes q token kids all are [] (parts, spelled, woven) st = absurd woven
+bind_of_goes q token kids all are (t ∷ []) (parts, spelled, woven) st = absurd woven.1
+bind_of_goes q token kids all are (t ∷ a ∷ []) (parts, spelled, woven) st = absurd woven.1.1
+bind_of_goes q token kids all are (t ∷ a ∷ o ∷ []) (parts, spelled, woven) st = absurd woven.1.1.1
+bind_of_goes q token kids all are (t ∷ a ∷ o ∷ u ∷ []) (parts, spelled, woven) st = absurd woven.1.1.1.1
+bind_of_goes q token kids all are (t ∷ a ∷ o ∷ u ∷ v ∷ ts) (parts, spelled, woven) st =
+    let end : Noting = wrote (postorder (tree (ActionTokenOf kind.Bind 0 [] q) kids)) st in
+    let same : u ≡ q = woven.1.1.1.0 in
+    let kept_as : action_with kind.Bind u ≡ ActionTokenOf kind.Bind 0 [] q = ap (action_with kind.Bind) same ∙ with_variable kind.Bind q token in
+    word_line name.OPERAND (codes "bind") t (Name name.TOKEN ∷ Read class.TO ∷ Name name.YIELDER ∷ Emit (mark.ActionWithToken kind.Bind) ∷ []) st end (a ∷ o ∷ u ∷ v ∷ ts) refl woven.0
+    (name_then name.TOKEN (Read class.TO ∷ Name name.YIELDER ∷ Emit (mark.ActionWithToken kind.Bind) ∷ []) st (note (Token u) st) end (a ∷ o ∷ u ∷ []) (v ∷ ts) (token_of_goes q a o u st token woven.1.0 woven.1.1.0 same)
+    (behind_token kind.Bind (ActionTokenOf kind.Bind 0 [] q) AYielder u v kids parts ts st kept_as refl woven.1.1.1.1.0 all are spelled woven.1.1.1.1.1 refl))
+
+bind_rec_of_goes : (q : List ℕ) → is_variable q ≡ true → NodeGoes name.OPERAND (ActionTokenOf kind.BindRec 0 [] q)
+unfolding line_of template_lines action_lines parameter_lines other_of action_others
+bind_rec_of_goes q token kids all are [] (parts, spelled, woven) st = absurd woven
+bind_rec_of_goes q token kids all are (t ∷ []) (parts, spelled, woven) st = absurd woven.1
+bind_rec_of_goes q token kids all are (t ∷ b ∷ []) (parts, spelled, woven) st = absurd woven.1.1
+bind_rec_of_goes q token kids all are (t ∷ b ∷ a ∷ []) (parts, spelled, woven) st = absurd woven.1.1.1
+bind_rec_of_goes q token kids all are (t ∷ b ∷ a ∷ o ∷ []) (parts, spelled, woven) st = absurd woven.1.1.1.1
+bind_rec_of_goes q token kids all are (t ∷ b ∷ a ∷ o ∷ u ∷ []) (parts, spelled, woven) st = absurd woven.1.1.1.1.1
+bind_rec_of_goes q token kids all are (t ∷ b ∷ a ∷ o ∷ u ∷ v ∷ ts) (parts, spelled, woven) st =
+    let end : Noting = wrote (postorder (tree (ActionTokenOf kind.BindRec 0 [] q) kids)) st in
+    let same : u ≡ q = woven.1.1.1.1.0 in
+    let kept_as : action_with kind.BindRec u ≡ ActionTokenOf kind.BindRec 0 [] q = ap (action_with kind.BindRec) same ∙ with_variable kind.BindRec q token in
+    word_line name.OPERAND (codes "recursively") t (Read class.BIND ∷ Name name.TOKEN ∷ Read class.TO ∷ Name name.CLOSURE ∷ Emit (mark.ActionWithToken kind.BindRec) ∷ []) st end (b ∷ a ∷ o ∷ u ∷ v ∷ ts) refl woven.0
+    (word_read (codes "bind") b (Name name.TOKEN ∷ Read class.TO ∷ Name name.CLOSURE ∷ Emit (mark.ActionWithToken kind.BindRec) ∷ []) st end (a ∷ o ∷ u ∷ v ∷ ts) woven.1.0
+    (name_then name.TOKEN (Read class.TO ∷ Name name.CLOSURE ∷ Emit (mark.ActionWithToken kind.BindRec) ∷ []) st (note (Token u) st) end (a ∷ o ∷ u ∷ []) (v ∷ ts) (token_of_goes q a o u st token woven.1.1.0 woven.1.1.1.0 same)
+    (behind_token kind.BindRec (ActionTokenOf kind.BindRec 0 [] q) AClosure u v kids parts ts st kept_as refl woven.1.1.1.1.1.0 all are spelled woven.1.1.1.1.1.1 refl)))
+
+-- each node whose token is that of a part is read as an operand
+pub action_token_goes : (k : Kind) (q : List ℕ) → serves AnAction (ActionTokenOf k 0 [] q) ≡ true → NodeGoes name.OPERAND (ActionTokenOf k 0 [] q)
+action_token_goes kind.Bind q s = bind_of_goes q s
+action_token_goes kind.BindRec q s = bind_rec_of_goes q s
+action_token_goes _ q s = absurd (cc)
+
+-- the meaning of a part is read as an operand
+pub applied_goes : (f q : List ℕ) → is_function f ≡ true → is_variable q ≡ true → NodeGoes name.OPERAND (Applied f q)
+unfolding line_of template_lines action_lines parameter_lines other_of action_others
+applied_goes f q a b none all are [] (parts, spelled, woven) st = absurd woven
+applied_goes f q a b none all are (t ∷ []) (parts, spelled, woven) st = absurd woven.1
+applied_goes f q a b none all are (t ∷ u ∷ ts) (parts, spelled, woven) st =
+    let end : Noting = wrote (Applied f q ∷ []) st in
+    let kept : Noting = note (Token u) (note (Token t) st) in
+    let rest : ts ≡ [] = subst (λ (p : List (List (List ℕ))). Weaves [] p ts) spelled woven.1.1 in
+    let first : line_of template_lines name.OPERAND (template_class t) ≡ Some (line name.OPERAND class.FUNCTION true (Keep class.VARIABLE ∷ Emit mark.Applied ∷ [])) =
+    ap (λ c. line_of template_lines name.OPERAND c) (ap template_class woven.0 ∙ function_class f a) in
+    on_tokens (Name name.OPERAND ∷ []) st end (t ∷ u ∷ []) (t ∷ u ∷ ts) (ap (λ y. t ∷ u ∷ y) (sym rest))
+    (does_line template_table name.OPERAND (line name.OPERAND class.FUNCTION true (Keep class.VARIABLE ∷ Emit mark.Applied ∷ [])) st end t (u ∷ []) first
+    (does_keep template_table class.VARIABLE (Emit mark.Applied ∷ []) (note (Token t) st) end u [] (ap template_class woven.1.0 ∙ variable_class q b)
+    (emits mark.Applied kept end (ap (λ x. wrote (Applied x u ∷ []) st) woven.0 ∙ ap (λ x. wrote (Applied f x ∷ []) st) woven.1.0))))
+applied_goes f q a b (more k kids) all are ts p st = absurd are
 
 -- each action node with a spelling of its own is read as an operand
 pub action_goes : (k : Kind) (n : ℕ) (q : List ℕ) → serves AnAction (ActionNode k n q) ≡ true → NodeGoes name.OPERAND (ActionNode k n q)
-unfolding line_of action_lines other_of action_others
+unfolding line_of template_lines action_lines parameter_lines other_of action_others
 action_goes kind.Complete n q s = bare name.OPERAND kind.Complete n q (and_left (nat_eq n 0) (has_no_token q) s) (and_right (nat_eq n 0) (has_no_token q) s) (node_goes name.OPERAND (ActionNode kind.Complete 0 []) (codes "complete") [] (mark.Action kind.Complete) refl refl (λ z. refl) refl)
 action_goes kind.Fail n q s = bare name.OPERAND kind.Fail n q (and_left (nat_eq n 0) (has_no_token q) s) (and_right (nat_eq n 0) (has_no_token q) s) (node_goes name.OPERAND (ActionNode kind.Fail 0 []) (codes "fail") [] (mark.Action kind.Fail) refl refl (λ z. refl) refl)
 action_goes kind.Commit n q s = bare name.OPERAND kind.Commit n q (and_left (nat_eq n 0) (has_no_token q) s) (and_right (nat_eq n 0) (has_no_token q) s) (node_goes name.OPERAND (ActionNode kind.Commit 0 []) (codes "commit") [] (mark.Action kind.Commit) refl refl (λ z. refl) refl)

@@ -1,23 +1,25 @@
 -- Each node that is spelled by its own tokens is read.
-use Rattle.std.proofs.Common.{◌≡◌, ℕ, Bool, true, false, ◌&&◌, List, [], ◌∷◌, ◌++◌, Option, Some, None, refl, sym, ap, subst, ◌∙◌, append-nil, nat_eq, nat_lt, if◌then◌else◌, eqb-true, ◌==◌, length}
+use Rattle.std.proofs.Common.{◌≡◌, ◌<◌, arith, ℕ, Bool, true, false, ◌&&◌, List, [], ◌∷◌, ◌++◌, Option, Some, None, refl, sym, ap, subst, ◌∙◌, append-nil, nat_eq, nat_lt, if◌then◌else◌, eqb-true, ◌==◌, length}
 use Rattle.std.specs.Prelude.{ℤ, pos}
 use Rattle.std.specs.Option.{option_map, option_and_then}
 use Rattle.acg_base.specs.Decimals.{spelled_i64, fits_i64, number_of}
 use Rattle.meta_lex.specs.Forms.{is_quoted, is_closed}
-use Rattle.action_terms.specs.Labels.{Label, ActionNode, YielderNode, Wanted, under, has_no_token, is_token}
-use Rattle.action_terms.specs.Trees.{tree, Trees, none, more, Are}
+use Rattle.action_terms.specs.Labels.{Wanted, has_no_token, is_token}
+use Rattle.meta_terms.specs.Templates.{Label, ActionNode, YielderNode, under, Trees, Are}
+use Rattle.action_terms.specs.Trees.{tree, none, more}
 use Rattle.action_terms.specs.declared.kinds.Kind.{Kind}
 use Rattle.action_terms.specs.declared.kinds.YKind.{YKind}
 use Rattle.action_text.specs.declared.table.Symbol.TheVariants.{Emit, Name}
 use Rattle.action_text.specs.declared.table.Mark.{Mark}
 use Rattle.action_text.specs.declared.classes.TheConstants as class
 use Rattle.action_text.specs.Tables.{line_of, other_of}
-use Rattle.action_text.specs.Shapes.{Piece, Fixed, shape}
-use Rattle.action_text.specs.ActionText.{IsPlain, ArePartsOf, Weaves}
+use Rattle.action_text.specs.Shapes.{Piece, Fixed}
+use Rattle.action_text.specs.TemplateText.{shape, IsPlain, ArePartsOf}
+use Rattle.action_text.specs.ActionText.{Weaves}
 use Rattle.action_text.specs.Posts.{postorder, postorders}
 use Rattle.action_text.specs.Notes.{Noting, marked, writes}
-use Rattle.action_text.specs.Classes.{class_of, is_place}
-use Rattle.action_text.specs.ActionTable.{action_table, action_lines, action_others, line}
+use Rattle.action_text.specs.Classes.{class_of, template_class, is_place}
+use Rattle.action_text.specs.ActionTable.{template_table, template_lines, action_others, line}
 use Rattle.action_text.proofs.Meanings.{does_nothing, does_emit, does_other}
 use Rattle.action_text.proofs.Means.{wrote}
 use Rattle.action_text.proofs.Nodes.{symbols, fits, wrote_both}
@@ -31,9 +33,9 @@ NodeGoes n l = (kids : Trees) → AllGo kids → Are (under l) kids → (ts : Li
 -- the mark of a node, behind its parts
 pub mark_goes : (l : Label) (m : Mark) (kids : Trees) (st : Noting) → ((z : Noting) → marked m z ≡ writes 0 l z) → Goes (Emit m ∷ []) (wrote (postorders kids) st) [] (wrote (postorder (tree l kids)) st)
 mark_goes l m kids st mark =
-    does_emit action_table m [] (wrote (postorders kids) st) (wrote (postorder (tree l kids)) st) []
+    does_emit template_table m [] (wrote (postorders kids) st) (wrote (postorder (tree l kids)) st) []
     (end_at [] (marked m (wrote (postorders kids) st)) (marked m (wrote (postorders kids) st)) (wrote (postorder (tree l kids)) st) []
-    (mark (wrote (postorders kids) st) ∙ wrote_both (postorders kids) (l ∷ []) st) (does_nothing action_table (marked m (wrote (postorders kids) st))))
+    (mark (wrote (postorders kids) st) ∙ wrote_both (postorders kids) (l ∷ []) st) (does_nothing template_table (marked m (wrote (postorders kids) st))))
 
 -- the words and parts of a node behind its first words, and its mark
 pub tail_goes : (l : Label) (ps : List Piece) (m : Mark) (kids : Trees) (parts : List (List (List ℕ))) (ts : List (List ℕ)) (st : Noting) → fits ps (under l) ≡ true → ((z : Noting) → marked m z ≡ writes 0 l z)
@@ -44,7 +46,7 @@ tail_goes l ps m kids parts ts st fit mark all are spelled woven =
 
 -- a node that a row reads whole
 pub node_goes : (n : ℕ) (l : Label) (w : List ℕ) (ps : List Piece) (m : Mark) → shape l ≡ Fixed w ∷ ps → fits ps (under l) ≡ true → ((z : Noting) → marked m z ≡ writes 0 l z)
-    → line_of action_lines n (class_of w) ≡ Some (line n (class_of w) false (symbols ps (under l) ++ Emit m ∷ [])) → NodeGoes n l
+    → line_of template_lines n (template_class w) ≡ Some (line n (template_class w) false (symbols ps (under l) ++ Emit m ∷ [])) → NodeGoes n l
 node_goes n l w ps m form fit mark found kids all are ts (parts, spelled, woven) st = by_first ts (rw form at woven)
   where
     by_first : (ts : List (List ℕ)) → Weaves (Fixed w ∷ ps) parts ts → Goes (Name n ∷ []) st ts (wrote (postorder (tree l kids)) st)
@@ -55,8 +57,8 @@ node_goes n l w ps m form fit mark found kids all are ts (parts, spelled, woven)
 
 -- a node that one row begins and another ends
 pub begun_goes : (n o : ℕ) (l : Label) (v w : List ℕ) (ps : List Piece) (m : Mark) → shape l ≡ Fixed v ∷ Fixed w ∷ ps → fits ps (under l) ≡ true → ((z : Noting) → marked m z ≡ writes 0 l z)
-    → line_of action_lines n (class_of v) ≡ Some (line n (class_of v) false (Name o ∷ []))
-    → line_of action_lines o (class_of w) ≡ Some (line o (class_of w) false (symbols ps (under l) ++ Emit m ∷ [])) → NodeGoes n l
+    → line_of template_lines n (template_class v) ≡ Some (line n (template_class v) false (Name o ∷ []))
+    → line_of template_lines o (template_class w) ≡ Some (line o (template_class w) false (symbols ps (under l) ++ Emit m ∷ [])) → NodeGoes n l
 begun_goes n o l v w ps m form fit mark first found kids all are ts (parts, spelled, woven) st = by_two ts (rw form at woven)
   where
     by_two : (ts : List (List ℕ)) → Weaves (Fixed v ∷ Fixed w ∷ ps) parts ts → Goes (Name n ∷ []) st ts (wrote (postorder (tree l kids)) st)
@@ -69,7 +71,7 @@ begun_goes n o l v w ps m form fit mark first found kids all are ts (parts, spel
 
 -- a node that a row begins, and that ends by what else a name may be
 pub begun_other_goes : (n o : ℕ) (l : Label) (v : List ℕ) (ps : List Piece) (m : Mark) → shape l ≡ Fixed v ∷ ps → fits ps (under l) ≡ true → ((z : Noting) → marked m z ≡ writes 0 l z)
-    → line_of action_lines n (class_of v) ≡ Some (line n (class_of v) false (Name o ∷ []))
+    → line_of template_lines n (template_class v) ≡ Some (line n (template_class v) false (Name o ∷ []))
     → other_of action_others o ≡ Some (symbols ps (under l) ++ Emit m ∷ []) → NodeGoes n l
 begun_other_goes n o l v ps m form fit mark first found kids all are ts (parts, spelled, woven) st = by_one ts (rw form at woven)
   where
@@ -77,7 +79,7 @@ begun_other_goes n o l v ps m form fit mark first found kids all are ts (parts, 
     by_one [] h = absurd h
     by_one (t ∷ ts) h =
         word_line n v t (Name o ∷ []) st (wrote (postorder (tree l kids)) st) ts first h.0
-        (does_other action_table o (symbols ps (under l) ++ Emit m ∷ []) st (wrote (postorder (tree l kids)) st) ts found
+        (does_other template_table o (symbols ps (under l) ++ Emit m ∷ []) st (wrote (postorder (tree l kids)) st) ts found
         (tail_goes l ps m kids parts ts st fit mark all are spelled h.1))
 
 -- a node without a spelling that has parts is in no text
@@ -103,7 +105,7 @@ pub bare_yielder : (n : ℕ) (k : YKind) (q : List ℕ) → has_no_token q ≡ t
 bare_yielder n k q bare_token h = subst (λ l. NodeGoes n l) (sym (ap (λ r. YielderNode k r) (no_token q bare_token))) h
 
 -- a token between quotes is kept
-pub quoted_class : (q t : List ℕ) → is_token q ≡ true → t ≡ 34 ∷ (q ++ 34 ∷ []) → class_of t ≡ class.QUOTED
+pub quoted_class : (q t : List ℕ) → is_token q ≡ true → t ≡ 34 ∷ (q ++ 34 ∷ []) → template_class t ≡ class.QUOTED
 quoted_class q t h e = rw (quoted_of_token q t h e) refl
 
 no_digits : (f : ℤ → Option ℤ) (x : Bool) (n : ℕ) → option_and_then f (option_map pos (if x && false then Some n else None)) ≡ None
@@ -123,5 +125,16 @@ number_unquoted (b ∷ rest) z e = by_quote (b == 34) refl
         absurd (cc)
     by_quote false h = refl
 
-pub number_class_of : (t : List ℕ) (z : ℤ) (place : Bool) → spelled_i64 t ≡ Some z → is_place z ≡ place → class_of t ≡ (if place then class.PLACE else class.NUMBER)
-number_class_of t z place e p = rw (number_unquoted t z e) (rw e (rw p refl))
+pub number_class_of : (t : List ℕ) (z : ℤ) (place : Bool) → spelled_i64 t ≡ Some z → is_place z ≡ place → template_class t ≡ (if place then class.PLACE else class.NUMBER)
+number_class_of t z true e p = rw (number_unquoted t z e) (rw e (rw p refl))
+number_class_of t z false e p = rw (number_unquoted t z e) (rw e (rw p refl))
+
+pub quoted_low : (q t : List ℕ) → is_token q ≡ true → t ≡ 34 ∷ (q ++ 34 ∷ []) → class_of t < 63
+quoted_low q t h e = let c : class_of t ≡ class.QUOTED = rw (quoted_of_token q t h e) refl in omega (arith, c)
+
+pub number_low : (t : List ℕ) (z : ℤ) → spelled_i64 t ≡ Some z → class_of t < 63
+number_low t z e = pick (is_place z) (rw (number_unquoted t z e) (rw e refl))
+  where
+    pick : (b : Bool) → class_of t ≡ (if b then class.PLACE else class.NUMBER) → class_of t < 63
+    pick true c = omega (arith, c)
+    pick false c = omega (arith, c)

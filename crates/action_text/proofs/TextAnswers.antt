@@ -1,12 +1,14 @@
 -- What the parts of reading an action text answer together.
-use Rattle.std.proofs.Common.{◌≡◌, ℕ, zero, suc, ◌<◌, ◌≤◌, List, [], ◌∷◌, length, get_or, map, refl, ap, subst, ◌∙◌, arith}
+use Rattle.std.proofs.Common.{◌≡◌, ℕ, zero, suc, ◌<◌, ◌≤◌, List, [], ◌∷◌, length, get_or, take, drop, map, refl, sym, ap, subst, ◌-◌, ◌∙◌, arith}
+use Rattle.std.specs.Prelude.{slice_range}
+use Rattle.std.proofs.lemmas.List.{take-map, drop-map}
 use Rattle.meta_lex.specs.Tokens.{PlainToken, AreTokens, plain_token}
 use Rattle.meta_lex.specs.declared.token.Token.{Token}
 use Rattle.action_terms.specs.Trees.{Tree}
 use Rattle.action_text.specs.ActionText.{Spells, IsFirstBad}
 use Rattle.action_text.specs.Answers.{IsTextOf, IsBadText, token_bytes, offset_of}
 use Rattle.action_text.specs.Texts.{texts}
-use Rattle.action_text.proofs.OneTree.{one_action}
+use Rattle.action_text.proofs.ActionTemplates.{one_action}
 
 texts_plain : (tokens : List Token) → texts tokens ≡ token_bytes (map plain_token tokens)
 texts_plain [] = refl
@@ -41,3 +43,10 @@ pub offset_past : (tokens : List Token) (place size : ℕ) → length tokens ≤
 offset_past [] place size h = refl
 offset_past (t ∷ tokens) zero size h = absurd (omega arith)
 offset_past (t ∷ tokens) (suc place) size h = offset_past tokens place size (omega arith)
+
+-- the bytes of some tokens of a list
+pub texts_cut : (tokens : List Token) (read : List PlainToken) (from to : ℕ) → map plain_token tokens ≡ read → texts (slice_range tokens from to) ≡ slice_range (token_bytes read) from to
+texts_cut tokens read from to e =
+    sym (take-map (λ (t : Token). t.bytes.now) (to - from) (drop from tokens))
+    ∙ ap (take (to - from)) (sym (drop-map (λ (t : Token). t.bytes.now) from tokens))
+    ∙ ap (λ all. slice_range all from to) (texts_read tokens read e)

@@ -1,7 +1,8 @@
 -- The sizes of the trees that end with each label.
 use Rattle.std.proofs.Common.{◌≡◌, ℕ, zero, suc, ◌+◌, ◌-◌, ◌<◌, ◌≤◌, List, [], ◌∷◌, ◌++◌, length, get_or, refl, sym, ap, ◌∙◌, arith, append_assoc, length-append}
-use Rattle.action_terms.specs.Labels.{Label, Wanted, under}
-use Rattle.action_terms.specs.Trees.{Tree, tree, Trees, none, more, Is, Are}
+use Rattle.action_terms.specs.Labels.{Wanted}
+use Rattle.meta_terms.specs.Templates.{Label, under, Tree, Trees, Is, Are}
+use Rattle.action_terms.specs.Trees.{tree, none, more}
 use Rattle.action_text.specs.Posts.{postorder, postorders}
 use Rattle.action_text.specs.Sizes.{step_back, start_back, tree_ends, AreSizes}
 use Rattle.action_text.proofs.OneTree.{count_of, count_is}

@@ -3,7 +3,7 @@ use Rattle.std.proofs.Common.{◌≡◌, ℕ, ◌+◌, ◌<◌, Bool, true, fals
 use Rattle.action_text.specs.declared.table.Symbol.{Symbol}
 use Rattle.action_text.specs.declared.table.Symbol.TheVariants.{Read, Keep, Emit, Name}
 use Rattle.action_text.specs.Tables.{Line, Other, line_of, other_of}
-use Rattle.action_text.specs.ActionTable.{action_lines, action_others}
+use Rattle.action_text.specs.ActionTable.{template_lines, action_lines, parameter_lines, action_others}
 
 abbrev pub weigh : (ℕ → ℕ) → List Symbol → ℕ
 weigh v [] = 0
@@ -20,7 +20,7 @@ weigh-append v (Emit e ∷ r) s = omega (arith, weigh-append v r s)
 weigh-append v (Name n ∷ r) s = omega (arith, weigh-append v r s)
 
 abbrev pub weights : ℕ → ℕ
-weights n = get_or (3 ∷ 1 ∷ 4 ∷ 1 ∷ 1 ∷ 1 ∷ 1 ∷ 1 ∷ 1 ∷ 1 ∷ 1 ∷ 1 ∷ 3 ∷ 2 ∷ 3 ∷ 9 ∷ 1 ∷ 2 ∷ 1 ∷ 1 ∷ 3 ∷ 1 ∷ 2 ∷ 1 ∷ 1 ∷ []) n 0
+weights n = get_or (3 ∷ 1 ∷ 4 ∷ 1 ∷ 1 ∷ 1 ∷ 1 ∷ 1 ∷ 1 ∷ 1 ∷ 1 ∷ 1 ∷ 3 ∷ 2 ∷ 3 ∷ 9 ∷ 1 ∷ 2 ∷ 1 ∷ 1 ∷ 3 ∷ 1 ∷ 2 ∷ 1 ∷ 1 ∷ 1 ∷ []) n 0
 
 unfoldable lines_weigh : (ℕ → ℕ) → List Line → Bool
 lines_weigh v [] = true
@@ -53,9 +53,9 @@ other_below v (m ∷ ls) n r h e = go (nat_eq m.name n) refl e (other_below v ls
     go true p e ih = let x : m.right ≡ r = cc in let y : m.name ≡ n = eqb-true m.name n p in rw x at (rw y at (ltb-true (weigh v m.right) (v m.name) (and_both _ (others_weigh v ls) h).0))
     go false p e ih = ih e
 
-pub line_lighter : (n c : ℕ) (l : Line) → line_of action_lines n c ≡ Some l → weigh weights l.right < 100
-unfolding lines_weigh action_lines
-line_lighter n c l e = line_below weights action_lines n c l refl e
+pub line_lighter : (n c : ℕ) (l : Line) → line_of template_lines n c ≡ Some l → weigh weights l.right < 100
+unfolding lines_weigh template_lines action_lines parameter_lines
+line_lighter n c l e = line_below weights template_lines n c l refl e
 
 pub other_lighter : (n : ℕ) (r : List Symbol) → other_of action_others n ≡ Some r → weigh weights r < weights n
 unfolding others_weigh action_others

@@ -2,7 +2,8 @@
 use Rattle.std.proofs.Common.{◌≡◌, ℕ, zero, suc, ◌+◌, ◌<◌, ◌≤◌, Bool, true, false, ◌&&◌, List, [], ◌∷◌, length, get_or, refl, drop, arith, nat_lt, ltb-true, if◌then◌else◌}
 use Rattle.std.specs.Prelude.{slice_range}
 use Rattle.action_text.specs.declared.token_class.TheConstants.{WORD_BYTES, WORD_STARTS}
-use Rattle.action_text.specs.Classes.{words, same_bytes, word_class}
+use Rattle.meta_terms.specs.Words.{words, same_bytes}
+use Rattle.action_text.specs.Classes.{word_class}
 use Rattle.action_text.proofs.Checked.{below, below_each}
 use Rattle.action_text.proofs.Words.{same_is, same_back}
 

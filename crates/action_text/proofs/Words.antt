@@ -4,7 +4,8 @@ use Rattle.std.specs.Prelude.{ℤ}
 use Rattle.acg_base.specs.Decimals.{spelled_i64}
 use Rattle.meta_lex.specs.Forms.{is_quoted}
 use Rattle.action_text.specs.declared.classes.TheConstants as class
-use Rattle.action_text.specs.Classes.{words, same_bytes, word_class, is_place, number_class, class_of}
+use Rattle.meta_terms.specs.Words.{words, same_bytes}
+use Rattle.action_text.specs.Classes.{word_class, is_place, number_class, class_of}
 
 and_both : (a b : Bool) → (a && b) ≡ true → (a ≡ true) × (b ≡ true)
 and_both true b h = (refl, h)

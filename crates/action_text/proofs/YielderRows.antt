@@ -1,42 +1,47 @@
 -- The rows of yielders do what their names mean.
-use Rattle.std.proofs.Common.{◌≡◌, ℕ, zero, suc, Bool, true, false, ◌&&◌, List, [], ◌∷◌, ◌++◌, Some, refl, sym, ap, subst, ◌∙◌, codes, nat_lt, if◌then◌else◌}
+use Rattle.std.proofs.Common.{◌≡◌, inl, inr, append-nil, ℕ, zero, suc, Bool, true, false, ◌&&◌, List, [], ◌∷◌, ◌++◌, Some, refl, sym, ap, subst, ◌∙◌, codes, nat_lt, if◌then◌else◌}
 use Rattle.std.specs.Prelude.{ℤ, pos, negsuc, nat_le, unwrap_or}
 use Rattle.acg_base.specs.Decimals.{spelled_i64}
-use Rattle.action_terms.specs.Labels.{Label, YielderNode, AYielder}
-use Rattle.action_terms.specs.Trees.{Tree, tree, none, Is}
+use Rattle.action_terms.specs.Labels.{AYielder}
+use Rattle.meta_terms.specs.Names.{is_variable}
+use Rattle.meta_terms.specs.Templates.{Label, YielderNode, YielderTokenOf, Tree, Is}
+use Rattle.action_terms.specs.Trees.{tree, none}
+use Rattle.action_terms.specs.declared.kinds.YKind.{YKind}
 use Rattle.action_terms.specs.declared.kinds.YKind.TheVariants as ykind
+use Rattle.meta_lex.specs.Forms.{is_quoted}
 use Rattle.action_terms.specs.declared.kinds.Sort.{Sort}
 use Rattle.action_text.specs.declared.table.Symbol.TheVariants.{Read, Keep, Emit, Name}
 use Rattle.action_text.specs.declared.table.Mark.TheVariants as mark
 use Rattle.action_text.specs.declared.classes.TheConstants as class
 use Rattle.action_text.specs.declared.names.TheConstants as name
 use Rattle.action_text.specs.Shapes.{Part, sort_word}
-use Rattle.action_text.specs.ActionText.{IsPlain}
+use Rattle.action_text.specs.TemplateText.{IsPlain}
 use Rattle.action_text.specs.Posts.{postorder}
-use Rattle.action_text.specs.Notes.{Noting, KeptToken, marked, note, unquoted, value_of, place_of}
-use Rattle.action_text.specs.Classes.{class_of, is_place}
-use Rattle.action_text.specs.ActionTable.{action_table, line, other}
+use Rattle.action_text.specs.Notes.{Noting, Note, KeptToken, marked, note, unquoted, value_of, place_of, yielder_with}
+use Rattle.action_text.specs.Classes.{template_class, is_place}
+use Rattle.action_text.specs.ActionTable.{template_table, line, other}
 use Rattle.action_text.proofs.Meanings.{Meaning, LineMeans, OtherMeans}
-use Rattle.action_text.proofs.Means.{means, wrote, MeansPart, MeansSorted, MeansSort}
-use Rattle.action_text.proofs.Words.{word_count, is_word_of, quoted_of_class, number_of_class}
+use Rattle.action_text.proofs.Means.{means, wrote, MeansPart, MeansSorted, MeansSort, IsTokenForm}
+use Rattle.action_text.proofs.OperandRows.{variable_unquoted, quoted_begins}
+use Rattle.action_text.proofs.TemplateWords.{word_count, is_word_of, number_of_class}
 use Rattle.action_text.proofs.QuotedTokens.{quoted_is}
 use Rattle.action_text.proofs.Nodes.{node_row, rest_row, rest_other, under_means, noted_node, plain_part}
 use Rattle.action_text.proofs.Chains.{last_name}
 
-pub yielder_number : (place : Bool) (t : List ℕ) (st end : Noting) (ts : List (List ℕ)) → class_of t ≡ (if place then class.PLACE else class.NUMBER)
-    → Meaning action_table means (Emit mark.Number ∷ []) (note (Rattle.action_text.specs.Tables.Token t) st) ts end → MeansPart AYielder st (t ∷ ts) end
+pub yielder_number : (place : Bool) (t : List ℕ) (st end : Noting) (ts : List (List ℕ)) → template_class t ≡ (if place then class.PLACE else class.NUMBER)
+    → Meaning template_table means (Emit mark.Number ∷ []) (note (Rattle.action_text.specs.Tables.Token t) st) ts end → MeansPart AYielder st (t ∷ ts) end
 yielder_number place t st end ts e h =
     let n = number_of_class t place e in
     let value : value_of t ≡ n.0 = ap (λ o. unwrap_or o (pos 0)) n.1 in
     let same : spelled_i64 t ≡ Some (value_of t) = n.1 ∙ ap (λ z. Some z) (sym value) in
     (tree (YielderNode (ykind.Number (value_of t)) []) none, (refl, tt), ([], refl, (same, h.0)), h.1)
 
-pub yielder_the : LineMeans action_table means (line name.YIELDER class.THE false (Name name.THE ∷ []))
+pub yielder_the : LineMeans template_table means (line name.YIELDER class.THE false (Name name.THE ∷ []))
 yielder_the t st end ts e h =
     let m = last_name means name.THE st end ts h in
     (m.0, m.1, subst (λ v. IsPlain m.0 (v ∷ ts)) (sym (is_word_of t (codes "the") e refl)) m.2, m.3)
 
-pub yielder_is : LineMeans action_table means (line name.YIELDER class.IS false (Name name.IS_REST ∷ []))
+pub yielder_is : LineMeans template_table means (line name.YIELDER class.IS false (Name name.IS_REST ∷ []))
 yielder_is t st end ts e h =
     let m = last_name means name.IS_REST st end ts h in
     (m.0, m.1, subst (λ v. IsPlain m.0 (v ∷ ts)) (sym (is_word_of t (codes "is") e refl)) m.2, m.3)
@@ -49,26 +54,49 @@ sorted before st mid end ts front back cut s rest =
     let tokens : sort_word s.0 ∷ back ≡ ts = ap (λ y. y ++ back) (sym s.1) ∙ sym cut in
     (r.0, r.1, subst (λ y. IsPlain r.0 (before ++ y)) tokens r.2, r.3 ∙ ap (λ (z : Noting). let q : Noting = record { notes = st.notes; labels = z.labels ++ postorder r.0 } in q) s.2)
 
-pub the_given : LineMeans action_table means (line name.THE class.GIVEN false (Name name.SORT ∷ Name name.AT_PLACE ∷ []))
+pub the_given : LineMeans template_table means (line name.THE class.GIVEN false (Name name.SORT ∷ Name name.AT_PLACE ∷ []))
 the_given t st end ts e h =
     let r = sorted (codes "the" ∷ codes "given" ∷ []) st h.2 end ts h.0 h.1 h.3 h.4 (last_name means name.AT_PLACE h.2 end h.1 h.5) in
     (r.0, r.1, subst (λ v. IsPlain r.0 (codes "the" ∷ v ∷ ts)) (sym (is_word_of t (codes "given") e refl)) r.2, r.3)
 
-pub the_other : OtherMeans action_table means (other name.THE (Name name.SORT ∷ Name name.THE_REST ∷ []))
+pub the_other : OtherMeans template_table means (other name.THE (Name name.SORT ∷ Name name.THE_REST ∷ []))
 the_other st end ts h = sorted (codes "the" ∷ []) st h.2 end ts h.0 h.1 h.3 h.4 (last_name means name.THE_REST h.2 end h.1 h.5)
 
-pub the_bound : LineMeans action_table means (line name.THE_REST class.BOUND false (Read class.TO ∷ Keep class.QUOTED ∷ Emit mark.Bound ∷ []))
-the_bound t st end [] e h s ns notes = absurd h
-the_bound t st end (u ∷ []) e h s ns notes = absurd h.1
-the_bound t st end (u ∷ v ∷ ts) e h s ns notes =
-    let q = quoted_is v (quoted_of_class v h.1.0) in (
-      tree (YielderNode (ykind.Bound s) (unquoted v)) none,
-      (q.1, tt),
-      ([], refl, (refl, (refl, (is_word_of t (codes "bound") e refl, (is_word_of u (codes "to") h.0 refl, (q.0, h.1.1.0)))))),
-      h.1.1.1 ∙ ap (λ x. marked mark.Bound (let r : Noting = record { notes = KeptToken v ∷ x; labels = st.labels } in r)) notes,
-    )
+pub yielder_quoted : (k : YKind) (kept : List ℕ) → is_quoted kept ≡ true → yielder_with k kept ≡ YielderNode k (unquoted kept)
+yielder_quoted k kept q = ap (λ b. if b then YielderNode k (unquoted kept) else YielderTokenOf k [] kept) (quoted_begins kept q)
 
-pub the_stored : LineMeans action_table means (line name.THE_REST class.STORED false (Read class.IN ∷ Name name.YIELDER ∷ Emit mark.Stored ∷ []))
+pub yielder_variable : (k : YKind) (kept : List ℕ) → is_variable kept ≡ true → yielder_with k kept ≡ YielderTokenOf k [] kept
+yielder_variable k kept v = ap (λ b. if b then YielderNode k (unquoted kept) else YielderTokenOf k [] kept) (variable_unquoted kept v)
+
+-- the yielder of a sort and a token
+bound_row : (t u kept : List ℕ) (s : Sort) (ns : List Note) (st end : Noting) (ts : List (List ℕ)) → t ≡ codes "bound" → u ≡ codes "to" → IsTokenForm kept ts
+    → end ≡ record { notes = ns; labels = st.labels ++ yielder_with (ykind.Bound s) kept ∷ [] }
+    → (y : Tree) × Is AYielder y × IsPlain y (codes "the" ∷ sort_word s ∷ t ∷ u ∷ ts) × (end ≡ record { notes = ns; labels = st.labels ++ postorder y })
+bound_row t u kept s ns st end ts a b (inl f) e =
+    let q = quoted_is kept f.0 in (
+      tree (YielderNode (ykind.Bound s) (unquoted kept)) none,
+      (q.1, tt),
+      subst (λ y. IsPlain (tree (YielderNode (ykind.Bound s) (unquoted kept)) none) (codes "the" ∷ sort_word s ∷ t ∷ u ∷ y)) (sym f.1) ([], refl, (refl, (refl, (a, (b, (q.0, refl)))))),
+      e ∙ ap (λ l. let r : Noting = record { notes = ns; labels = st.labels ++ l ∷ [] } in r) (yielder_quoted (ykind.Bound s) kept f.0),
+    )
+bound_row t u kept s ns st end ts a b (inr f) e = (
+  tree (YielderTokenOf (ykind.Bound s) [] kept) none,
+  (f.0, tt),
+  subst (λ y. IsPlain (tree (YielderTokenOf (ykind.Bound s) [] kept) none) (codes "the" ∷ sort_word s ∷ t ∷ u ∷ y)) (sym f.1) ([], refl, (refl, (refl, (a, (b, (refl, (refl, (refl, refl)))))))),
+  e ∙ ap (λ l. let r : Noting = record { notes = ns; labels = st.labels ++ l ∷ [] } in r) (yielder_variable (ykind.Bound s) kept f.0),
+)
+
+pub the_bound : LineMeans template_table means (line name.THE_REST class.BOUND false (Read class.TO ∷ Name name.TOKEN ∷ Emit mark.Bound ∷ []))
+the_bound t st end [] e h s ns notes = absurd h
+the_bound t st end (u ∷ ts) e h s ns notes =
+    let m = h.1 in
+    let kept : List ℕ = m.4.0 in
+    let whole : ts ≡ m.0 = m.3 ∙ ap (λ y. m.0 ++ y) m.5.0 ∙ append-nil m.0 in
+    let form : IsTokenForm kept ts = subst (λ y. IsTokenForm kept y) (sym whole) m.4.2 in
+    bound_row t u kept s ns st end ts (is_word_of t (codes "bound") e refl) (is_word_of u (codes "to") h.0 refl) form
+    (m.5.1 ∙ ap (marked mark.Bound) m.4.1 ∙ ap (λ x. marked mark.Bound (let r : Noting = record { notes = KeptToken kept ∷ x; labels = st.labels } in r)) notes)
+
+pub the_stored : LineMeans template_table means (line name.THE_REST class.STORED false (Read class.IN ∷ Name name.YIELDER ∷ Emit mark.Stored ∷ []))
 the_stored t st end [] e h s ns notes = absurd h
 the_stored t st end (u ∷ ts) e h s ns notes =
     let l : Label = YielderNode (ykind.Stored s) [] in
@@ -81,7 +109,7 @@ place_is (pos zero) h = absurd (cc)
 place_is (pos (suc n)) h = (n, refl, Rattle.action_text.proofs.Nodes.and_right (nat_le 1 (suc n)) (nat_le (suc n) 64) h)
 place_is (negsuc n) h = absurd (cc)
 
-pub at_place : LineMeans action_table means (line name.AT_PLACE class.HASH false (Keep class.PLACE ∷ Emit mark.GivenAt ∷ []))
+pub at_place : LineMeans template_table means (line name.AT_PLACE class.HASH false (Keep class.PLACE ∷ Emit mark.GivenAt ∷ []))
 at_place t st end [] e h s ns notes = absurd h
 at_place t st end (u ∷ ts) e h s ns notes =
     let n = number_of_class u true h.0 in
@@ -99,7 +127,7 @@ at_place t st end (u ∷ ts) e h s ns notes =
     both true h = refl
     both false h = absurd (cc)
 
-pub at_no_place : OtherMeans action_table means (other name.AT_PLACE (Emit mark.Given ∷ []))
+pub at_no_place : OtherMeans template_table means (other name.AT_PLACE (Emit mark.Given ∷ []))
 at_no_place st end ts h s ns notes = (
   tree (YielderNode (ykind.Given s 0) []) none,
   (refl, tt),
@@ -107,6 +135,6 @@ at_no_place st end ts h s ns notes = (
   h.1 ∙ ap (λ x. marked mark.Given (let r : Noting = record { notes = x; labels = st.labels } in r)) notes,
 )
 
-pub sort_row : (s : Sort) → nat_lt (class_of (sort_word s)) word_count ≡ true → (t : List ℕ) (st end : Noting) (ts : List (List ℕ)) → class_of t ≡ class_of (sort_word s)
-    → Meaning action_table means (Emit (mark.Sort s) ∷ []) st ts end → MeansSort st (t ∷ ts) end
+pub sort_row : (s : Sort) → nat_lt (template_class (sort_word s)) word_count ≡ true → (t : List ℕ) (st end : Noting) (ts : List (List ℕ)) → template_class t ≡ template_class (sort_word s)
+    → Meaning template_table means (Emit (mark.Sort s) ∷ []) st ts end → MeansSort st (t ∷ ts) end
 sort_row s word t st end ts e h = (s, ap (λ y. t ∷ y) h.0 ∙ ap (λ v. v ∷ []) (is_word_of t (sort_word s) e word), h.1)

@@ -1,5 +1,5 @@
 -- The grammar of action text as a table in which one token chooses the line.
-use Rattle.std.specs.Prelude.{ℕ, Bool, true, false, List, [], ◌∷◌}
+use Rattle.std.specs.Prelude.{ℕ, Bool, true, false, List, [], ◌∷◌, ◌++◌}
 use Rattle.action_terms.specs.declared.kinds.Kind.TheVariants as kind
 use Rattle.action_terms.specs.declared.kinds.YKind.TheVariants as ykind
 use Rattle.action_terms.specs.declared.kinds.Sort.TheVariants as sort
@@ -9,7 +9,7 @@ use Rattle.action_text.specs.declared.table.Mark.TheVariants as mark
 use Rattle.action_text.specs.declared.classes.TheConstants as class
 use Rattle.action_text.specs.declared.names.TheConstants as name
 use Rattle.action_text.specs.Tables.{Line, Other, Table}
-use Rattle.action_text.specs.Classes.{class_of}
+use Rattle.action_text.specs.Classes.{class_of, template_class}
 
 abbrev pub line : ℕ → ℕ → Bool → List Symbol → Line
 line n c k r = record { name = n; class = c; keeps = k; right = r }
@@ -48,8 +48,8 @@ action_lines =
     ∷ line name.OPERAND class.ESCAPE false (Name name.ESCAPED ∷ [])
     ∷ line name.OPERAND class.GIVE false (Name name.DATA ∷ Emit (mark.ActionWithItems kind.Give) ∷ [])
     ∷ line name.OPERAND class.CHECK false (Name name.YIELDER ∷ Emit (mark.Action kind.Check) ∷ [])
-    ∷ line name.OPERAND class.BIND false (Keep class.QUOTED ∷ Read class.TO ∷ Name name.YIELDER ∷ Emit (mark.ActionWithToken kind.Bind) ∷ [])
-    ∷ line name.OPERAND class.RECURSIVELY false (Read class.BIND ∷ Keep class.QUOTED ∷ Read class.TO ∷ Name name.CLOSURE ∷ Emit (mark.ActionWithToken kind.BindRec) ∷ [])
+    ∷ line name.OPERAND class.BIND false (Name name.TOKEN ∷ Read class.TO ∷ Name name.YIELDER ∷ Emit (mark.ActionWithToken kind.Bind) ∷ [])
+    ∷ line name.OPERAND class.RECURSIVELY false (Read class.BIND ∷ Name name.TOKEN ∷ Read class.TO ∷ Name name.CLOSURE ∷ Emit (mark.ActionWithToken kind.BindRec) ∷ [])
     ∷ line name.OPERAND class.STORE false (Name name.YIELDER ∷ Read class.IN ∷ Name name.YIELDER ∷ Emit (mark.Action kind.Store) ∷ [])
     ∷ line name.OPERAND class.ALLOCATE false (Read class.A ∷ Read class.CELL ∷ Emit (mark.Action kind.Allocate) ∷ [])
     ∷ line name.OPERAND class.SEND false (Name name.YIELDER ∷ Emit (mark.Action kind.Send) ∷ [])
@@ -83,14 +83,26 @@ action_lines =
     ∷ line name.IS_REST class.LESS false (Read class.THAN ∷ Read class.OPEN_PAREN ∷ Name name.YIELDER ∷ Read class.COMMA ∷ Name name.YIELDER ∷ Read class.CLOSE_PAREN ∷ Emit (mark.Yielder ykind.Less) ∷ [])
     ∷ line name.IS_REST class.OPEN_PAREN false (Name name.YIELDER ∷ Read class.COMMA ∷ Name name.YIELDER ∷ Read class.CLOSE_PAREN ∷ Emit (mark.Yielder ykind.Is) ∷ [])
     ∷ line name.THE class.GIVEN false (Name name.SORT ∷ Name name.AT_PLACE ∷ [])
-    ∷ line name.THE_REST class.BOUND false (Read class.TO ∷ Keep class.QUOTED ∷ Emit mark.Bound ∷ [])
+    ∷ line name.THE_REST class.BOUND false (Read class.TO ∷ Name name.TOKEN ∷ Emit mark.Bound ∷ [])
     ∷ line name.THE_REST class.STORED false (Read class.IN ∷ Name name.YIELDER ∷ Emit mark.Stored ∷ [])
     ∷ line name.AT_PLACE class.HASH false (Keep class.PLACE ∷ Emit mark.GivenAt ∷ [])
     ∷ line name.SORT class.INTEGER false (Emit (mark.Sort sort.Integer) ∷ [])
     ∷ line name.SORT class.TRUTH_VALUE false (Emit (mark.Sort sort.Truth) ∷ [])
     ∷ line name.SORT class.CELL false (Emit (mark.Sort sort.Cell) ∷ [])
     ∷ line name.SORT class.ABSTRACTION false (Emit (mark.Sort sort.Abstraction) ∷ [])
+    ∷ line name.TOKEN class.QUOTED true []
     ∷ []
+
+-- the lines that a token chooses in templates alone
+unfoldable pub parameter_lines : List Line
+parameter_lines =
+    line name.OPERAND class.FUNCTION true (Keep class.VARIABLE ∷ Emit mark.Applied ∷ [])
+    ∷ line name.YIELDER class.VALUE false (Read class.OF ∷ Keep class.VARIABLE ∷ Emit mark.ValueOf ∷ [])
+    ∷ line name.TOKEN class.TOKEN false (Read class.OF ∷ Keep class.VARIABLE ∷ [])
+    ∷ []
+
+unfoldable pub template_lines : List Line
+template_lines = action_lines ++ parameter_lines
 
 -- what else a name may be
 unfoldable pub action_others : List Other
@@ -117,3 +129,18 @@ action_others =
 
 abbrev pub action_table : Table
 action_table = record { class = class_of; lines = action_lines; others = action_others }
+
+abbrev pub template_table : Table
+template_table = record { class = template_class; lines = template_lines; others = action_others }
+
+-- the table for texts with parameters, or without
+abbrev pub class_in : Bool → List ℕ → ℕ
+class_in true bytes = template_class bytes
+class_in false bytes = class_of bytes
+
+abbrev pub lines_in : Bool → List Line
+lines_in true = template_lines
+lines_in false = action_lines
+
+abbrev pub table_in : Bool → Table
+table_in p = record { class = class_in p; lines = lines_in p; others = action_others }

@@ -2,7 +2,7 @@
 use Rattle.std.specs.Prelude.{◌≡◌, ◌⊎◌, ℕ, zero, suc, List, [], ◌∷◌, ◌++◌, Some, length, take, ◌<◌, ◌≤◌, ◌+◌}
 use Rattle.acg_base.specs.Decimals.{spelled_i64}
 use Rattle.action_terms.specs.Labels.{Label, Wanted, AnAction, AYielder, AnItem, AClosure, under}
-use Rattle.action_terms.specs.Trees.{Tree, tree, Trees, none, more, IsAction}
+use Rattle.action_terms.specs.Trees.{TreeOf, TreesOf, Tree, tree, Trees, none, more, IsAction}
 use Rattle.action_text.specs.Shapes.{Piece, Fixed, Numeral, Quoted, Part, shape, operator_of, open_paren, close_paren}
 
 -- the token is spelled as the piece says
@@ -43,33 +43,52 @@ IsPart AYielder Plain Chain tokens = Plain tokens
 IsPart AnItem Plain Chain tokens = Plain tokens
 IsPart AClosure Plain Chain tokens = Plain tokens
 
-abbrev pub label_of : Tree → Label
+abbrev pub label_of : {L : Type 0} → TreeOf L → L
 label_of (tree l ts) = l
+
+-- labels with a spelling: what stands under each, its own tokens, and the words of an operator
+pub record Forms (L : Type 0) : Type 0 where
+  pub under : L → List Wanted
+  pub shape : L → List Piece
+  pub operator_of : L → List (List ℕ)
 
 abbrev mutual
   -- a node by its own spelling: Primitive, `unfolding Operand`, `furthermore Operand`, Y or `them`
-  pub IsPlain : Tree → List (List ℕ) → Type 0
-  IsPlain (tree l ts) tokens = (parts : List (List (List ℕ))) × ArePartsOf ts (under l) parts × Weaves (shape l) parts tokens
+  pub IsPlainIn : {L : Type 0} → Forms L → TreeOf L → List (List ℕ) → Type 0
+  IsPlainIn f (tree l ts) tokens = (parts : List (List (List ℕ))) × ArePartsIn f ts (f.under l) parts × Weaves (f.shape l) parts tokens
 
   -- Operand Op Operand { Op Operand }, every Op the same: the left operand of the last Op is the chain before it, or the first operand
-  pub IsChain : Tree → List (List ℕ) → Type 0
-  IsChain (tree l none) tokens = ⊥
-  IsChain (tree l (more a none)) tokens = ⊥
-  IsChain (tree l (more a (more b none))) tokens =
+  pub IsChainIn : {L : Type 0} → Forms L → TreeOf L → List (List ℕ) → Type 0
+  IsChainIn f (tree l none) tokens = ⊥
+  IsChainIn f (tree l (more a none)) tokens = ⊥
+  IsChainIn f (tree l (more a (more b none))) tokens =
       (left : List (List ℕ)) × (op : List ℕ) × (ops : List (List ℕ)) × (right : List (List ℕ))
       × (tokens ≡ left ++ (op ∷ ops) ++ right)
-      × (operator_of l ≡ op ∷ ops)
-      × (((label_of a ≡ l) × IsChain a left) ⊎ IsOperand (IsPlain a) (IsChain a) left)
-      × IsOperand (IsPlain b) (IsChain b) right
-  IsChain (tree l (more a (more b (more c ts)))) tokens = ⊥
+      × (f.operator_of l ≡ op ∷ ops)
+      × (((label_of a ≡ l) × IsChainIn f a left) ⊎ IsOperand (IsPlainIn f a) (IsChainIn f a) left)
+      × IsOperand (IsPlainIn f b) (IsChainIn f b) right
+  IsChainIn f (tree l (more a (more b (more c ts)))) tokens = ⊥
 
   -- the parts under a node, each with its tokens
-  pub ArePartsOf : Trees → List Wanted → List (List (List ℕ)) → Type 0
-  ArePartsOf none [] parts = parts ≡ []
-  ArePartsOf none (x ∷ xs) parts = ⊥
-  ArePartsOf (more t ts) [] parts = ⊥
-  ArePartsOf (more t ts) (x ∷ xs) [] = ⊥
-  ArePartsOf (more t ts) (x ∷ xs) (part ∷ parts) = IsPart x (IsPlain t) (IsChain t) part × ArePartsOf ts xs parts
+  pub ArePartsIn : {L : Type 0} → Forms L → TreesOf L → List Wanted → List (List (List ℕ)) → Type 0
+  ArePartsIn f none [] parts = parts ≡ []
+  ArePartsIn f none (x ∷ xs) parts = ⊥
+  ArePartsIn f (more t ts) [] parts = ⊥
+  ArePartsIn f (more t ts) (x ∷ xs) [] = ⊥
+  ArePartsIn f (more t ts) (x ∷ xs) (part ∷ parts) = IsPart x (IsPlainIn f t) (IsChainIn f t) part × ArePartsIn f ts xs parts
+
+-- the forms of actions
+abbrev pub action_forms : Forms Label
+action_forms = record { under = under; shape = shape; operator_of = operator_of }
+
+abbrev pub IsPlain : Tree → List (List ℕ) → Type 0
+IsPlain t tokens = IsPlainIn action_forms t tokens
+
+abbrev pub IsChain : Tree → List (List ℕ) → Type 0
+IsChain t tokens = IsChainIn action_forms t tokens
+
+abbrev pub ArePartsOf : Trees → List Wanted → List (List (List ℕ)) → Type 0
+ArePartsOf ts xs parts = ArePartsIn action_forms ts xs parts
 
 -- Action = Operand { Op Operand }
 abbrev pub IsActionText : Tree → List (List ℕ) → Type 0

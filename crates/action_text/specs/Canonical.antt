@@ -10,7 +10,7 @@ use Rattle.action_terms.specs.declared.kinds.Kind.TheVariants as kind
 use Rattle.action_terms.specs.declared.kinds.YKind.TheVariants as ykind
 use Rattle.action_text.specs.Shapes.{Piece, Fixed, Numeral, Quoted, Part, shape, operator_of, open_paren, close_paren, comma}
 use Rattle.action_text.specs.ActionText.{label_of}
-use Rattle.action_text.specs.Classes.{same_bytes}
+use Rattle.meta_terms.specs.Words.{same_bytes}
 
 -- a branch is printed, and can't be read
 abbrev pub printed_shape : Label → List Piece

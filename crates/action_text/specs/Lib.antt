@@ -1,5 +1,7 @@
 pub mod Shapes
 pub mod ActionText
+pub mod TemplateText
+pub mod TemplateAnswers
 pub mod Tables
 pub mod Classes
 pub mod ActionTable

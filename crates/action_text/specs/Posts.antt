@@ -1,7 +1,7 @@
 -- The labels of a tree, each behind those of the trees under it.
 use Rattle.std.specs.Prelude.{List, [], ◌∷◌, ◌++◌}
-use Rattle.action_terms.specs.Labels.{Label}
-use Rattle.action_terms.specs.Trees.{Tree, tree, Trees, none, more}
+use Rattle.meta_terms.specs.Templates.{Label, Tree, Trees}
+use Rattle.action_terms.specs.Trees.{tree, none, more}
 
 abbrev mutual
   pub postorder : Tree → List Label

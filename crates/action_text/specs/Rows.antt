@@ -5,7 +5,7 @@ use Rattle.action_text.specs.declared.table.OtherRow.{OtherRow}
 use Rattle.action_text.specs.declared.table.Symbol.{Symbol}
 use Rattle.action_text.specs.declared.table.TheConstants.{SYMBOLS}
 use Rattle.action_text.specs.Tables.{Line, Other, line_of}
-use Rattle.action_text.specs.ActionTable.{action_lines}
+use Rattle.action_text.specs.ActionTable.{template_lines}
 
 abbrev pub line_at : Row → Line
 line_at r = record { name = r.name; class = r.class; keeps = r.keeps; right = slice_range SYMBOLS r.from r.to }
@@ -29,8 +29,8 @@ IsInside from to = (from ≤ to) × (to ≤ length SYMBOLS)
 
 -- the row is the line of the name for the class at the place
 abbrev pub HasLineAt : List ℕ → ℕ → ℕ → Row → Type 0
-HasLineAt classes at n row = (at < length classes) × (line_of action_lines n (slice_index classes at) ≡ Some (line_at row))
+HasLineAt classes at n row = (at < length classes) × (line_of template_lines n (slice_index classes at) ≡ Some (line_at row))
 
 -- the place has no token, or the name has no line for it
 abbrev pub HasNoLineAt : List ℕ → ℕ → ℕ → Type 0
-HasNoLineAt classes at n = (length classes ≤ at) ⊎ ((at < length classes) × (line_of action_lines n (slice_index classes at) ≡ None))
+HasNoLineAt classes at n = (length classes ≤ at) ⊎ ((at < length classes) × (line_of template_lines n (slice_index classes at) ≡ None))

@@ -1,7 +1,7 @@
 -- How labels in postorder are cut into trees: the size of the tree that ends with each label.
 use Rattle.std.specs.Prelude.{◌≡◌, ℕ, zero, suc, ◌+◌, ◌-◌, ◌<◌, List, [], ◌∷◌, length, slice_index, slice_index_or}
-use Rattle.action_terms.specs.Labels.{Label, under}
-use Rattle.action_terms.specs.Trees.{Tree, IsAction, preorder}
+use Rattle.meta_terms.specs.Templates.{Label, under, Tree, IsAction}
+use Rattle.action_terms.specs.Trees.{preorder}
 use Rattle.action_text.specs.Posts.{postorder}
 
 -- where the tree begins that ends before the place

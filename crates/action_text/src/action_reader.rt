@@ -1,9 +1,12 @@
 //! Reading a text as the graph of an action.
-ghost use Rattle.std.specs.Prelude.{◌≡◌, ℕ, ◌<◌, ◌≤◌, ◌∷◌, [], ◌++◌, length, map, IfOk, IfErr, OnOk, IsErrOf, Some, slice_get};
+ghost use Rattle.std.specs.Prelude.{◌≡◌, All, true, ℕ, ◌<◌, ◌≤◌, ◌∷◌, [], ◌++◌, length, map, IfOk, IfErr, OnOk, IsErrOf, Some, slice_get};
 ghost use Rattle.meta_lex.specs.Tokens.{AreTokens, plain_token};
 ghost use Rattle.action_terms.specs.Pushed.{label_of};
+ghost use Rattle.meta_terms.specs.Templates.{as_label};
+ghost use Rattle.meta_terms.specs.Nodes.{label_of as template_label};
 ghost use Rattle.action_terms.specs.Trees.{Tree, IsAction, IsWhole, preorder};
 ghost use Rattle.action_terms.specs.Numbering.{IsGraphOf, strays, node_limit};
+ghost use Rattle.action_text.specs.TemplateText.{is_plain_label};
 ghost use Rattle.action_text.specs.Answers.{IsTextOf, IsReadAs, IsTextError, offset_of};
 
 use crate::errors::TextError;
@@ -14,7 +17,8 @@ use action_terms::{Graph, GraphBuilder, GraphError};
 use bumpalo::Bump;
 use meta_lex::lex::{LexError, tokens};
 use meta_lex::token::Token;
-use std::alloc::Global;
+use meta_terms::TemplateNode;
+use std::alloc::{AllocError, Global};
 
 // Where the token at the place begins, or the size of the text where there is none.
 fn offset_at(list: &[Token<'_>], place: usize, size: u32) -> u32
@@ -25,6 +29,36 @@ fn offset_at(list: &[Token<'_>], place: usize, size: u32) -> u32
     } else {
         size
     }
+}
+
+// A node of an action, of the same node as one of a template.
+fn action_node<'s>(node: TemplateNode<'s>) -> Pushed<'s>
+    requires { is_plain_label (template_label node) ≡ true }
+    ensures { as_label (label_of result) ≡ template_label node.entry }
+{
+    match node {
+        TemplateNode::Action(new) => Pushed::Action(new),
+        TemplateNode::Yielder(new) => Pushed::Yielder(new),
+        TemplateNode::ActionTokenOf { .. } => unreachable!(),
+        TemplateNode::YielderTokenOf { .. } => unreachable!(),
+        TemplateNode::Apply { .. } => unreachable!(),
+        TemplateNode::ValueOf { .. } => unreachable!(),
+    }
+}
+
+// The nodes of an action, of its nodes as a template.
+fn action_labels<'s>(
+    alloc: Global,
+    nodes: &[TemplateNode<'s>],
+) -> Result<Vec<Pushed<'s>>, AllocError>
+    requires { All (λ n. is_plain_label (template_label n) ≡ true) nodes.now }
+    ensures { IfOk result (λ v. map (λ (n : _). as_label (label_of n)) v.items ≡ map template_label nodes.now) }
+{
+    let mut list = Vec::with_capacity(alloc, nodes.len())?;
+    for node in nodes {
+        list.push(action_node(*node))?;
+    }
+    Ok(list)
 }
 
 // The labels, in preorder, of the action of a text.
@@ -42,7 +76,7 @@ fn read_preorder<'s>(
         Err(LexError::Memory) => return Err(TextError::Memory),
         Err(LexError::BadByte { offset }) => return Err(TextError::BadByte { offset }),
     };
-    let labels = match read_labels(alloc, read.list) {
+    let labels = match read_labels(alloc, read.list, false) {
         Ok(labels) => labels,
         Err(PlaceError::Memory) => return Err(TextError::Memory),
         Err(PlaceError::At(place)) => {
@@ -50,7 +84,8 @@ fn read_preorder<'s>(
             return Err(TextError::NotAction { offset });
         }
     };
-    Ok(preorder_of(alloc, labels.as_slice())?)
+    let ordered = preorder_of(alloc, labels.as_slice())?;
+    Ok(action_labels(alloc, ordered.as_slice())?)
 }
 
 // Pushes one node.

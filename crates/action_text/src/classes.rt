@@ -128,3 +128,13 @@ pub const PLACE: u32 = 61;
 pub const QUOTED: u32 = 62;
 /// How many classes there are; a token that no action text has is of this class.
 pub const COUNT: u32 = 63;
+/// `value`, in a template.
+pub const VALUE: u32 = 64;
+/// `token`, in a template.
+pub const TOKEN: u32 = 65;
+/// A name of a function, in a template.
+pub const FUNCTION: u32 = 66;
+/// A variable, in a template.
+pub const VARIABLE: u32 = 67;
+/// How many classes the tokens of templates have, with that of a token that no template has.
+pub const ALL: u32 = 68;

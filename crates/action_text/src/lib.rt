@@ -14,6 +14,9 @@ pub mod printing;
 mod reading;
 mod spacing;
 mod table;
+pub mod template_reader;
 mod token_class;
 mod unfinished;
 mod yielder_jobs;
+
+pub use token_class::{is_function, is_variable};

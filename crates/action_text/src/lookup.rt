@@ -1,7 +1,7 @@
 //! Looking up rows of the table.
 ghost use Rattle.std.specs.Prelude.{◌≡◌, ◌++◌, reverse, IfSome, OnOk, MatchOption, map, Contains};
 ghost use Rattle.action_text.specs.Tables.{line_of, other_of};
-ghost use Rattle.action_text.specs.ActionTable.{action_lines, action_others};
+ghost use Rattle.action_text.specs.ActionTable.{template_lines, action_others};
 ghost use Rattle.action_text.specs.Rows.{line_at, other_at, found_line, found_other, IsInside, HasLineAt, HasNoLineAt};
 
 use crate::table::{OTHER_ROWS, OtherRow, ROWS, Row, Symbol};
@@ -35,7 +35,7 @@ fn find_other_in(rows: &[OtherRow], name: u32) -> Option<OtherRow>
 
 /// The row of the name for a token of the class.
 pub fn find_row(name: u32, class: u32) -> Option<Row>
-    ensures line { found_line result ≡ line_of action_lines name class }
+    ensures line { found_line result ≡ line_of template_lines name class }
     ensures inside { IfSome result (λ r. IsInside r.from r.to) }
 {
     find_row_in(&ROWS, name, class)

@@ -50,3 +50,5 @@ pub const AT_PLACE: u32 = 22;
 pub const SORT: u32 = 23;
 /// A closure.
 pub const CLOSURE: u32 = 24;
+/// What is bound or bound to: a quoted text, or in a template `token of V`.
+pub const TOKEN: u32 = 25;

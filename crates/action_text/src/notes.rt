@@ -1,15 +1,16 @@
 //! What is noted and written while a text is read.
 ghost use Rattle.std.specs.Prelude.{◌≡◌, ◌+◌, [], ◌∷◌, ◌++◌, OnOk, drop, map, reverse, if◌then◌else◌};
-ghost use Rattle.action_terms.specs.Labels.{ActionNode, YielderNode};
-ghost use Rattle.action_terms.specs.Pushed.{label_of};
-ghost use Rattle.action_text.specs.Notes.{KeptToken, Count, kept, counted, noted_sort, unquoted, value_of, place_of, marked};
+ghost use Rattle.meta_terms.specs.Templates.{ActionNode, YielderNode, ActionTokenOf, YielderTokenOf};
+ghost use Rattle.action_text.specs.Notes.{KeptToken, Count, kept, counted, noted_sort, unquoted, value_of, place_of, marked, begins_quoted, action_with, yielder_with};
+ghost use Rattle.meta_terms.specs.Nodes.{label_of};
 ghost use Rattle.action_text.specs.Views.{plain_note, noting_of};
 ghost use Rattle.action_text.specs.declared.table.Mark.TheVariants as mark;
 
 use crate::table::Mark;
 use acg_base::read_decimal;
 use action_terms::kinds::{Kind, Sort, YKind};
-use action_terms::pushed::{NewAction, NewYielder, Pushed};
+use action_terms::pushed::{NewAction, NewYielder};
+use meta_terms::TemplateNode;
 use std::alloc::AllocError;
 
 /// What is remembered until its node is written.
@@ -67,6 +68,55 @@ fn unquoted(token: &[u8]) -> &[u8]
     }
 }
 
+// Tells whether a token begins with a quote.
+fn begins_quoted(token: &[u8]) -> bool
+    ensures { result ≡ begins_quoted token.now }
+{
+    match token {
+        [first, ..] => *first == b'"',
+        [] => false,
+    }
+}
+
+// An action node with the token that was kept.
+fn action_with(kind: Kind, token: &[u8]) -> TemplateNode<'_>
+    ensures { label_of result ≡ action_with kind token.now }
+{
+    if begins_quoted(token) {
+        TemplateNode::Action(NewAction {
+            kind,
+            items: 0,
+            token: unquoted(token),
+        })
+    } else {
+        TemplateNode::ActionTokenOf {
+            node: NewAction {
+                kind,
+                items: 0,
+                token: &[],
+            },
+            variable: token,
+        }
+    }
+}
+
+// A yielder with the token that was kept.
+fn yielder_with(kind: YKind, token: &[u8]) -> TemplateNode<'_>
+    ensures { label_of result ≡ yielder_with kind token.now }
+{
+    if begins_quoted(token) {
+        TemplateNode::Yielder(NewYielder {
+            kind,
+            token: unquoted(token),
+        })
+    } else {
+        TemplateNode::YielderTokenOf {
+            node: NewYielder { kind, token: &[] },
+            variable: token,
+        }
+    }
+}
+
 // The value of a number of 64 signed bits.
 fn value_of(token: &[u8]) -> i64
     ensures { result ≡ value_of token.now }
@@ -87,26 +137,26 @@ fn place_of(value: i64) -> u32
 
 // Writes the label of an action node.
 fn write_action<'t>(
-    labels: &mut Vec<Pushed<'t>>,
+    labels: &mut Vec<TemplateNode<'t>>,
     kind: Kind,
     items: u32,
     token: &'t [u8],
 ) -> Result<(), AllocError>
     ensures { OnOk result (map label_of labels.new.items ≡ map label_of labels.old.items ++ ActionNode kind items token.now ∷ []) }
 {
-    labels.push(Pushed::Action(NewAction { kind, items, token }))?;
+    labels.push(TemplateNode::Action(NewAction { kind, items, token }))?;
     Ok(())
 }
 
 // Writes the label of a yielder.
 fn write_yielder<'t>(
-    labels: &mut Vec<Pushed<'t>>,
+    labels: &mut Vec<TemplateNode<'t>>,
     kind: YKind,
     token: &'t [u8],
 ) -> Result<(), AllocError>
     ensures { OnOk result (map label_of labels.new.items ≡ map label_of labels.old.items ++ YielderNode kind token.now ∷ []) }
 {
-    labels.push(Pushed::Yielder(NewYielder { kind, token }))?;
+    labels.push(TemplateNode::Yielder(NewYielder { kind, token }))?;
     Ok(())
 }
 
@@ -148,7 +198,7 @@ pub fn keep_if<'t>(
 fn write_with_items<'t>(
     kind: Kind,
     notes: &mut Vec<Note<'t>>,
-    labels: &mut Vec<Pushed<'t>>,
+    labels: &mut Vec<TemplateNode<'t>>,
 ) -> Result<(), AllocError>
     ensures { OnOk result (noting_of notes.new.items labels.new.items ≡ marked (mark.ActionWithItems kind) (noting_of notes.old.items labels.old.items)) }
 {
@@ -160,18 +210,19 @@ fn write_with_items<'t>(
 fn write_with_token<'t>(
     kind: Kind,
     notes: &mut Vec<Note<'t>>,
-    labels: &mut Vec<Pushed<'t>>,
+    labels: &mut Vec<TemplateNode<'t>>,
 ) -> Result<(), AllocError>
     ensures { OnOk result (noting_of notes.new.items labels.new.items ≡ marked (mark.ActionWithToken kind) (noting_of notes.old.items labels.old.items)) }
 {
-    let token = unquoted(take_token(notes));
-    write_action(labels, kind, 0, token)
+    let node = action_with(kind, take_token(notes));
+    labels.push(node)?;
+    Ok(())
 }
 
 // Writes the number that was kept last.
 fn write_number<'t>(
     notes: &mut Vec<Note<'t>>,
-    labels: &mut Vec<Pushed<'t>>,
+    labels: &mut Vec<TemplateNode<'t>>,
 ) -> Result<(), AllocError>
     ensures { OnOk result (noting_of notes.new.items labels.new.items ≡ marked mark.Number (noting_of notes.old.items labels.old.items)) }
 {
@@ -182,7 +233,7 @@ fn write_number<'t>(
 // Writes `the given S # n`.
 fn write_given_at<'t>(
     notes: &mut Vec<Note<'t>>,
-    labels: &mut Vec<Pushed<'t>>,
+    labels: &mut Vec<TemplateNode<'t>>,
 ) -> Result<(), AllocError>
     ensures { OnOk result (noting_of notes.new.items labels.new.items ≡ marked mark.GivenAt (noting_of notes.old.items labels.old.items)) }
 {
@@ -194,20 +245,21 @@ fn write_given_at<'t>(
 // Writes `the S bound to T`.
 fn write_bound<'t>(
     notes: &mut Vec<Note<'t>>,
-    labels: &mut Vec<Pushed<'t>>,
+    labels: &mut Vec<TemplateNode<'t>>,
 ) -> Result<(), AllocError>
     ensures { OnOk result (noting_of notes.new.items labels.new.items ≡ marked mark.Bound (noting_of notes.old.items labels.old.items)) }
 {
-    let token = unquoted(take_token(notes));
+    let token = take_token(notes);
     let sort = take_sort(notes);
-    write_yielder(labels, YKind::Bound { sort }, token)
+    labels.push(yielder_with(YKind::Bound { sort }, token))?;
+    Ok(())
 }
 
 /// Does what the mark says: notes something, or takes notes and writes the label of a node.
 pub fn follow<'t>(
     mark: Mark,
     notes: &mut Vec<Note<'t>>,
-    labels: &mut Vec<Pushed<'t>>,
+    labels: &mut Vec<TemplateNode<'t>>,
 ) -> Result<(), AllocError>
     ensures { OnOk result (noting_of notes.new.items labels.new.items ≡ marked mark (noting_of notes.old.items labels.old.items)) }
 {
@@ -231,5 +283,16 @@ pub fn follow<'t>(
         Mark::FirstItem => remember(notes, Note::Items(1)),
         Mark::NextItem => count_item(notes),
         Mark::Sort(sort) => remember(notes, Note::Noted(sort)),
+        Mark::Applied => {
+            let variable = take_token(notes);
+            let function = take_token(notes);
+            labels.push(TemplateNode::Apply { function, variable })?;
+            Ok(())
+        }
+        Mark::ValueOf => {
+            let variable = take_token(notes);
+            labels.push(TemplateNode::ValueOf { variable })?;
+            Ok(())
+        }
     }
 }

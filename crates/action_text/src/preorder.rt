@@ -1,11 +1,12 @@
 //! From labels in postorder to labels in preorder, in linear time and without recursion.
 ghost use Rattle.std.specs.Prelude.{◌≡◌, ◌≤◌, ◌++◌, length, map, IfOk, OnOk};
-ghost use Rattle.action_terms.specs.Labels.{under, under_action, under_yielder};
-ghost use Rattle.action_terms.specs.Pushed.{label_of};
+ghost use Rattle.action_terms.specs.Labels.{under_action, under_yielder};
+ghost use Rattle.meta_terms.specs.Templates.{under};
+ghost use Rattle.meta_terms.specs.Nodes.{label_of};
 ghost use Rattle.action_text.specs.Sizes.{step_back, start_back, tree_ends, AreSizes, IsPostorder, IsReordered};
 
 use action_terms::kinds::{Kind, YKind};
-use action_terms::pushed::Pushed;
+use meta_terms::TemplateNode;
 use std::alloc::{AllocError, Global};
 
 // How many trees stand under an action node.
@@ -56,12 +57,15 @@ fn yielder_parts(kind: YKind) -> usize
 }
 
 // How many trees stand under a node.
-fn part_count(label: Pushed<'_>) -> usize
+fn part_count(label: TemplateNode<'_>) -> usize
     ensures { result ≡ length (under (label_of label.entry)) }
 {
     match label {
-        Pushed::Action(node) => action_parts(node.kind, node.items),
-        Pushed::Yielder(node) => yielder_parts(node.kind),
+        TemplateNode::Action(node) => action_parts(node.kind, node.items),
+        TemplateNode::Yielder(node) => yielder_parts(node.kind),
+        TemplateNode::ActionTokenOf { node, .. } => action_parts(node.kind, node.items),
+        TemplateNode::YielderTokenOf { node, .. } => yielder_parts(node.kind),
+        TemplateNode::Apply { .. } | TemplateNode::ValueOf { .. } => 0,
     }
 }
 
@@ -92,7 +96,7 @@ fn start_back(sizes: &[usize], count: usize, end: usize) -> usize
 }
 
 // The size of the tree that ends with each label.
-fn sizes_of(alloc: Global, labels: &[Pushed<'_>]) -> Result<Vec<usize>, AllocError>
+fn sizes_of(alloc: Global, labels: &[TemplateNode<'_>]) -> Result<Vec<usize>, AllocError>
     ensures { IfOk result (λ v. AreSizes (map label_of labels.now) v.items) }
 {
     let mut sizes = Vec::new(alloc);
@@ -122,7 +126,10 @@ fn push_ends(
 }
 
 /// The labels of an action in preorder, of the same action's labels in postorder.
-pub fn preorder_of<'t>(alloc: Global, labels: &[Pushed<'t>]) -> Result<Vec<Pushed<'t>>, AllocError>
+pub fn preorder_of<'t>(
+    alloc: Global,
+    labels: &[TemplateNode<'t>],
+) -> Result<Vec<TemplateNode<'t>>, AllocError>
     requires { IsPostorder (map label_of labels.now) }
     ensures { IfOk result (λ v. IsReordered (map label_of labels.now) (map label_of v.items)) }
 {

@@ -1,6 +1,6 @@
 //! Reading tokens as an action text: one loop over a stack of what is still expected.
 ghost use Rattle.std.specs.Prelude.{◌≡◌, ◌<◌, ◌↔◌, length, slice_index, map, IsTrue, OnOk, OnErr, IfErr, MatchResult};
-ghost use Rattle.action_terms.specs.Pushed.{label_of};
+ghost use Rattle.meta_terms.specs.Nodes.{label_of};
 ghost use Rattle.action_text.specs.Reading.{AreLabelsOf, FailsAt};
 ghost use Rattle.action_text.specs.Texts.{texts};
 ghost use Rattle.action_text.specs.declared.reading.PlaceError.TheVariants.{Memory, At};
@@ -10,8 +10,8 @@ use crate::names;
 use crate::notes::{Note, follow, keep_if};
 use crate::table::{SYMBOLS, Symbol};
 use crate::token_class::classes_of;
-use action_terms::pushed::Pushed;
 use meta_lex::token::Token;
+use meta_terms::TemplateNode;
 use std::alloc::{AllocError, AllocFailed, Global};
 
 /// Why tokens are no action text.
@@ -61,15 +61,19 @@ fn expect(classes: &[u32], at: usize, class: u32) -> Result<(), PlaceError>
 }
 
 /// The labels, in postorder, of the action that the tokens spell.
-pub fn read_labels<'t>(alloc: Global, tokens: &[Token<'t>]) -> Result<Vec<Pushed<'t>>, PlaceError>
-    ensures { MatchResult result (λ labels. AreLabelsOf (texts tokens.now) (map label_of labels.items)) (λ e. FailsAt (texts tokens.now) e) }
+pub fn read_labels<'t>(
+    alloc: Global,
+    tokens: &[Token<'t>],
+    parameters: bool,
+) -> Result<Vec<TemplateNode<'t>>, PlaceError>
+    ensures { MatchResult result (λ labels. AreLabelsOf parameters (texts tokens.now) (map label_of labels.items)) (λ e. FailsAt parameters (texts tokens.now) e) }
 {
-    let list = classes_of(alloc, tokens)?;
+    let list = classes_of(alloc, tokens, parameters)?;
     let classes = list.as_slice();
     let mut stack = Vec::new(alloc);
     stack.push(Symbol::Name(names::ACTION))?;
     let mut notes: Vec<Note<'t>> = Vec::new(alloc);
-    let mut labels: Vec<Pushed<'t>> = Vec::new(alloc);
+    let mut labels: Vec<TemplateNode<'t>> = Vec::new(alloc);
     let mut at = 0;
     while let Some(top) = stack.pop() {
         match top {

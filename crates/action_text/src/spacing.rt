@@ -2,7 +2,7 @@
 ghost use Rattle.std.specs.Prelude.{◌≡◌, ℕ, ◌∷◌, ◌++◌, [], ◌≤◌, List, OnOk, Some, length};
 ghost use Rattle.std.specs.List.{list_any};
 ghost use Rattle.acg_base.specs.Decimals.{decimal_of};
-ghost use Rattle.action_text.specs.Classes.{same_bytes};
+ghost use Rattle.meta_terms.specs.Words.{same_bytes};
 ghost use Rattle.action_text.specs.Canonical.{is_joined, spaced, function_words};
 ghost use Rattle.action_text.specs.Printing.{Says, gap_behind};
 

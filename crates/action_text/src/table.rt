@@ -31,6 +31,10 @@ pub enum Mark {
     NextItem,
     /// A sort.
     Sort(Sort),
+    /// `f V`, with the two words that were kept last.
+    Applied,
+    /// `value of V`, with the word that was kept last.
+    ValueOf,
 }
 
 /// What may stand on the right of a line.
@@ -73,7 +77,7 @@ pub struct OtherRow {
 }
 
 /// The right sides of all rows, one behind the other.
-pub static SYMBOLS: [Symbol; 211] = [
+pub static SYMBOLS: [Symbol; 218] = [
     Symbol::Name(names::OPERAND),
     Symbol::Name(names::CHAIN),
     Symbol::Name(names::OPERAND),
@@ -158,12 +162,12 @@ pub static SYMBOLS: [Symbol; 211] = [
     Symbol::Emit(Mark::ActionWithItems(Kind::Give)),
     Symbol::Name(names::YIELDER),
     Symbol::Emit(Mark::Action(Kind::Check)),
-    Symbol::Keep(classes::QUOTED),
+    Symbol::Name(names::TOKEN),
     Symbol::Read(classes::TO),
     Symbol::Name(names::YIELDER),
     Symbol::Emit(Mark::ActionWithToken(Kind::Bind)),
     Symbol::Read(classes::BIND),
-    Symbol::Keep(classes::QUOTED),
+    Symbol::Name(names::TOKEN),
     Symbol::Read(classes::TO),
     Symbol::Name(names::CLOSURE),
     Symbol::Emit(Mark::ActionWithToken(Kind::BindRec)),
@@ -274,7 +278,7 @@ pub static SYMBOLS: [Symbol; 211] = [
     Symbol::Name(names::SORT),
     Symbol::Name(names::AT_PLACE),
     Symbol::Read(classes::TO),
-    Symbol::Keep(classes::QUOTED),
+    Symbol::Name(names::TOKEN),
     Symbol::Emit(Mark::Bound),
     Symbol::Read(classes::IN),
     Symbol::Name(names::YIELDER),
@@ -285,10 +289,17 @@ pub static SYMBOLS: [Symbol; 211] = [
     Symbol::Emit(Mark::Sort(Sort::Truth)),
     Symbol::Emit(Mark::Sort(Sort::Cell)),
     Symbol::Emit(Mark::Sort(Sort::Abstraction)),
+    Symbol::Keep(classes::VARIABLE),
+    Symbol::Emit(Mark::Applied),
+    Symbol::Read(classes::OF),
+    Symbol::Keep(classes::VARIABLE),
+    Symbol::Emit(Mark::ValueOf),
+    Symbol::Read(classes::OF),
+    Symbol::Keep(classes::VARIABLE),
 ];
 
 /// The rows that a token chooses.
-pub static ROWS: [Row; 70] = [
+pub static ROWS: [Row; 74] = [
     Row {
         name: names::CHAIN,
         class: classes::OR,
@@ -778,6 +789,34 @@ pub static ROWS: [Row; 70] = [
         keeps: false,
         from: 210,
         to: 211,
+    },
+    Row {
+        name: names::TOKEN,
+        class: classes::QUOTED,
+        keeps: true,
+        from: 211,
+        to: 211,
+    },
+    Row {
+        name: names::OPERAND,
+        class: classes::FUNCTION,
+        keeps: true,
+        from: 211,
+        to: 213,
+    },
+    Row {
+        name: names::YIELDER,
+        class: classes::VALUE,
+        keeps: false,
+        from: 213,
+        to: 216,
+    },
+    Row {
+        name: names::TOKEN,
+        class: classes::TOKEN,
+        keeps: false,
+        from: 216,
+        to: 218,
     },
 ];
 

@@ -1,6 +1,10 @@
 //! The class of a token, by its bytes.
-ghost use Rattle.std.specs.Prelude.{◌≡◌, ◌<◌, ◌≤◌, ◌↔◌, [], length, slice_index_or, slice_range, IsTrue, IfOk, map};
-ghost use Rattle.action_text.specs.Classes.{words, word_class, class_of};
+ghost use Rattle.std.specs.Prelude.{◌≡◌, ◌∷◌, codes, ◌<◌, ◌≤◌, ◌↔◌, [], length, slice_index_or, slice_range, IsTrue, IfOk, map};
+ghost use Rattle.meta_terms.specs.Words.{words, same_bytes};
+ghost use Rattle.meta_lex.specs.Forms.{is_word};
+ghost use Rattle.action_text.specs.Classes.{word_class, class_of, parameter_class, template_class};
+ghost use Rattle.meta_terms.specs.Names.{is_function, is_variable, is_among, other_words, begins_small};
+ghost use Rattle.action_text.specs.ActionTable.{class_in};
 ghost use Rattle.action_text.specs.Texts.{texts};
 
 use crate::classes;
@@ -70,13 +74,113 @@ pub fn class_of(token: &Token<'_>) -> u32
     }
 }
 
+// Tells whether two texts are the same, as a test.
+fn same(word: &[u8], bytes: &[u8]) -> bool
+    ensures { result ≡ same_bytes word.now bytes.now }
+{
+    is_same(word, bytes)
+}
+
+// Tells whether a word is reserved besides those of action texts.
+fn is_other_word(bytes: &[u8]) -> bool
+    ensures { result ≡ is_among other_words bytes.now }
+{
+    let parameter = same(b"value", bytes) || same(b"token", bytes);
+    let heading = same(b"grammar", bytes) || same(b"semantics", bytes);
+    let item = same(b"end", bytes) || same(b"identifier", bytes);
+    parameter || heading || item || same(b"numeral", bytes)
+}
+
+// Tells whether a word begins with a lower-case letter.
+fn begins_small(bytes: &[u8]) -> bool
+    ensures { result ≡ begins_small bytes.now }
+{
+    match bytes {
+        [first, ..] => *first >= b'a',
+        [] => false,
+    }
+}
+
+// Tells whether the bytes are among the words of action texts.
+fn is_action_word(bytes: &[u8]) -> bool
+    ensures { result ≡ is_among words bytes.now }
+{
+    word_class(bytes) != classes::COUNT
+}
+
+// Tells whether a token is a word.
+fn is_word(token: &Token<'_>) -> bool
+    ensures { result ≡ is_word token.now.bytes.now }
+{
+    token.kind == TokenKind::Word
+}
+
+/// Tells whether a token is the name of a function: a word that begins with a lower-case letter and
+/// isn't reserved.
+pub fn is_function(token: &Token<'_>) -> bool
+    ensures { result ≡ is_function token.now.bytes.now }
+{
+    let word = is_word(token);
+    let small = begins_small(token.bytes);
+    let action = is_action_word(token.bytes);
+    let other = is_other_word(token.bytes);
+    word && small && !action && !other
+}
+
+/// Tells whether a token is a variable, or the name of a nonterminal: a word that begins with an
+/// upper-case letter.
+pub fn is_variable(token: &Token<'_>) -> bool
+    ensures { result ≡ is_variable token.now.bytes.now }
+{
+    let word = is_word(token);
+    let small = begins_small(token.bytes);
+    word && !small
+}
+
+// The class of a token that a template can have and an action text can't.
+fn parameter_class(token: &Token<'_>) -> u32
+    ensures { result ≡ parameter_class token.now.bytes.now }
+{
+    let value = same(b"value", token.bytes);
+    let of_token = same(b"token", token.bytes);
+    let function = is_function(token);
+    let variable = is_variable(token);
+    if value {
+        classes::VALUE
+    } else if of_token {
+        classes::TOKEN
+    } else if function {
+        classes::FUNCTION
+    } else if variable {
+        classes::VARIABLE
+    } else {
+        classes::COUNT
+    }
+}
+
+// The class of a token of a text with parameters or without.
+fn class_in(parameters: bool, token: &Token<'_>) -> u32
+    ensures { result ≡ class_in parameters token.now.bytes.now }
+{
+    let class = class_of(token);
+    if parameters && class >= classes::COUNT {
+        parameter_class(token)
+    } else {
+        class
+    }
+}
+
 /// The class of each token.
-pub fn classes_of(alloc: Global, tokens: &[Token<'_>]) -> Result<Vec<u32>, AllocError>
-    ensures { IfOk result (λ v. v.items ≡ map class_of (texts tokens.now)) }
+pub fn classes_of(
+    alloc: Global,
+    tokens: &[Token<'_>],
+    parameters: bool,
+) -> Result<Vec<u32>, AllocError>
+    ensures { IfOk result (λ v. v.items ≡ map (class_in parameters) (texts tokens.now)) }
 {
     let mut list = Vec::new(alloc);
     for token in tokens {
-        list.push(class_of(token))?;
+        list.push(class_in(parameters, token))?;
     }
     Ok(list)
 }

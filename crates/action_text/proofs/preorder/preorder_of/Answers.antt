@@ -1,5 +1,5 @@
 use Rattle.std.proofs.Common.{◌∙◌, ◌≤◌, ap, sym, map, arith, length, ◌++◌, ◌∷◌, []}
-use Rattle.action_terms.specs.Pushed.{label_of}
+use Rattle.meta_terms.specs.Nodes.{label_of}
 use Rattle.action_text.proofs.PreorderWalk.{walk_begins, walk_short, walk_step, has_top, top_place, length_labels}
 use Rattle.action_text.proofs.preorder.preorder_of.Goals as goal
 

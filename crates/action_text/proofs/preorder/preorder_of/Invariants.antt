@@ -1,6 +1,6 @@
 use Rattle.std.proofs.Common.{◌≡◌, ◌-◌, length, map}
-use Rattle.action_terms.specs.Pushed.{label_of}
-use Rattle.action_terms.specs.Trees.{Tree, IsAction}
+use Rattle.meta_terms.specs.Nodes.{label_of}
+use Rattle.meta_terms.specs.Templates.{Tree, IsAction}
 use Rattle.action_text.specs.Posts.{postorder}
 use Rattle.action_text.proofs.PreorderWalk.{Walks}
 use Rattle.action_text.proofs.preorder.preorder_of.Given as goal

@@ -1,6 +1,6 @@
 use Rattle.std.proofs.Common.{◌∙◌, ap, sym, map, ◌-◌, ◌+◌, length}
-use Rattle.action_terms.specs.Labels.{under}
-use Rattle.action_terms.specs.Pushed.{label_of}
+use Rattle.meta_terms.specs.Templates.{under}
+use Rattle.meta_terms.specs.Nodes.{label_of}
 use Rattle.action_text.specs.Sizes.{start_back}
 use Rattle.action_text.proofs.PreorderWalk.{sizes_more, label_there}
 use Rattle.action_text.proofs.preorder.sizes_of.Goals as goal

@@ -1,5 +1,5 @@
 use Rattle.std.proofs.Common.{map}
-use Rattle.action_terms.specs.Pushed.{label_of}
+use Rattle.meta_terms.specs.Nodes.{label_of}
 use Rattle.action_text.proofs.PreorderWalk.{SizesTo}
 use Rattle.action_text.proofs.preorder.sizes_of.Given as goal
 

@@ -8,7 +8,7 @@ use Rattle.action_text.proofs.reading.read_labels.Given as goal
 abbrev pub invariant-loop-top : goal.invariant-loop-top
 invariant-loop-top l = record {
   within : l.at ≤ length (texts l.tokens);
-  state : State (texts l.tokens) l.at (reverse l.stack.items) (noting_of l.notes.items l.labels.items);
+  state : State l.parameters (texts l.tokens) l.at (reverse l.stack.items) (noting_of l.notes.items l.labels.items);
 }
 
 abbrev pub decreases-loop-top : goal.decreases-loop-top

@@ -1,5 +1,6 @@
 use Rattle.std.proofs.Common.{◌≡◌, ◌∙◌, ◌+◌, true, false, sym, ap, ℕ, drop, ◌<◌, length, refl, add-one}
-use Rattle.action_text.specs.Classes.{words, word_class}
+use Rattle.meta_terms.specs.Words.{words}
+use Rattle.action_text.specs.Classes.{word_class}
 use Rattle.action_text.proofs.WordCuts.{class_here, class_next}
 use Rattle.action_text.proofs.token_class.word_class.Goals as goal
 

@@ -1,5 +1,6 @@
 use Rattle.std.proofs.Common.{◌≡◌, drop}
-use Rattle.action_text.specs.Classes.{words, word_class}
+use Rattle.meta_terms.specs.Words.{words}
+use Rattle.action_text.specs.Classes.{word_class}
 use Rattle.action_text.proofs.token_class.word_class.Given as goal
 
 abbrev pub invariant-loop-class : goal.invariant-loop-class
