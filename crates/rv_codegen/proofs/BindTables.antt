@@ -8,7 +8,7 @@ use Rattle.action_terms.specs.Steps.{united, joined, chained, handed_binds}
 use Rattle.action_terms.specs.Performances.{OneOf}
 use Rattle.rv_asm.specs.DataWords.{Heap}
 use Rattle.rv_codegen.proofs.Holding.{Slot, HoldsBinds}
-use Rattle.rv_codegen.proofs.Tokens.{bind_less, bind_more, bind_same, Order, Less, More, Same, order, found_before, found_behind, found_here, found_other, lt_irrefl, lt_asym, lt_trans, Ascending}
+use Rattle.rv_codegen.proofs.Tokens.{bind_less, bind_more, bind_same, Order, Less, More, Same, order, found_before, found_behind, found_here, found_other, lt_irrefl, lt_trans, Ascending}
 use Rattle.rv_codegen.proofs.Overlaid.{overlaid-second, overlaid-first, holds-overlaid, AreOver}
 
 -- ---- tokens ascend in what is bound and overlaid

@@ -3,8 +3,7 @@ pub mod Fresh
 pub mod ExitLaws
 pub mod NodesLaws
 pub mod Loading
-pub mod BuiltKinds
-pub mod WorkNodes
+pub mod ListedParts
 pub mod WorkLaws
 pub mod WorkTurns
 pub mod Yielders

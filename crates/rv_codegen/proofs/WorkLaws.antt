@@ -11,7 +11,7 @@ use Rattle.rv_codegen.specs.declared.work.Work.TheVariants as work
 use Rattle.rv_codegen.specs.Works.{node_of_work, is_built_node, unbuilt_from, unbuilt}
 use Rattle.rv_codegen.proofs.NodeParts.{IsPartOf}
 use Rattle.rv_codegen.proofs.ExitLaws.{HasTree}
-use Rattle.rv_codegen.proofs.BuiltKinds.{HasParts, form-node_of}
+use Rattle.rv_codegen.proofs.ListedParts.{HasParts, listed-parts}
 
 pub length-action_of : (g : Listed) → length (action_of g) ≡ length g.nodes
 length-action_of g = length-map g.nodes (node_with (items_from 0 g.yielders))
@@ -32,8 +32,8 @@ has_listed : (g : Listed) (k : ℕ) (n : Node) → slice_get (action_of g) k ≡
 has_listed g k n e =
     let found = mapped_at (node_with (items_from 0 g.yielders)) g.nodes k n e in
     let m = found.0 in
-    let form = form-node_of m.kind m.token m.body m.children (map (picked 0 (items_from 0 g.yielders)) m.operands) in
-    record { listed = m; at = found.1; parts = subst (λ (x : Node). HasParts x m.children) found.2 form.parts }
+    let parts = listed-parts m.kind m.token m.body m.children (map (picked 0 (items_from 0 g.yielders)) m.operands) in
+    record { listed = m; at = found.1; parts = subst (λ (x : Node). HasParts x m.children) found.2 parts }
 
 -- a part of a node is one of its parts
 part_at : (n : Node) (parts : List ℕ) (c : ℕ) → HasParts n parts → IsPartOf n c → (i : ℕ) × (slice_get parts i ≡ Some c)

@@ -1,13 +1,14 @@
 //! What the code of a node has to do.
 
-ghost use Rattle.std.specs.Prelude.{◌≡◌, ℤ, ◌<◌, [], false, length, slice_get, IfSome, IfNone, IfOk, OnOk, All};
-ghost use Rattle.action_terms.specs.Actions.{NumberLiteral, Single, node_at};
+ghost use Rattle.std.specs.Prelude.{◌≡◌, ℕ, ◌<◌, [], false, length, slice_get, IfSome, IfNone, IfOk, OnOk, All};
+ghost use Rattle.action_terms.specs.Actions.{Simple, Both, Phases, node_at};
+ghost use Rattle.action_terms.specs.Forms.{HasPrimitiveOperands, primitive_viewed, join_viewed, chain_viewed};
 ghost use Rattle.action_terms.specs.Numbering.{IsGraph};
-ghost use Rattle.action_terms.specs.Meaning.{item_or_them, items_from, action_of};
+ghost use Rattle.action_terms.specs.Meaning.{action_of};
 ghost use Rattle.rv_codegen.specs.Works.{node_of_work, action_of_works, HasPartsBelow, is_built_node, unbuilt};
 
 use acg_base::Memory;
-use action_terms::{Graph, Kind, YKind};
+use action_terms::{Chain, Graph, Join, NodeView, PrimitiveView, YielderView};
 use std::alloc::Global;
 
 /// What a node does, with the numbers of its parts.
@@ -25,15 +26,46 @@ pub enum Work {
     AndThen(u32, u32),
 }
 
-/// The number that the yielder of number y is, if it is one.
-fn number_of(graph: &Graph<'_>, y: u32) -> Option<i64>
-    requires { y < length graph.now.yielders }
-    ensures number { IfSome result (λ z. item_or_them (slice_get (items_from 0 graph.now.yielders) y) ≡ Single (NumberLiteral z)) }
-    ensures other { IfNone result ((z : ℤ) → item_or_them (slice_get (items_from 0 graph.now.yielders) y) ≡ Single (NumberLiteral z) → ⊥) }
+/// What a node does that is done in one step, if its code can be generated.
+fn primitive_work(graph: &Graph<'_>, primitive: PrimitiveView<'_>) -> Option<Work>
+    requires { HasPrimitiveOperands graph.now.yielders primitive }
+    ensures work { IfSome result (λ work. node_of_work work ≡ Simple (primitive_viewed graph.now.yielders primitive.entry)) }
+    ensures parts { IfSome result (λ work. (n : ℕ) → HasPartsBelow n work) }
+    ensures unbuilt { IfNone result
+        (is_built_node (Simple (primitive_viewed graph.now.yielders primitive.entry)) ≡ false) }
 {
-    match graph.yielders()[y as usize].kind {
-        YKind::Number(z) => Some(z),
+    match primitive {
+        PrimitiveView::Complete => Some(Work::Complete),
+        PrimitiveView::Failing => Some(Work::Fail),
+        PrimitiveView::Send { yielder } => match graph.yielder_view(yielder as usize) {
+            YielderView::Number(integer) => Some(Work::Send(integer)),
+            _ => None,
+        },
         _ => None,
+    }
+}
+
+/// What a node with two parts in either order does, if its code can be generated.
+fn both_work(join: Join, left: u32, right: u32) -> Option<Work>
+    ensures work { IfSome result (λ work. node_of_work work ≡ Both (join_viewed join) left right) }
+    ensures parts { IfSome result (λ work. (n : ℕ) → left < n → right < n → HasPartsBelow n work) }
+    ensures unbuilt { IfNone result (is_built_node (Both (join_viewed join) left right) ≡ false) }
+{
+    match join {
+        Join::And => Some(Work::And(left, right)),
+        Join::Moreover => None,
+    }
+}
+
+/// What a node with two parts in order does, if its code can be generated.
+fn phases_work(chain: Chain, left: u32, right: u32) -> Option<Work>
+    ensures work { IfSome result (λ work. node_of_work work ≡ Phases (chain_viewed chain) left right) }
+    ensures parts { IfSome result (λ work. (n : ℕ) → left < n → right < n → HasPartsBelow n work) }
+    ensures unbuilt { IfNone result (is_built_node (Phases (chain_viewed chain) left right) ≡ false) }
+{
+    match chain {
+        Chain::AndThen => Some(Work::AndThen(left, right)),
+        Chain::Then | Chain::Hence | Chain::Before => None,
     }
 }
 
@@ -44,13 +76,10 @@ pub(crate) fn work_of(graph: &Graph<'_>, k: usize) -> Option<Work>
     ensures parts { IfSome result (λ work. HasPartsBelow (length graph.now.nodes) work) }
     ensures unbuilt { IfNone result (is_built_node (node_at (action_of graph.now) k) ≡ false) }
 {
-    let node = graph.nodes()[k];
-    match node.kind {
-        Kind::Complete => Some(Work::Complete),
-        Kind::Fail => Some(Work::Fail),
-        Kind::Send => Some(Work::Send(number_of(graph, node.operands[0][0])?)),
-        Kind::And => Some(Work::And(node.children[0], node.children[1])),
-        Kind::AndThen => Some(Work::AndThen(node.children[0], node.children[1])),
+    match graph.view(k) {
+        NodeView::Simple(primitive) => primitive_work(graph, primitive),
+        NodeView::Both { join, left, right } => both_work(join, left, right),
+        NodeView::Phases { chain, left, right } => phases_work(chain, left, right),
         _ => None,
     }
 }

@@ -1,7 +1,6 @@
-use Rattle.std.proofs.Common.{◌≡◌, ◌≢◌, ◌<◌, ◌≤◌, false, arith}
-use Rattle.rv_asm.specs.Assembly.{is_placed}
+use Rattle.std.proofs.Common.{arith}
 use Rattle.rv_asm.specs.Pieces.{exit_with}
-use Rattle.rv_codegen.specs.Blocks.{first_label, send_entry}
+use Rattle.rv_codegen.specs.Blocks.{send_entry}
 use Rattle.rv_codegen.proofs.Emitting.{plain-keeps, mark-keeps, opening-keeps}
 use Rattle.rv_codegen.proofs.entries.append_entries.Goals as goal
 

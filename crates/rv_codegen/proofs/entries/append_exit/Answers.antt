@@ -1,4 +1,4 @@
-use Rattle.std.proofs.Common.{◌≡◌, ◌≢◌, ◌≤◌, ◌+◌, le_refl, arith}
+use Rattle.std.proofs.Common.{le_refl, arith}
 use Rattle.rv_asm.specs.Pieces.{exit_with}
 use Rattle.rv_codegen.proofs.Emitting.{OnOk-then, plain-keeps, mark-keeps}
 use Rattle.rv_codegen.proofs.entries.append_exit.Goals as goal
