@@ -44,3 +44,4 @@ pub mod Widths
 pub mod Rounds
 pub mod Examples
 pub mod ComputedTables
+pub mod Judging

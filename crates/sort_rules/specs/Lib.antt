@@ -3,6 +3,7 @@ pub mod Sets
 pub mod Parts
 pub mod Tables
 pub mod Values
+pub mod Judgements
 pub mod Demands
 pub mod Admissible
 pub mod Fitting

@@ -5,6 +5,11 @@ use Rattle.sort_rules.specs.Sets as meant
 use Rattle.sort_rules.specs.Parts.{Component, Part, Unreached, Listed, Clash}
 use Rattle.sort_rules.specs.Rows.{SortRow, SortTable}
 use Rattle.sort_rules.specs.declared.set.Set.{Set}
+use Rattle.sort_rules.specs.Values.{one}
+use Rattle.sort_rules.specs.Judgements.{Judgement, misfit_unless}
+use Rattle.sort_rules.specs.declared.values.Value.{Value}
+use Rattle.sort_rules.specs.declared.values.Value.TheVariants as value
+use Rattle.sort_rules.specs.declared.values.Judged.{Judged}
 use Rattle.sort_rules.specs.declared.table.TupleSort.{TupleSort}
 use Rattle.sort_rules.specs.declared.table.TupleSort.TheVariants as tuple
 use Rattle.sort_rules.specs.declared.table.BindSort.{BindSort}
@@ -48,6 +53,16 @@ abbrev pub marked_binds_of : MarkedBinds → Part
 marked_binds_of marked_binds.Unreached = Unreached
 marked_binds_of (marked_binds.Map pairs) = Listed (map pair_of pairs.now)
 marked_binds_of marked_binds.Clash = Clash
+
+-- what a yielder may yield
+abbrev pub value_part : Value → Part
+value_part value.Unreached = Unreached
+value_part (value.One s) = one (set_of s)
+value_part value.Clash = Clash
+
+-- and whether it fits
+abbrev pub judgement_of : Judged → Judgement
+judgement_of j = record { value = value_part j.value; wrong = misfit_unless j.fits }
 
 -- the row of a node
 abbrev pub row_of : Row → SortRow

@@ -9,6 +9,7 @@ pub mod set;
 pub mod sets;
 pub mod table;
 pub mod tuples;
+pub mod values;
 
 pub use parts::{MarkedBinds, MarkedTuple};
 pub use set::Set;
