@@ -45,3 +45,5 @@ pub mod Rounds
 pub mod Examples
 pub mod ComputedTables
 pub mod Judging
+pub mod InSort
+pub mod Listing

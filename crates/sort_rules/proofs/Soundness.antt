@@ -2,15 +2,12 @@
 use Rattle.std.proofs.Common.{List, refl, ℕ}
 use Rattle.action_terms.specs.Actions.{Action, node_at}
 use Rattle.sort_rules.specs.Admissible.{IsAdmissible, IsLeast}
-use Rattle.sort_rules.specs.Soundness.{EndsInShape, NodesRunInSort, StatesFit, UnionsComplete}
+use Rattle.sort_rules.specs.Soundness.{EndsInShape, NodesRunInSort, UnionsComplete}
 use Rattle.sort_rules.specs.Tables.{IsUnder, MarkedTable}
 use Rattle.sort_rules.proofs.OperandsYield.{yielders_block}
 use Rattle.sort_rules.proofs.Shapes.{completes_in_shape, enters_in_shape, escapes_in_shape, united_completes}
-use Rattle.sort_rules.proofs.SoundStates.{part_fits, stands}
+use Rattle.sort_rules.proofs.SoundStates.{stands}
 use Rattle.sort_rules.proofs.SuitedYielders.{node_suited}
-
-pub states_fit : (a : Action) (t : MarkedTable) → IsAdmissible a t → StatesFit a t
-states_fit a t h = λ input steps s part. part_fits a t input steps s h part
 
 pub nodes_run : (a : Action) (t : MarkedTable) → IsAdmissible a t → NodesRunInSort a t
 nodes_run a t h = λ w cells k d b cf en. record {

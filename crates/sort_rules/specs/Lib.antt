@@ -4,6 +4,7 @@ pub mod Parts
 pub mod Tables
 pub mod Values
 pub mod Judgements
+pub mod Postorder
 pub mod Demands
 pub mod Admissible
 pub mod Fitting

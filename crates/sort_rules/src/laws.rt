@@ -4,17 +4,19 @@ ghost use Rattle.std.specs.Prelude.{ℕ, List};
 ghost use Rattle.action_terms.specs.Actions.{Action};
 ghost use Rattle.sort_rules.specs.Tables.{MarkedTable, IsUnder};
 ghost use Rattle.sort_rules.specs.Admissible.{IsAdmissible, IsLeast};
-ghost use Rattle.sort_rules.specs.Soundness.{StatesFit, NodesRunInSort, EndsInShape, UnionsComplete};
+ghost use Rattle.sort_rules.specs.Soundness.{PerformancesInSort, NodesRunInSort, EndsInShape, UnionsComplete};
 
-/// Every state of every performance over every input fits an admissible table: the data and the
-/// bindings of each part of its acting tree, and what its cells hold, are of the sorts of the table.
-pub fn states_fit()
-    ensures { (a : Action) → (t : MarkedTable) → IsAdmissible a t → StatesFit a t }
+/// Every state of every performance over every input is in sort by an admissible table: the data and
+/// the bindings of each part of its acting tree, and what its cells hold, fit the table. A node that is
+/// to be performed has data of the length and bindings of the domain of its row; its yielders meet no
+/// datum of a wrong sort and miss no place and no token. `and`, `and then` and `then` never fail by a
+/// token that both of their parts bind.
+pub fn performances_are_in_sort()
+    ensures { (a : Action) → (t : MarkedTable) → IsAdmissible a t → PerformancesInSort a t }
 {}
 
-/// A node that is to be performed with what fits has data of the length and bindings of the domain
-/// of its row. Its yielders meet no datum of a wrong sort and miss no place and no token; they yield
-/// nothing only by an unset cell, or by an operation on integers that has no result.
+/// So it is at each node wherever what it is given and receives fits, whatever stands around it. Its
+/// yielders yield nothing only by an unset cell, or by an operation on integers that has no result.
 pub fn nodes_run_in_sort()
     ensures { (a : Action) → (t : MarkedTable) → IsAdmissible a t → NodesRunInSort a t }
 {}
@@ -24,8 +26,7 @@ pub fn ends_are_in_shape()
     ensures { (a : Action) → (t : MarkedTable) → IsAdmissible a t → (w : List ℕ) → (k : ℕ) → EndsInShape a t w k }
 {}
 
-/// Bindings that fit parts whose union is no clash are disjoint. In an admissible table no part is a
-/// clash, so `and`, `and then` and `then` never fail by a token that both of their parts bind.
+/// Bindings that fit parts whose union is no clash have no token in common.
 pub fn unions_complete()
     ensures { (a : Action) → (t : MarkedTable) → UnionsComplete a t }
 {}

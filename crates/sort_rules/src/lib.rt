@@ -5,6 +5,7 @@ pub mod laws;
 pub mod maps;
 mod numbers;
 pub mod parts;
+pub mod postorder;
 pub mod set;
 pub mod sets;
 pub mod table;

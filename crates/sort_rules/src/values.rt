@@ -1,15 +1,16 @@
 //! What a yielder may yield, and whether it fits, from the same of its arguments.
 ghost use Rattle.std.specs.Prelude.{◌≡◌, [], map, option_map};
+ghost use Rattle.action_terms.specs.Forms.{two_viewed, one_viewed};
 ghost use Rattle.sort_rules.specs.Parts.{Clash, Unreached, join, lookup_set, on_list, when};
-ghost use Rattle.sort_rules.specs.Values.{clashes, one_or_unreached, only_set, nth_set, first_set, strays, both_stray, found, misfit};
-ghost use Rattle.sort_rules.specs.Judgements.{looked_up, misfit_unless};
+ghost use Rattle.sort_rules.specs.Values.{clashes, one_or_unreached, only_set, nth_set, first_set, strays, both_stray, misfit_two, misfit_one, found, misfit, result_of_two, result_of_one};
+ghost use Rattle.sort_rules.specs.Judgements.{looked_up, misfit_unless, two_judged, one_judged};
 ghost use Rattle.sort_rules.specs.Views.{set_of, place_of, marked_tuple_of, marked_binds_of, value_part, judgement_of};
 
 use crate::maps;
 use crate::parts::{MarkedBinds, MarkedTuple};
 use crate::set::Set;
-use crate::sets::{inside, is_empty, lies_in};
-use action_terms::Sort;
+use crate::sets::{atoms, inside, is_empty, lies_in};
+use action_terms::{One, Sort, Two};
 
 /// What a yielder may yield.
 #[derive(Clone, Copy, Debug, PartialEq, Eq)]
@@ -178,6 +179,42 @@ fn both_lie(sort: Sort, x: Value<'_>, y: Value<'_>) -> bool
     lies_within(sort, x) && lies_within(sort, y)
 }
 
+// whether the arguments of an operation on two data are of the sorts that it wants
+#[tactic(auto, using(crate::proofs::Judging::judging))]
+fn two_fit(operation: Two, x: Value<'_>, y: Value<'_>) -> bool
+    ensures { misfit_unless result ≡ misfit_two (two_viewed operation) (value_part x.entry) (value_part y.entry) }
+{
+    match operation {
+        Two::Is => {
+            both_lie(Sort::Integer, x, y)
+                || both_lie(Sort::Truth, x, y)
+                || both_lie(Sort::Cell, x, y)
+        }
+        Two::BothOf | Two::EitherOf => both_lie(Sort::Truth, x, y),
+        _ => both_lie(Sort::Integer, x, y),
+    }
+}
+
+// what an operation on two data gives
+fn result_of_two(operation: Two) -> Set<'static>
+    ensures { set_of result ≡ result_of_two (two_viewed operation) }
+{
+    match operation {
+        Two::Is | Two::Less | Two::BothOf | Two::EitherOf => atoms(false, true),
+        _ => atoms(true, false),
+    }
+}
+
+// what an operation on one datum gives
+fn result_of_one(operation: One) -> Set<'static>
+    ensures { set_of result ≡ result_of_one (one_viewed operation) }
+{
+    match operation {
+        One::Negation => atoms(true, false),
+        One::Not => atoms(false, true),
+    }
+}
+
 // the set, where the value is reached
 fn where_reached<'a>(x: Value<'_>, value: Value<'a>) -> Value<'a>
     ensures { value_part result ≡ when (value_part x.entry) (value_part value.entry) }
@@ -185,5 +222,33 @@ fn where_reached<'a>(x: Value<'_>, value: Value<'a>) -> Value<'a>
     match x {
         Value::Unreached => Value::Unreached,
         _ => value,
+    }
+}
+
+/// Of an operation on two data.
+#[tactic(auto, using(crate::proofs::Judging::judging))]
+pub fn on_two<'a>(operation: Two, x: Judged<'a>, y: Judged<'a>) -> Judged<'a>
+    ensures { judgement_of result ≡ two_judged (two_viewed operation) (judgement_of x.entry) (judgement_of y.entry) }
+{
+    let value = Value::One(result_of_two(operation));
+    Judged {
+        value: where_reached(x.value, where_reached(y.value, value)),
+        fits: x.fits && y.fits && two_fit(operation, x.value, y.value),
+    }
+}
+
+/// Of an operation on one datum.
+#[tactic(auto, using(crate::proofs::Judging::judging))]
+pub fn on_one<'a>(operation: One, x: Judged<'a>) -> Judged<'a>
+    ensures { judgement_of result ≡ one_judged (one_viewed operation) (judgement_of x.entry) }
+{
+    let sort = match operation {
+        One::Negation => Sort::Integer,
+        One::Not => Sort::Truth,
+    };
+    let value = Value::One(result_of_one(operation));
+    Judged {
+        value: where_reached(x.value, value),
+        fits: x.fits && lies_within(sort, x.value),
     }
 }
