@@ -44,6 +44,6 @@ pub mod Widths
 pub mod Rounds
 pub mod Examples
 pub mod ComputedTables
-pub mod Judging
+pub mod Misfits
 pub mod InSort
 pub mod Listing

@@ -21,3 +21,4 @@ pub mod Raising
 pub mod Views
 pub mod TokenOrder
 pub mod Puts
+pub mod MarkedRows

@@ -12,6 +12,16 @@ use Rattle.sort_rules.specs.Judgements.{Judgement, looked_up, stored_judged, two
 abbrev pub settled : Set → Judgement
 settled x = record { value = one x; wrong = Unreached }
 
+-- of what has one argument, and two: it takes their judgements off the stack
+abbrev pub on_one_judged : (Judgement → Judgement) → List Judgement → List Judgement
+on_one_judged f [] = []
+on_one_judged f (j ∷ js) = f j ∷ js
+
+abbrev pub on_two_judged : ((x y : Judgement) → Judgement) → List Judgement → List Judgement
+on_two_judged f [] = []
+on_two_judged f (j ∷ []) = []
+on_two_judged f (j2 ∷ j1 ∷ js) = f j1 j2 ∷ js
+
 -- the judgements after a yielder, with those of its arguments on the stack, the last one first
 abbrev pub judged_by : (c : ℕ → Part) (g h : Part) → YielderView → List Judgement → List Judgement
 judged_by c g h (yielder.Number n) js = settled integers ∷ js
@@ -20,13 +30,9 @@ judged_by c g h yielder.Them js = js
 judged_by c g h (yielder.Given s) js = looked_up s only_set g ∷ js
 judged_by c g h (yielder.GivenAt s n) js = looked_up s (nth_set n) g ∷ js
 judged_by c g h (yielder.BoundTo s t) js = looked_up s (lookup_set t.now) h ∷ js
-judged_by c g h (yielder.StoredIn s y) (j ∷ js) = stored_judged c s j ∷ js
-judged_by c g h (yielder.StoredIn s y) [] = []
-judged_by c g h (yielder.OnTwo f y1 y2) (j2 ∷ j1 ∷ js) = two_judged (two_viewed f) j1 j2 ∷ js
-judged_by c g h (yielder.OnTwo f y1 y2) (j ∷ []) = []
-judged_by c g h (yielder.OnTwo f y1 y2) [] = []
-judged_by c g h (yielder.OnOne f y) (j ∷ js) = one_judged (one_viewed f) j ∷ js
-judged_by c g h (yielder.OnOne f y) [] = []
+judged_by c g h (yielder.StoredIn s y) js = on_one_judged (stored_judged c s) js
+judged_by c g h (yielder.OnTwo f y1 y2) js = on_two_judged (two_judged (two_viewed f)) js
+judged_by c g h (yielder.OnOne f y) js = on_one_judged (one_judged (one_viewed f)) js
 judged_by c g h (yielder.ClosureOf k) js = settled (closures_of_body k) ∷ js
 
 -- and after all of a list, the last one first

@@ -1,11 +1,13 @@
 //! The sort judgement: which tables of sorts are admissible for an action.
 #![tactic(auto)]
 
+pub mod judging;
 pub mod laws;
 pub mod maps;
 mod numbers;
 pub mod parts;
 pub mod postorder;
+pub mod rows;
 pub mod set;
 pub mod sets;
 pub mod table;

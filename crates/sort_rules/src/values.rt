@@ -157,7 +157,7 @@ pub fn is_no_clash(value: Value<'_>) -> bool
 }
 
 /// Of what is stored in a cell, from the judgement of the cell and what its cells may hold.
-#[tactic(auto, using(crate::proofs::Judging::judging))]
+#[tactic(auto, using(crate::proofs::Misfits::misfits))]
 pub fn stored<'a>(sort: Sort, cell: Judged<'a>, content: Value<'a>) -> Judged<'a>
     ensures value { value_part result.value ≡ on_list (λ ps. found sort (first_set ps)) (value_part content.entry) }
     ensures wrong { misfit_unless result.fits ≡ join (misfit_unless cell.entry.fits) (join (strays Sort.Cell (value_part cell.entry.value)) (strays sort (value_part content.entry))) }
@@ -172,7 +172,7 @@ pub fn stored<'a>(sort: Sort, cell: Judged<'a>, content: Value<'a>) -> Judged<'a
 }
 
 // whether both values lie in the sort
-#[tactic(auto, using(crate::proofs::Judging::judging))]
+#[tactic(auto, using(crate::proofs::Misfits::misfits))]
 fn both_lie(sort: Sort, x: Value<'_>, y: Value<'_>) -> bool
     ensures { misfit_unless result ≡ both_stray sort (value_part x.entry) (value_part y.entry) }
 {
@@ -180,7 +180,7 @@ fn both_lie(sort: Sort, x: Value<'_>, y: Value<'_>) -> bool
 }
 
 // whether the arguments of an operation on two data are of the sorts that it wants
-#[tactic(auto, using(crate::proofs::Judging::judging))]
+#[tactic(auto, using(crate::proofs::Misfits::misfits))]
 fn two_fit(operation: Two, x: Value<'_>, y: Value<'_>) -> bool
     ensures { misfit_unless result ≡ misfit_two (two_viewed operation) (value_part x.entry) (value_part y.entry) }
 {
@@ -226,7 +226,7 @@ fn where_reached<'a>(x: Value<'_>, value: Value<'a>) -> Value<'a>
 }
 
 /// Of an operation on two data.
-#[tactic(auto, using(crate::proofs::Judging::judging))]
+#[tactic(auto, using(crate::proofs::Misfits::misfits))]
 pub fn on_two<'a>(operation: Two, x: Judged<'a>, y: Judged<'a>) -> Judged<'a>
     ensures { judgement_of result ≡ two_judged (two_viewed operation) (judgement_of x.entry) (judgement_of y.entry) }
 {
@@ -238,7 +238,7 @@ pub fn on_two<'a>(operation: Two, x: Judged<'a>, y: Judged<'a>) -> Judged<'a>
 }
 
 /// Of an operation on one datum.
-#[tactic(auto, using(crate::proofs::Judging::judging))]
+#[tactic(auto, using(crate::proofs::Misfits::misfits))]
 pub fn on_one<'a>(operation: One, x: Judged<'a>) -> Judged<'a>
     ensures { judgement_of result ≡ one_judged (one_viewed operation) (judgement_of x.entry) }
 {

@@ -1,5 +1,5 @@
 use Rattle.std.proofs.Common.{arith, ◌-◌}
-use Rattle.sort_rules.proofs.Judging.{nth-past, nth-there}
+use Rattle.sort_rules.proofs.Misfits.{nth-past, nth-there}
 use Rattle.sort_rules.proofs.values.nth_set.Goals as goal
 
 pub returns-then-index-sets : goal.returns-then-index-sets

@@ -35,4 +35,4 @@ nth-past sets place index e h = sym (ap (λ (n : ℕ). nth_set n (map place_of s
     go (x ∷ sets) zero h = absurd (omega arith)
     go (x ∷ sets) (suc i) h = go sets i (omega arith)
 
-pub ruleset judging = (misfit-and, misfit-or)
+pub ruleset misfits = (misfit-and, misfit-or)
