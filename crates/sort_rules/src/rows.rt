@@ -22,8 +22,8 @@ pub struct MarkedRow<'a> {
     pub e: MarkedTuple<'a>,
     /// What the cells that it allocates may hold.
     pub contents: Value<'a>,
-    /// Whether a yielder of it doesn't fit.
-    pub mark: bool,
+    /// Whether each yielder of it fits: its mark isn't set.
+    pub fits: bool,
 }
 
 /// What the cells of a node may hold.
