@@ -14,7 +14,7 @@ use Rattle.action_sos.specs.declared.moves.Lists.{Lists}
 use Rattle.action_sos.proofs.FramesOpen.{inside-behind}
 
 wrapped-sound : (a : Action) (f : Frame) (t : Tree) → IsSoundTree a (wrap f t) → IsSoundTree a t
-wrapped-sound a (InCalled c) t s = s
+wrapped-sound a (InCalled c) t s = s.1
 wrapped-sound a (InParLeft k y) t s = s.1
 wrapped-sound a (InParRight k x) t s = s.2
 wrapped-sound a (InFirst k d b) t s = s.1

@@ -2,10 +2,13 @@ pub mod Contexts
 pub mod Parts
 pub mod AllLaws
 pub mod NamedNodes
+pub mod TokenLaws
 pub mod SoundBindings
 pub mod SoundYielding
 pub mod SoundPrimitives
 pub mod SoundEnds
+pub mod WiderKnown
+pub mod KnownBodies
 pub mod SoundStates
 pub mod NeverStuck
 pub mod SoundExample
@@ -31,6 +34,7 @@ pub mod GraphLaws
 pub mod ProperYielders
 pub mod ProperBodies
 pub mod ProperNodes
+pub mod UnfoldLaws
 pub mod ProperGraphs
 pub mod ItemsAt
 pub mod YielderLaws

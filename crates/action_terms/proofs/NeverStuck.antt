@@ -9,6 +9,7 @@ use Rattle.action_terms.specs.Performances.{State}
 use Rattle.action_terms.specs.Proper.{IsProper}
 use Rattle.action_terms.specs.Sound.{IsBoth, IsPhases, IsTrapping, IsSoundTree, IsSound}
 use Rattle.action_terms.proofs.NamedNodes.{there-at}
+use Rattle.action_terms.proofs.SoundStates.{sound-tree}
 
 -- lists that are empty
 none-first : {X : Type 0} (xs ys : List X) → xs ++ ys ≡ [] → xs ≡ []
@@ -114,7 +115,7 @@ module _ (a : Action) (w : World) where
   end-if_no_step : (t : Tree) → IsProper a → IsSoundTree a t → IsEndIfNoStep t
   end-if_no_step (Run k d b) proper here none = absurd (some-run_steps (node_at a k) k d b w (there-at a k proper here.0) none)
   end-if_no_step (Ended z) proper here none = (z, refl)
-  end-if_no_step (Called c x) proper here none = absurd (some-part (within (Called c)) after_any x some-after_any (end-if_no_step x proper here) none)
+  end-if_no_step (Called c x) proper here none = absurd (some-part (within (Called c)) after_any x some-after_any (end-if_no_step x proper here.1) none)
   end-if_no_step (Par k x y) proper here none = absurd (some-parts k x y here.0 (end-if_no_step x proper here.1) (end-if_no_step y proper here.2) none)
   end-if_no_step (First k x d b) proper here none =
       absurd (some-part (within (λ x'. First k x' d b)) (after_first (node_at a k) k d b) x (some-after_first (node_at a k) k d b here.0) (end-if_no_step x proper here.1) none)
@@ -127,4 +128,4 @@ module _ (a : Action) (w : World) where
   end-if_no_step (Over x b) proper here none = absurd (some-part (within (λ x'. Over x' b)) (after_over b) x (some-after_over b) (end-if_no_step x proper here.0) none)
 
 pub never-stuck : (a : Action) (s : State) → IsProper a → IsSound a s → open_steps a s.world s.tree ≡ [] → (z : End) × (s.tree ≡ Ended z)
-never-stuck a s proper sound none = end-if_no_step a s.world s.tree proper sound.tree none
+never-stuck a s proper sound none = end-if_no_step a s.world s.tree proper (sound-tree a s proper sound) none

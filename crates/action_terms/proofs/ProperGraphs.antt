@@ -1,16 +1,23 @@
 -- The action of a graph has a root, no stray node, and names only nodes of its own.
-use Rattle.std.proofs.Common.{◌≡◌, ℕ, ◌+◌, ◌<◌, ◌≤◌, List, length, get_or, map, sym, ap, subst, ◌∙◌, arith}
-use Rattle.std.specs.Prelude.{Some, None, All, slice_get}
+use Rattle.std.proofs.Common.{◌≡◌, ℕ, ◌+◌, ◌<◌, ◌≤◌, List, [], ◌∷◌, length, get_or, map, refl, sym, ap, subst, ◌∙◌, arith}
+use Rattle.std.specs.Prelude.{Option, Some, None, All, slice_get, option_map}
 use Rattle.std.proofs.lemmas.List.{length-map}
 use Rattle.std.proofs.lemmas.List.Elements.{All-get_or, All-map}
-use Rattle.std.proofs.lemmas.Option.{slice_get-get_or}
+use Rattle.std.proofs.lemmas.Option.{slice_get-map, slice_get-get_or}
 use Rattle.action_terms.specs.Labels.{AnAction}
-use Rattle.action_terms.specs.Numbering.{ListedNode, Listed, action_count, IsGraph}
-use Rattle.action_terms.specs.Actions.{Item}
+use Rattle.action_terms.specs.Numbering.{ListedNode, ListedYielder, Listed, action_count, nodes_of, IsGraph}
+use Rattle.action_terms.specs.Actions.{Item, Node, Unfold, Stray, node_at, node_or_stray}
+use Rattle.action_terms.specs.Performances.{OneOf, Here}
 use Rattle.action_terms.specs.Meaning.{picked, items_from, node_with, action_of}
-use Rattle.action_terms.specs.Proper.{IsProperNode, IsProper}
+use Rattle.action_terms.specs.Proper.{bodies_under, IsBody, IsProperNode, IsProper}
+use Rattle.action_terms.specs.ByKind.{node_read}
+use Rattle.action_terms.specs.declared.kinds.Kind.{Kind}
+use Rattle.action_terms.specs.declared.kinds.Kind.TheVariants as kind
 use Rattle.action_terms.proofs.NodeCounts.{length-nodes_of}
-use Rattle.action_terms.proofs.GraphLaws.{length-nodes_some, child_within, node_with-sound}
+use Rattle.action_terms.proofs.Each.{Each-at_first}
+use Rattle.action_terms.proofs.GraphLaws.{length-nodes_some, child_within, node_with-sound, wanted_at, node_at-kind}
+use Rattle.action_terms.proofs.ReadNodes.{node_of-read}
+use Rattle.action_terms.proofs.UnfoldLaws.{HasUnfolding, Repeats, repeats}
 use Rattle.action_terms.proofs.ProperYielders.{ItemBelow, picked-below, items_from-below}
 use Rattle.action_terms.proofs.ProperBodies.{node_bodies-tree, yielder_bodies-tree}
 use Rattle.action_terms.proofs.ProperNodes.{OperandsBelow, node_of-below}
@@ -48,6 +55,35 @@ proper_node g w k n at body =
       within = node_of-below (length g.nodes) n.kind n.token n.body n.children (map (picked 0 items) n.operands) body (children_below g w k n at) (operands_below (length g.nodes) items n.operands below);
     }
 
+-- the node of a number that is an `unfold` is listed as one, with its body
+read_unfold : (ls : List ListedYielder) (kd : Kind) (n : ListedNode) (c : ℕ) → node_read ls kd n ≡ Unfold c → (kd ≡ kind.Unfold) × (n.body ≡ c)
+read_unfold ls kind.Unfold n c e = (refl, cc)
+read_unfold ls _ n c e = cc
+
+repeated-listed : (g : Listed) → IsGraph g → (k : ℕ) (n : ListedNode) → slice_get g.nodes k ≡ Some n → n.kind ≡ kind.Unfold → HasUnfolding g.nodes n.body
+repeated-listed g w k n at is =
+    let nodes = ap (λ l. l.nodes) w.1.numbered in
+    let P : List ListedNode → Type 0 = λ all. HasUnfolding all n.body in
+    subst P (sym nodes) (Each-at_first (Repeats (nodes_of None 0 0 w.0)) (nodes_of None 0 0 w.0) k n (repeats w.0 w.1.none_stray) (ap (λ l. slice_get l k) (sym nodes) ∙ at) is)
+
+-- the body of an `unfolding` is a body of the action
+unfolding-body : (g : Listed) (c : ℕ) → HasUnfolding g.nodes c → IsBody (action_of g) c
+unfolding-body g c h =
+    let P : ℕ → Type 0 = λ b. OneOf c (b ∷ []) in
+    let Q : Node → Type 0 = λ n. OneOf c (bodies_under n) in
+    (h.number, subst Q (sym (node_at-kind g h.number h.node kind.Unfolding h.listed h.kind)) (subst P (sym h.body) Here))
+
+repeated-graph : (g : Listed) → IsGraph g → (k c : ℕ) → node_at (action_of g) k ≡ Unfold c → IsBody (action_of g) c
+repeated-graph g w k c e = repeated-from (slice_get g.nodes k) refl
+  where
+    repeated-from : (o : Option ListedNode) → slice_get g.nodes k ≡ o → IsBody (action_of g) c
+    repeated-from None at =
+        let stray : node_at (action_of g) k ≡ Stray = ap node_or_stray (slice_get-map (node_with (items_from 0 g.yielders)) g.nodes k ∙ ap (option_map (node_with (items_from 0 g.yielders))) at) in absurd (cc)
+    repeated-from (Some n) at =
+        let h = wanted_at g w k n n.kind at refl in
+        let r = read_unfold g.yielders n.kind n c (sym (node_at-kind g k n n.kind at refl ∙ node_of-read g.yielders n.kind n h) ∙ e) in
+        subst (IsBody (action_of g)) r.1 (unfolding-body g n.body (repeated-listed g w k n at r.0))
+
 pub proper-graph : (g : Listed) → IsGraph g → IsProper (action_of g)
 proper-graph g w =
     let count : length g.nodes ≡ length (action_of g) = sym (length-map g.nodes (node_with (items_from 0 g.yielders))) in
@@ -57,4 +93,5 @@ proper-graph g w =
       root = subst P count (length-nodes_some g w);
       nodes = subst Q count (All-map (IsProperNode (length g.nodes)) (node_with (items_from 0 g.yielders)) g.nodes (λ k d less.
           proper_node g w k (get_or g.nodes k d) (slice_get-get_or g.nodes k d less) (All-get_or (λ n. n.body < length g.nodes) g.nodes k d less (node_bodies g w))));
+      repeated = repeated-graph g w;
     }

@@ -1,13 +1,13 @@
 -- A small action on which the laws of states hold, so that no premise is one that nothing meets.
-use Rattle.std.proofs.Common.{◌≡◌, ℕ, ◌<◌, ℤ, pos, List, [], ◌∷◌, length, refl, All, arith}
+use Rattle.std.proofs.Common.{◌≡◌, ℕ, zero, suc, ◌<◌, ℤ, pos, List, [], ◌∷◌, length, refl, All, arith}
 use Rattle.std.specs.Prelude.{◌≢◌}
 use Rattle.std.proofs.lemmas.List.Elements.{All-nil, All-same, All-from_recursion}
 use Rattle.action_terms.specs.Information.{NoBinds}
-use Rattle.action_terms.specs.Actions.{NumberLiteral, Primitive, Complete, Send, Chain, AndThen, Simple, Phases, Stray, Action}
+use Rattle.action_terms.specs.Actions.{NumberLiteral, Primitive, Complete, Send, Chain, AndThen, Simple, Phases, Unfold, Stray, Action, node_at}
 use Rattle.action_terms.specs.Acting.{End, Tree, Run, Ended, First, Second}
 use Rattle.action_terms.specs.Steps.{Sends, Step, closures_of, silent, with_effect, done}
 use Rattle.action_terms.specs.Performances.{State, start, Here, IsPart}
-use Rattle.action_terms.specs.Proper.{IsProperNode, IsProper}
+use Rattle.action_terms.specs.Proper.{IsProperNode, IsBody, IsProper}
 use Rattle.action_terms.specs.Sound.{IsSound}
 use Rattle.action_terms.proofs.AllLaws.{All-two}
 use Rattle.action_terms.proofs.SoundStates.{sound-reached}
@@ -32,6 +32,12 @@ proper-simple p none = record { there = there-simple p; within = All-same (λ k.
 root-there : 0 < length example
 root-there = omega arith
 
+none-repeated : (k c : ℕ) → node_at example k ≡ Unfold c → IsBody example c
+none-repeated zero c e = cc
+none-repeated (suc zero) c e = cc
+none-repeated (suc (suc zero)) c e = cc
+none-repeated (suc (suc (suc k))) c e = cc
+
 proper-example : IsProper example
 proper-example =
     record {
@@ -39,6 +45,7 @@ proper-example =
       nodes =
           All-from_recursion (IsProperNode 3) example
           (record { there = there-phases AndThen 1 2; within = parts-within }, (proper-simple (Send (NumberLiteral (pos 1))) refl, (proper-simple Complete refl, tt)));
+      repeated = none-repeated;
     }
 
 -- the steps of its performance, the last of them first, and the states between them

@@ -6,13 +6,13 @@ pub mod Acting
 pub mod Steps
 pub mod Performances
 pub mod Frames
+pub mod Proper
 pub mod Sound
 pub mod Need
 pub mod Labels
 pub mod Trees
 pub mod Numbering
 pub mod Meaning
-pub mod Proper
 pub mod Nodes
 pub mod Forms
 pub mod ByKind

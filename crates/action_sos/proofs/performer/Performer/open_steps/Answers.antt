@@ -1,4 +1,5 @@
 use Rattle.std.proofs.Common.{◌≡◌, ◌<◌, ◌^◌, ◌∙◌, ◌↔◌, All, length, sym, subst, ap, arith}
+use Rattle.action_terms.proofs.SoundStates.{sound-tree}
 use Rattle.action_sos.specs.Parts.{open_count}
 use Rattle.action_sos.specs.Views.{parts_of}
 use Rattle.action_sos.specs.Kept.{weight}
@@ -15,7 +16,7 @@ pub count_of_parts-requires-clause-sound : goal.count_of_parts-requires-clause-s
 count_of_parts-requires-clause-sound c =
     let g = action_in c.self.inside.graph in
     subst (λ l. All (IsSoundPart g) (parts_of l)) (sym c.deref.ensures.value)
-    (sound-parts g (parts_of c.self.inside.parts.items) c.self.invariant.tree.one c.self.invariant.sound.tree)
+    (sound-parts g (parts_of c.self.inside.parts.items) c.self.invariant.tree.one (sound-tree g _ c.self.invariant.proper c.self.invariant.sound))
 
 pub count_of_parts-requires-clause-small : goal.count_of_parts-requires-clause-small
 count_of_parts-requires-clause-small c = subst (λ l. weight (parts_of l) < 2 ^ 64) (sym c.deref.ensures.value) (omega (arith, c.self.invariant.bounded, c.self.invariant.small))

@@ -1,6 +1,7 @@
 use Rattle.std.proofs.Common.{◌≡◌, ◌<◌, ◌≤◌, ◌+◌, ◌++◌, ◌∙◌, suc, All, get_or, length, take, drop, sym, subst, ap, arith}
 use Rattle.std.proofs.lemmas.List.{get_or-map, length-map}
 use Rattle.action_terms.specs.Steps.{commits}
+use Rattle.action_terms.proofs.SoundStates.{sound-tree}
 use Rattle.action_sos.specs.Parts.{tree_of, closed_before, part_steps, open_count}
 use Rattle.action_sos.specs.Views.{part_of, parts_of}
 use Rattle.action_sos.specs.Kept.{weight}
@@ -18,7 +19,7 @@ pub find_step-place-requires-clause-sound : goal.find_step-place-requires-clause
 find_step-place-requires-clause-sound c =
     let g = action_in c.self.inside.graph in
     subst (λ l. All (IsSoundPart g) (parts_of l)) (sym c.deref.ensures.value)
-    (sound-parts g (parts_of c.self.inside.parts.items) c.self.invariant.tree.one c.self.invariant.sound.tree)
+    (sound-parts g (parts_of c.self.inside.parts.items) c.self.invariant.tree.one (sound-tree g _ c.self.invariant.proper c.self.invariant.sound))
 
 pub find_step-place-requires-clause-open : goal.find_step-place-requires-clause-open
 find_step-place-requires-clause-open c w =
@@ -35,7 +36,7 @@ plan_of_part-requires-clause-sound c =
     let d = c.index.result.now in
     let within : place < length items = subst (λ l. place < length l) c.deref.ensures.value c.find_step-place.ensures.place in
     let indexed : get_or items place d ≡ d = let h = c.index.ensures in let v = c.deref.ensures.value in cc in
-    let all = sound-parts g (parts_of items) c.self.invariant.tree.one c.self.invariant.sound.tree in
+    let all = sound-parts g (parts_of items) c.self.invariant.tree.one (sound-tree g _ c.self.invariant.proper c.self.invariant.sound) in
     subst (IsSoundPart g) (get_or-map part_of items place d (part_of d) within ∙ ap part_of indexed) (all place (part_of d) (rw (length-map items part_of) within))
 
 -- the step that is taken, and what the performer is then
