@@ -2,6 +2,7 @@ pub mod Information
 pub mod Bindings
 pub mod Actions
 pub mod Yielding
+pub mod Suited
 pub mod Acting
 pub mod Steps
 pub mod Performances

@@ -9,7 +9,6 @@ pub mod Demands
 pub mod Admissible
 pub mod Fitting
 pub mod Shapes
-pub mod Suited
 pub mod Operands
 pub mod Soundness
 pub mod Procedures

@@ -13,7 +13,7 @@ use Rattle.sort_rules.specs.Parts.{Part, union}
 use Rattle.sort_rules.specs.Tables.{MarkedTable}
 use Rattle.sort_rules.specs.Fitting.{BindsFit, CellsFit, Enters, StateFits, TreeFits, ends_of, sorted}
 use Rattle.sort_rules.specs.Shapes.{EntersInShape, CompletesInShape, EscapesInShape}
-use Rattle.sort_rules.specs.Suited.{IsSuitedNode}
+use Rattle.action_terms.specs.Suited.{IsSuitedNode}
 use Rattle.sort_rules.specs.Operands.{Blocks, node_yielders}
 
 -- node k is to be performed with data d and bindings b: they have the length and the domain of its row, its yielders look up and combine data of the sorts that they want, and what yields nothing does so by an unset cell or an operation without a result
