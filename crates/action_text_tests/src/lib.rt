@@ -5,5 +5,3 @@
 mod printing;
 #[cfg(test)]
 mod reading;
-#[cfg(test)]
-mod templates;
