@@ -1,5 +1,5 @@
 -- The items of the operands of a listed node.
-use Rattle.std.proofs.Common.{◌≡◌, ℕ, zero, suc, ◌-◌, ◌<◌, List, [], ◌∷◌, length, map, refl, sym, ap, ◌∙◌, arith}
+use Rattle.std.proofs.Common.{◌≡◌, ℕ, zero, suc, ◌-◌, ◌<◌, List, [], ◌∷◌, length, map, refl, sym, ap, arith}
 use Rattle.std.specs.Prelude.{Some, slice_get, slice_index}
 use Rattle.action_terms.specs.Information.{Token}
 use Rattle.action_terms.specs.Actions.{Yielder, ClosureOf, Item, Single}

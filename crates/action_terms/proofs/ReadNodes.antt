@@ -1,10 +1,10 @@
 -- What code that reads a node of a graph by its kind finds: the lists have it, and it tells what the node is.
-use Rattle.std.proofs.Common.{◌≡◌, ℕ, zero, suc, ◌<◌, List, [], ◌∷◌, length, get_or, map, refl, sym, ap, ap₂, ◌∙◌, arith}
-use Rattle.std.specs.Prelude.{◌≢◌, Some, All, slice_get, slice_index}
+use Rattle.std.proofs.Common.{◌≡◌, ℕ, ◌<◌, List, [], ◌∷◌, length, get_or, refl, sym, ap, ap₂, ◌∙◌, arith}
+use Rattle.std.specs.Prelude.{Some, slice_get, slice_index}
 use Rattle.std.proofs.lemmas.Option.{slice_get-get_or}
-use Rattle.action_terms.specs.Actions.{Yielder, Item, Single, ClosureOf, Join, Chain, And, Moreover, AndThen, Then, Hence, Before, Node, Simple, Give, EscapeWith, Check, Bind, BindRec, Store, Send, Enact, Apply, Furthermore, Both, Phases, Either, Trapping, Branch}
+use Rattle.action_terms.specs.Actions.{Yielder, Item, Single, ClosureOf, And, Moreover, AndThen, Then, Hence, Before, Node, Simple, Give, EscapeWith, Check, Bind, BindRec, Store, Send, Enact, Apply, Furthermore, Both, Phases, Either, Trapping, Branch}
 use Rattle.action_terms.specs.Numbering.{ListedNode, ListedYielder}
-use Rattle.action_terms.specs.Meaning.{items_from, picked, node_of}
+use Rattle.action_terms.specs.Meaning.{items_from, node_of}
 use Rattle.action_terms.specs.Forms.{item_at, items_at, yielder_at, IsDatum, AreItems}
 use Rattle.action_terms.specs.ByKind.{or_no_numbers, operand_at, number_at, part_at, HasOne, HasRead, node_read, OperandsRead}
 use Rattle.action_terms.specs.declared.kinds.Kind.{Kind}

@@ -2,11 +2,11 @@
 use Rattle.std.proofs.Common.{◌≡◌, ℕ, zero, suc, ◌-◌, ◌<◌, max, List, [], ◌∷◌, length, map, refl, sym, ap, ap₂, subst, ◌∙◌, arith}
 use Rattle.std.specs.Prelude.{Option, Some, IfSome, slice_get, slice_index}
 use Rattle.std.proofs.lemmas.Option.{slice_get-get_or, slice_get_within, get_or_from_slice_get}
-use Rattle.action_terms.specs.Labels.{AnAction, Wanted, AYielder, under_yielder}
-use Rattle.action_terms.specs.Numbering.{ListedYielder, Listed, yielder_count, yielders_of, IsGraph}
-use Rattle.action_terms.specs.Actions.{Two, Sum, Difference, Product, Quotient, Remainder, Is, Less, BothOf, EitherOf, Negation, Not, Yielder, StoredIn, OnTwo, OnOne, Item, Single}
+use Rattle.action_terms.specs.Labels.{AnAction, AYielder, under_yielder}
+use Rattle.action_terms.specs.Numbering.{ListedYielder, Listed, yielders_of, IsGraph}
+use Rattle.action_terms.specs.Actions.{Yielder, Item, Single}
 use Rattle.action_terms.specs.Meaning.{item_of, item_or_them, picked, items_from}
-use Rattle.action_terms.specs.Forms.{item_at, yielder_in, yielder_at, IsDatum, IsArgument}
+use Rattle.action_terms.specs.Forms.{item_at, yielder_in, yielder_at, IsArgument}
 use Rattle.action_terms.specs.ByKind.{argument_at, HasArgumentsRead, item_read, ArgumentsRead, IsYielderRead}
 use Rattle.action_terms.specs.declared.kinds.YKind.{YKind}
 use Rattle.action_terms.specs.declared.kinds.YKind.TheVariants as ykind

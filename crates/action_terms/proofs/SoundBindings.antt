@@ -1,5 +1,5 @@
 -- Bindings that are made of sound ones are sound, with their tokens in order.
-use Rattle.std.proofs.Common.{◌≡◌, ℕ, Bool, true, false}
+use Rattle.std.proofs.Common.{ℕ, Bool, true, false}
 use Rattle.std.specs.Prelude.{Option, Some, None, IfSome, if◌then◌else◌}
 use Rattle.action_terms.specs.Information.{Token, Datum, Closure, Binds, NoBinds, Bound}
 use Rattle.action_terms.specs.Bindings.{token_lt, bind, overlaid, lookup}

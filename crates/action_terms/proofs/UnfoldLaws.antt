@@ -3,7 +3,7 @@ use Rattle.std.proofs.Common.{◌≡◌, ℕ, suc, ◌+◌, List, [], ◌∷◌,
 use Rattle.std.specs.Prelude.{Option, Some, None, IfSome, slice_get}
 use Rattle.action_terms.specs.Labels.{ActionNode, YielderNode, operand_lengths}
 use Rattle.action_terms.specs.Trees.{Tree, tree, Trees, none, more}
-use Rattle.action_terms.specs.Numbering.{ListedNode, pieces, children_of, body_of, around_parts, around_arguments, action_count, action_counts, yielder_count, action_roots, yielder_roots, nodes_of, nodes_of_all, stray, strays_of, strays_of_all}
+use Rattle.action_terms.specs.Numbering.{ListedNode, pieces, children_of, body_of, around_parts, around_arguments, action_count, yielder_count, action_roots, yielder_roots, nodes_of, nodes_of_all, stray, strays_of, strays_of_all}
 use Rattle.action_terms.specs.declared.kinds.Kind.{Kind}
 use Rattle.action_terms.specs.declared.kinds.Kind.TheVariants as kind
 use Rattle.action_terms.specs.declared.kinds.YKind.{YKind}

@@ -1,5 +1,5 @@
 -- What is sound stays so where more bodies and more cells are known.
-use Rattle.std.proofs.Common.{ℕ, List, All}
+use Rattle.std.proofs.Common.{ℕ}
 use Rattle.std.specs.Prelude.{Option, Some, None, IfSome}
 use Rattle.std.proofs.lemmas.List.Elements.{All-weaker}
 use Rattle.action_terms.specs.Information.{Datum, Number, Truth, CellOf, Closure, Binds, NoBinds, Bound, Data, Storage}
