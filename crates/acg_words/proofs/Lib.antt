@@ -1,0 +1,4 @@
+pub mod WordsLemmas
+pub mod Tables
+pub mod PrintsLemmas
+pub mod Flat

@@ -1,0 +1,8 @@
+use Rattle.std.proofs.Common.{take, ℕ, List, Bor}
+use Rattle.std.specs.List.{flat_map}
+use Rattle.acg_words.specs.Usage.{command_lines, status_line}
+use Rattle.acg_words.specs.Prints.{Took}
+use Rattle.acg_words.proofs.usage.print_commands.Given as goal
+
+abbrev pub invariant-loop-kind : goal.invariant-loop-kind
+invariant-loop-kind g l = Took g.K.Sink (flat_map command_lines (take l.kind-index l.kinds)) l.fn.out l.out

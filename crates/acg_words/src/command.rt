@@ -1,0 +1,32 @@
+//! What command lines ask for.
+
+/// A command with its operands.
+#[derive(Clone, Copy, Debug, PartialEq, Eq)]
+pub enum Command<'a> {
+    /// To run the image of an action.
+    Act(Act<'a>),
+    /// To perform an action.
+    Perform(Perform<'a>),
+    /// To print how the program is used.
+    Help,
+    /// To print which version it is.
+    Version,
+}
+
+/// The operands of `act`.
+#[derive(Clone, Copy, Debug, PartialEq, Eq)]
+pub struct Act<'a> {
+    /// The file with the action.
+    pub action: &'a str,
+}
+
+/// The operands of `perform`.
+#[derive(Clone, Copy, Debug, PartialEq, Eq)]
+pub struct Perform<'a> {
+    /// The number that chooses the performance, below 2^63.
+    pub number: u64,
+    /// The file with the action.
+    pub action: &'a str,
+    /// The file with the input; where there is none, the input is empty.
+    pub input: Option<&'a str>,
+}

@@ -1,0 +1,130 @@
+//! The lines that end an answer.
+
+ghost use Rattle.std.specs.Prelude.{◌≡◌};
+ghost use Rattle.acg_words.specs.Lines.{bytes_of, status_of};
+ghost use Rattle.acg_words.specs.Prints.{Printed, Answered};
+
+use crate::prints::{print, print_numbered, print_read_fault};
+use acg_base::{LIMIT_ACTION, LIMIT_INPUT, LIMIT_NODES, Memory, Name, Sink, SinkError, Status};
+
+/// The line that ends an answer: why a request was refused, or how a run or a performance ended. Each goes with one
+/// status. Offsets are in bytes, nodes are numbers of action nodes, both from 0.
+#[derive(Debug, Drop)]
+pub enum Line {
+    /// The words are no command line.
+    Words,
+    /// A read of the store failed.
+    ReadFault {
+        /// The name that was read.
+        name: Name,
+    },
+    /// The file of the action has more bytes than `LIMIT_ACTION`.
+    LimitAction,
+    /// The file of the input has more bytes than `LIMIT_INPUT`.
+    LimitInput,
+    /// The action has more nodes and yielders than `LIMIT_NODES`.
+    LimitNodes,
+    /// After tokens and blanks, no token begins there.
+    ActionByte {
+        /// Where it is.
+        offset: u32,
+    },
+    /// The token there is the first with which the text begins no action, or the text ends there too early.
+    ActionText {
+        /// Where it is.
+        offset: u32,
+    },
+    /// An `unfold` has no `unfolding` around it.
+    StrayUnfold {
+        /// The least such node.
+        node: u32,
+    },
+    /// A node has no code yet.
+    Unbuilt {
+        /// The least such node.
+        node: u32,
+    },
+    /// Memory ran out.
+    Memory,
+    /// The run or the performance has completed.
+    Completed,
+    /// It has failed.
+    Failed,
+    /// It has escaped.
+    Escaped,
+    /// The run needed more words or units than there are.
+    Full,
+    /// It has taken as many instructions or steps as it may without an end.
+    Running,
+}
+
+impl From<Memory> for Line {
+    ghost use Rattle.std.specs.Prelude.{◌≡◌};
+    ghost use Rattle.acg_words.specs.declared.line.Line.TheVariants.{Memory as OutOfMemory};
+
+    ghost from_gives = { λ _ line. line ≡ OutOfMemory };
+
+    fn from(_error: Memory) -> Line {
+        Line::Memory
+    }
+}
+
+impl Line {
+    ghost use Rattle.std.specs.Prelude.{◌≡◌};
+    ghost use Rattle.acg_words.specs.Lines.{bytes_of, status_of};
+    ghost use Rattle.acg_words.specs.Prints.{Printed, Answered};
+
+    /// The status that goes with the line.
+    pub fn status(&self) -> Status
+        ensures { result ≡ status_of self.now }
+    {
+        match self {
+            Line::Words => Status::Words,
+            Line::ReadFault { .. } => Status::ReadFault,
+            Line::LimitAction | Line::LimitInput | Line::LimitNodes => Status::Limit,
+            Line::ActionByte { .. }
+            | Line::ActionText { .. }
+            | Line::StrayUnfold { .. }
+            | Line::Unbuilt { .. } => Status::Action,
+            Line::Memory => Status::Memory,
+            Line::Completed => Status::Done,
+            Line::Failed => Status::Failed,
+            Line::Escaped => Status::Escaped,
+            Line::Full => Status::Full,
+            Line::Running => Status::Running,
+        }
+    }
+
+    /// Prints the line. Answers `Failed` where the sink fails: it has a front of the line then.
+    pub fn print<K: Sink>(&self, out: &mut K) -> Result<(), SinkError>
+        ensures { Printed K.Sink (bytes_of self.now) out.old out.new result }
+    {
+        match self {
+            Line::Words => print(out, b"words\n"),
+            Line::ReadFault { name } => print_read_fault(out, name.bytes()),
+            Line::LimitAction => print_numbered(out, b"limit action ", LIMIT_ACTION),
+            Line::LimitInput => print_numbered(out, b"limit input ", LIMIT_INPUT),
+            Line::LimitNodes => print_numbered(out, b"limit nodes ", LIMIT_NODES),
+            Line::ActionByte { offset } => print_numbered(out, b"action byte ", *offset),
+            Line::ActionText { offset } => print_numbered(out, b"action text ", *offset),
+            Line::StrayUnfold { node } => print_numbered(out, b"stray unfold ", *node),
+            Line::Unbuilt { node } => print_numbered(out, b"unbuilt ", *node),
+            Line::Memory => print(out, b"memory\n"),
+            Line::Completed => print(out, b"completed\n"),
+            Line::Failed => print(out, b"failed\n"),
+            Line::Escaped => print(out, b"escaped\n"),
+            Line::Full => print(out, b"full\n"),
+            Line::Running => print(out, b"running\n"),
+        }
+    }
+
+    /// Prints the line, and answers its status, or `WriteFault` where the sink fails.
+    pub fn answer<K: Sink>(&self, out: &mut K) -> Status
+        ensures { Answered K.Sink (bytes_of self.now) (status_of self.now) out.old out.new result }
+    {
+        match self.print(out) {
+            Ok(()) => self.status(),
+            Err(SinkError::Failed) => Status::WriteFault,
+        }
+    }
+}

@@ -1,0 +1,83 @@
+//! Pieces of text that a sink gets, each by one write.
+
+ghost use Rattle.std.specs.Prelude.{◌≤◌, length};
+ghost use Rattle.std.specs.List.{flat_map};
+ghost use Rattle.acg_words.specs.Lines.{numbered_line, header_line, message_line, read_fault_line};
+ghost use Rattle.acg_words.specs.Prints.{Printed};
+
+use crate::buffer::Buffer;
+use acg_base::{Sink, SinkError};
+
+/// Prints the text, by one write.
+pub(crate) fn print<K: Sink>(out: &mut K, text: &[u8]) -> Result<(), SinkError>
+    ensures { Printed K.Sink text.now out.old out.new result }
+{
+    out.write(text)
+}
+
+/// Prints the pieces, each by one write.
+pub(crate) fn print_all<K: Sink>(out: &mut K, pieces: &[&[u8]]) -> Result<(), SinkError>
+    ensures { Printed K.Sink (flat_map (λ piece. piece.now) pieces.now) out.old out.new result }
+{
+    for piece in pieces {
+        print(out, piece)?;
+    }
+    Ok(())
+}
+
+/// Prints a text, a number in decimal and a line feed, by one write.
+pub(crate) fn print_numbered<K: Sink>(
+    out: &mut K,
+    text: &[u8],
+    number: u32,
+) -> Result<(), SinkError>
+    requires { length text.now ≤ 40 }
+    ensures { Printed K.Sink (numbered_line text.now number) out.old out.new result }
+{
+    let mut line = Buffer::new();
+    line.put(text);
+    line.put_unsigned(u64::from(number));
+    line.put(b"\n");
+    print(out, line.as_slice())
+}
+
+/// Prints that a read of the store failed, with the name that was read, of any length, by three writes.
+pub(crate) fn print_read_fault<K: Sink>(out: &mut K, name: &[u8]) -> Result<(), SinkError>
+    ensures { Printed K.Sink (read_fault_line name.now) out.old out.new result }
+{
+    print_all(out, &[b"read fault ".as_slice(), name, b"\n".as_slice()])
+}
+
+/// Prints the header of a run: the words of the stack, the units, and the factor.
+///
+/// Answers `Failed` where the sink fails: it has a front of the line then.
+pub fn print_header<K: Sink>(
+    out: &mut K,
+    stack: u64,
+    units: u64,
+    factor: u64,
+) -> Result<(), SinkError>
+    ensures { Printed K.Sink (header_line stack units factor) out.old out.new result }
+{
+    let mut line = Buffer::new();
+    line.put(b"stack ");
+    line.put_unsigned(stack);
+    line.put(b" units ");
+    line.put_unsigned(units);
+    line.put(b" factor ");
+    line.put_unsigned(factor);
+    line.put(b"\n");
+    print(out, line.as_slice())
+}
+
+/// Prints a message: an integer in decimal and a line feed.
+///
+/// Answers `Failed` where the sink fails: it has a front of the line then.
+pub fn print_message<K: Sink>(out: &mut K, value: i64) -> Result<(), SinkError>
+    ensures { Printed K.Sink (message_line value) out.old out.new result }
+{
+    let mut line = Buffer::new();
+    line.put_signed(value);
+    line.put(b"\n");
+    print(out, line.as_slice())
+}
