@@ -18,10 +18,10 @@ pub record Extends (s t : State) : Type 0 where
   pub rest : List ℕ
   pub grows : t.output ≡ s.output ++ rest
 
--- an outcome's output begins with that of the state before
+-- an outcome's output begins with that of the state before, and an exit's is that one
 abbrev pub Grows : State → Outcome → Type 0
 Grows s (Ran t) = Extends s t
-Grows s (Exited code output) = Unit {0}
+Grows s (Exited code output) = output ≡ s.output
 Grows s (Trapped cause) = Unit {0}
 
 same : (s t : State) → t.output ≡ s.output → Extends s t
@@ -89,7 +89,7 @@ execute-grows Ecall s =
     let x11 = register s.registers 11 in
     let x12 = register s.registers 12 in
     calls-grow (nat_eq x17 93) (nat_eq x17 63 && nat_eq x10 0) (nat_eq x17 64 && nat_eq x10 1) s (Exited (x10 % 256) s.output)
-    (receive_call s x11 x12) (send_call s x11 x12) CauseCall (tt {0}) (receives-grow (nat_eq x12 0) s x11 x12 (holder s.segments 2 x11 x12))
+    (receive_call s x11 x12) (send_call s x11 x12) CauseCall refl (receives-grow (nat_eq x12 0) s x11 x12 (holder s.segments 2 x11 x12))
     (sends-grow (nat_eq x12 0) s x12 (read_bytes s.segments 4 x11 x12))
 execute-grows Ebreak s = tt
 
