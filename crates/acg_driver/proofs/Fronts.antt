@@ -8,7 +8,7 @@ pub short-front : (limit : ℕ) (bytes : List ℕ) → length (front limit bytes
 unfolding front
 short-front limit bytes short = take_all (limit + 1) bytes (omega (arith, length-take (limit + 1) bytes))
 
--- a front past the limit is one of bytes past it
-pub long-front : (limit : ℕ) (bytes : List ℕ) → limit < length (front limit bytes) → limit < length bytes
+-- of bytes within the limit, the front is all
+pub whole-front : (limit : ℕ) (bytes : List ℕ) → length bytes ≤ limit → front limit bytes ≡ bytes
 unfolding front
-long-front limit bytes long = omega (arith, length-take (limit + 1) bytes)
+whole-front limit bytes within = take_all (limit + 1) bytes (omega arith)

@@ -6,8 +6,9 @@ use Rattle.std.proofs.lemmas.Int.{to_z-of_z}
 use Rattle.std.proofs.lemmas.List.{take_all}
 use mir.Val.{of_z, to_z}
 use Rattle.action_terms.specs.Performances.{records}
-use Rattle.acg_driver.specs.Lines.{message_line, message_lines, output_lines}
-use Rattle.acg_driver.specs.Outboxes.{IsWhole}
+use Rattle.acg_words.specs.Lines.{message_line, message_lines}
+use Rattle.acg_driver.specs.Runs.{output_lines}
+use Rattle.acg_driver.specs.Sending.{IsWhole}
 
 pub records-append : (count : ℕ) (xs ys : List ℕ) → length xs ≡ 8 * count → records (xs ++ ys) ≡ records xs ++ records ys
 records-append zero [] ys h = refl
@@ -54,7 +55,3 @@ records-first (b0 ∷ (b1 ∷ (b2 ∷ (b3 ∷ [])))) m h small e = absurd (omega
 records-first (b0 ∷ (b1 ∷ (b2 ∷ (b3 ∷ (b4 ∷ []))))) m h small e = absurd (omega (arith, h))
 records-first (b0 ∷ (b1 ∷ (b2 ∷ (b3 ∷ (b4 ∷ (b5 ∷ [])))))) m h small e = absurd (omega (arith, h))
 records-first (b0 ∷ (b1 ∷ (b2 ∷ (b3 ∷ (b4 ∷ (b5 ∷ (b6 ∷ []))))))) m h small e = absurd (omega (arith, h))
-
--- two pieces are written one behind the other
-pub both-written : (first second third piece more : List ℕ) → second ≡ first ++ piece → third ≡ second ++ more → third ≡ first ++ (piece ++ more)
-both-written first second third piece more e f = rw (f, e) (sym (regroup first piece more))

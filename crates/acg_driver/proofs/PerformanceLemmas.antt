@@ -1,6 +1,8 @@
 -- Performances that a number chooses: how far they come in so many steps, and what they have sent.
-use Rattle.std.proofs.Common.{◌≡◌, ℕ, ◌+◌, ◌<◌, ◌≤◌, ℤ, List, [], ◌∷◌, ◌++◌, length, drop, Some, slice_get, refl, sym, ap, ◌∙◌, subst, arith, append-nil}
+use Rattle.std.proofs.Common.{◌≡◌, ◌≢◌, ℕ, ◌+◌, ◌<◌, ◌≤◌, ℤ, List, [], ◌∷◌, ◌++◌, length, drop, Some, slice_get, refl, sym, ap, ◌∙◌, subst, arith, append-nil, inl, inr}
+use Rattle.std.proofs.lemmas.Bool.{cases_lt}
 use Rattle.std.proofs.lemmas.List.{length-append, drop_at}
+use Rattle.acg_base.specs.declared.status.Status.{Status}
 use Rattle.acg_base.specs.declared.status.Status.TheVariants as status
 use Rattle.action_terms.specs.Information.{World}
 use Rattle.action_terms.specs.Acting.{End, Done, Esc, Fail, Tree, Run, Ended, Called, Par, First, Second, Or, Cut, Trap, Over}
@@ -10,11 +12,14 @@ use Rattle.action_terms.specs.Numbering.{Listed}
 use Rattle.action_terms.specs.Meaning.{action_of}
 use Rattle.action_sos.specs.Performers.{Performing, steps_of, outcome_of, moved_to, IsEnd, Takes as TakesStep}
 use Rattle.action_sos.specs.Schedules.{IsScheduled, IsChosen, number_at, chosen}
+use Rattle.action_sos.specs.declared.answers.Moved.{Moved}
 use Rattle.action_sos.specs.declared.answers.Moved.TheVariants as moved
 use Rattle.action_sos.specs.declared.answers.Outcome.{Outcome}
 use Rattle.action_sos.specs.declared.answers.Outcome.TheVariants as outcome
-use Rattle.acg_driver.specs.Lines.{message_lines, completed_line, failed_line, escaped_line, running_line, memory_line}
-use Rattle.acg_driver.specs.Performed.{step_limit, end_line, end_status, IsPerformed}
+use Rattle.acg_words.specs.Lines.{message_lines, bytes_of, status_of}
+use Rattle.acg_words.specs.declared.line.Line.{Line}
+use Rattle.acg_words.specs.declared.line.Line.TheVariants.{ReadFault, Memory, Completed, Failed, Escaped, Running}
+use Rattle.acg_driver.specs.Commands.Perform.{step_limit, end_line, IsGoing, IsOutcome, IsPerformed}
 use Rattle.acg_driver.proofs.MessageLemmas.{message_lines-append}
 
 -- ---- ends
@@ -36,21 +41,40 @@ moved-ended (Over x b) o e = absurd (cc)
 pub moved-on : (t : Tree) → moved.Went ≡ moved_to t → IsEnd t → ⊥
 moved-on t e (z, ended) = let w : moved.Went ≡ moved_to (Ended z) = e ∙ ap moved_to ended in cc
 
--- the line and the status of an outcome are those of each end with that outcome
-pub completed-end : (z : End) → outcome.Completed ≡ outcome_of z → (end_line z ≡ completed_line) × (end_status z ≡ status.Done)
-completed-end (Done d b) e = (refl, refl)
+-- the line of an outcome is that of each end with that outcome
+pub completed-end : (z : End) → outcome.Completed ≡ outcome_of z → Completed ≡ end_line z
+completed-end (Done d b) e = refl
 completed-end (Esc d) e = absurd (cc)
 completed-end Fail e = absurd (cc)
 
-pub escaped-end : (z : End) → outcome.Escaped ≡ outcome_of z → (end_line z ≡ escaped_line) × (end_status z ≡ status.Escaped)
+pub escaped-end : (z : End) → outcome.Escaped ≡ outcome_of z → Escaped ≡ end_line z
 escaped-end (Done d b) e = absurd (cc)
-escaped-end (Esc d) e = (refl, refl)
+escaped-end (Esc d) e = refl
 escaped-end Fail e = absurd (cc)
 
-pub failed-end : (z : End) → outcome.Failed ≡ outcome_of z → (end_line z ≡ failed_line) × (end_status z ≡ status.Failed)
+pub failed-end : (z : End) → outcome.Failed ≡ outcome_of z → Failed ≡ end_line z
 failed-end (Done d b) e = absurd (cc)
 failed-end (Esc d) e = absurd (cc)
-failed-end Fail e = (refl, refl)
+failed-end Fail e = refl
+
+end-outcome : (count : ℕ) (tree : Tree) (z : End) → count ≤ step_limit → tree ≡ Ended z → IsOutcome count tree (end_line z)
+end-outcome count tree (Done d b) within ended = (Done d b, within, ended, refl)
+end-outcome count tree (Esc d) within ended = (Esc d, within, ended, refl)
+end-outcome count tree Fail within ended = (Fail, within, ended, refl)
+
+end-other : (z : End) → status_of (end_line z) ≢ status.ReadFault
+end-other (Done d b) = λ e. cc
+end-other (Esc d) = λ e. cc
+end-other Fail = λ e. cc
+
+outcome-other : (count : ℕ) (tree : Tree) (line : Line) → IsOutcome count tree line → status_of line ≢ status.ReadFault
+outcome-other count tree Running h = λ e. cc
+outcome-other count tree Memory h = λ e. cc
+outcome-other count tree _ (z, within, ended, is) = λ e. end-other z (sym (ap status_of is) ∙ e)
+
+-- no performance says that a file can't be read
+pub performed-other : (n : ℕ) (g : Listed) (input : List ℤ) (text : List ℕ) (s : Status) → IsPerformed n g input text s → s ≢ status.ReadFault
+performed-other n g input text s (steps, state, line, scheduled, outcome, says) = λ e. outcome-other (length steps) state.tree line outcome (sym says.1 ∙ e)
 
 -- ---- steps
 
@@ -62,8 +86,8 @@ chosen-within x count some = omega arith
 pub start-going : (s : State) (input : List ℤ) → s ≡ start input → IsEnd s.tree → ⊥
 start-going s input e (z, ended) = let both = sym (ap (λ (t : State). t.tree) e) ∙ ended in cc
 
-pub start-silent : (written : List ℕ) (s : State) (input : List ℤ) → s ≡ start input → written ≡ written ++ message_lines s.world.output
-start-silent written s input e = sym (ap (λ (t : State). written ++ message_lines t.world.output) e ∙ append-nil written)
+pub start-silent : (s : State) (input : List ℤ) → s ≡ start input → message_lines s.world.output ≡ []
+start-silent s input e = ap (λ (t : State). message_lines t.world.output) e
 
 -- so many steps that the number chooses lead from the start over the input to the state
 pub record IsReached (n : ℕ) (g : Listed) (input : List ℤ) (count : ℕ) (s : State) : Type 0 where
@@ -137,19 +161,39 @@ lines-step choice before old new size takes =
     let behind : drop before new.state.world.output ≡ more = ap (drop before) grown ∙ drop_at out more before (sym size) in
     ap message_lines grown ∙ message_lines-append out more ∙ ap (λ ms. message_lines out ++ message_lines ms) (sym behind)
 
--- ---- answers
+-- ---- what is said
 
--- the steps lead to an end within the limit
+-- behind the messages so far a line is said that is right for how far they lead
+pub reached-performed : (n : ℕ) (g : Listed) (input : List ℤ) (count : ℕ) (s : State) (line : Line) → IsReached n g input count s → IsOutcome count s.tree line
+    → IsPerformed n g input (message_lines s.world.output ++ bytes_of line) (status_of line)
+reached-performed n g input count s line reached outcome =
+    (reached.steps, s, line, reached.scheduled, subst (λ c. IsOutcome c s.tree line) (sym reached.counted) outcome, (refl, refl))
+
 pub ended-performed : (n : ℕ) (g : Listed) (input : List ℤ) (count : ℕ) (s : State) (z : End) → IsReached n g input count s → count ≤ step_limit → s.tree ≡ Ended z
-    → IsPerformed n g input (message_lines s.world.output ++ end_line z) (end_status z)
-ended-performed n g input count s (Done d b) reached within ended = (reached.steps, s, Done d b, reached.scheduled, omega (arith, reached.counted), ended, refl, refl)
-ended-performed n g input count s (Esc d) reached within ended = (reached.steps, s, Esc d, reached.scheduled, omega (arith, reached.counted), ended, refl, refl)
-ended-performed n g input count s Fail reached within ended = (reached.steps, s, Fail, reached.scheduled, omega (arith, reached.counted), ended, refl, refl)
+    → IsPerformed n g input (message_lines s.world.output ++ bytes_of (end_line z)) (status_of (end_line z))
+ended-performed n g input count s z reached within ended = reached-performed n g input count s (end_line z) reached (end-outcome count s.tree z within ended)
+
+going : (t : Tree) → (IsEnd t → ⊥) → IsGoing t
+going t none = λ z ended. none (z, ended)
 
 pub running-performed : (n : ℕ) (g : Listed) (input : List ℤ) (count : ℕ) (s : State) → IsReached n g input count s → count ≡ step_limit → (IsEnd s.tree → ⊥)
-    → IsPerformed n g input (message_lines s.world.output ++ running_line) status.Running
-running-performed n g input count s reached all going = (reached.steps, s, reached.scheduled, reached.counted ∙ all, λ z ended. going (z, ended), refl)
+    → IsPerformed n g input (message_lines s.world.output ++ bytes_of Running) (status_of Running)
+running-performed n g input count s reached all none = reached-performed n g input count s Running reached (all, going s.tree none)
 
 pub broken-performed : (n : ℕ) (g : Listed) (input : List ℤ) (count : ℕ) (s : State) → IsReached n g input count s → count < step_limit
-    → IsPerformed n g input (message_lines s.world.output ++ memory_line) status.Memory
-broken-performed n g input count s reached within = (reached.steps, s, reached.scheduled, omega (arith, reached.counted, within), refl)
+    → IsPerformed n g input (message_lines s.world.output ++ bytes_of Memory) (status_of Memory)
+broken-performed n g input count s reached within = reached-performed n g input count s Memory reached within
+
+-- a line that may be said behind the messages of a step, whatever becomes of the next ones
+pub record Goes (n : ℕ) (g : Listed) (input : List ℤ) (s : State) : Type 0 where
+  pub line : Line
+  pub right : IsPerformed n g input (message_lines s.world.output ++ bytes_of line) (status_of line)
+
+pub step-goes : (n : ℕ) (g : Listed) (input : List ℤ) (count : ℕ) (s : State) (m : Moved) → IsReached n g input count s → count ≤ step_limit → m ≡ moved_to s.tree → Goes n g input s
+step-goes n g input count s (moved.Ended o) reached within is =
+    let ended = moved-ended s.tree o is in
+    record { line = end_line ended.0; right = ended-performed n g input count s ended.0 reached within ended.1 }
+step-goes n g input count s moved.Went reached within is = elim (cases_lt count step_limit) [
+  | inl below ↦ record { line = Memory; right = broken-performed n g input count s reached below }
+  | inr above ↦ record { line = Running; right = running-performed n g input count s reached (omega arith) (moved-on s.tree is) }
+]

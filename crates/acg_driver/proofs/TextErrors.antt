@@ -3,8 +3,6 @@ use Rattle.std.proofs.Common.{◌≡◌, inl, inr, ℕ, ◌+◌, ◌≤◌, List
 use Rattle.std.proofs.lemmas.List.{take-append-drop}
 use Rattle.std.proofs.lemmas.Bool.{cases_lt}
 use Rattle.acg_base.specs.Outside.{front}
-use Rattle.acg_base.specs.declared.status.Status.{Status}
-use Rattle.acg_base.specs.declared.status.Status.TheVariants as status
 use Rattle.meta_lex.proofs.OneReading.{one_token_list, tokens_or_bad_byte}
 use Rattle.action_terms.specs.Trees.{Tree, preorder}
 use Rattle.action_terms.specs.Numbering.{Listed, strays, node_limit}
@@ -14,11 +12,11 @@ use Rattle.action_text.specs.Answers.{IsTextOf, IsBadText, IsReadAs, IsTextError
 use Rattle.action_text.specs.declared.errors.TextError.{TextError}
 use Rattle.action_text.specs.declared.errors.TextError.TheVariants as error
 use Rattle.action_text.proofs.ActionTemplates.{one_action}
-use Rattle.acg_driver.specs.declared.text.Refusal.{Refusal}
-use Rattle.acg_driver.specs.declared.text.Refusal.TheVariants as refusal
-use Rattle.acg_driver.specs.Answers.{action_limit, Errs, Reads, IsTextRefusal}
-use Rattle.acg_driver.specs.Prints.{Refuses, refusal_status}
-use Rattle.acg_driver.proofs.Fronts.{short-front, long-front}
+use Rattle.acg_base.specs.declared.limits.TheConstants.{LIMIT_ACTION}
+use Rattle.acg_words.specs.declared.line.Line.{Line}
+use Rattle.acg_words.specs.declared.line.Line.TheVariants.{Memory, LimitAction, LimitNodes, ActionByte, ActionText, StrayUnfold}
+use Rattle.acg_driver.specs.Texts.{Errs, Reads, RefusesText}
+use Rattle.acg_driver.proofs.Fronts.{short-front, whole-front}
 
 -- a text is that of one action
 one_text : (bytes : List ℕ) (t u : Tree) → IsTextOf bytes t → IsTextOf bytes u → t ≡ u
@@ -50,21 +48,30 @@ only_memory bytes g (error.StrayUnfold node) (t, text, graph) (u, other, few, le
     let first : slice_get [] 0 ≡ Some node = sym (ap (λ ns. slice_get ns 0) none) ∙ least in
     absurd (cc)
 
-not_refused : (content : List ℕ) (g : Listed) (e : TextError) → Reads content g → (e ≡ error.Memory → ⊥) → Errs content e → ⊥
-not_refused content g e reads other errs = other (only_memory content g e reads.1 errs.1)
+not_refused : (bytes : List ℕ) (g : Listed) (e : TextError) → Reads bytes g → (e ≡ error.Memory → ⊥) → Errs bytes e → ⊥
+not_refused bytes g e reads other errs = other (only_memory bytes g e reads.1 errs.1)
 
--- a content that reads isn't refused for its text
-pub reads-not_refused : (content printed : List ℕ) (g : Listed) (s : Status) → Reads content g → IsTextRefusal content printed s → ⊥
-reads-not_refused content printed g status.Limit reads (inl (long, line)) = omega (arith, reads.0, long)
-reads-not_refused content printed g status.Limit reads (inr (errs, line)) = not_refused content g error.Nodes reads (λ e. cc) errs
-reads-not_refused content printed g status.Action reads (inl (offset, errs, line)) = not_refused content g (error.BadByte offset) reads (λ e. cc) errs
-reads-not_refused content printed g status.Action reads (inr (inl (offset, errs, line))) = not_refused content g (error.NotAction offset) reads (λ e. cc) errs
-reads-not_refused content printed g status.Action reads (inr (inr (node, errs, line))) = not_refused content g (error.StrayUnfold node) reads (λ e. cc) errs
-reads-not_refused content printed g _ reads refused = absurd refused
+-- bytes that read are refused for want of memory alone
+pub reads-refused : (bytes : List ℕ) (g : Listed) (line : Line) → Reads bytes g → RefusesText bytes line → line ≡ Memory
+reads-refused bytes g Memory reads refused = refl
+reads-refused bytes g LimitAction reads long = absurd (omega (arith, reads.0, long))
+reads-refused bytes g LimitNodes reads errs = absurd (not_refused bytes g error.Nodes reads (λ e. cc) errs)
+reads-refused bytes g (ActionByte offset) reads errs = absurd (not_refused bytes g (error.BadByte offset) reads (λ e. cc) errs)
+reads-refused bytes g (ActionText offset) reads errs = absurd (not_refused bytes g (error.NotAction offset) reads (λ e. cc) errs)
+reads-refused bytes g (StrayUnfold node) reads errs = absurd (not_refused bytes g (error.StrayUnfold node) reads (λ e. cc) errs)
+reads-refused bytes g _ reads refused = absurd refused
+
+-- what was read of a content that reads is the content
+pub reads-whole : (content given : List ℕ) (g : Listed) → given ≡ front LIMIT_ACTION content → Reads content g → given ≡ content
+reads-whole content given g is reads = is ∙ whole-front LIMIT_ACTION content reads.0
+
+-- a content reads where what was read of it does
+pub reads-content : (content given : List ℕ) (g : Listed) → given ≡ front LIMIT_ACTION content → Reads given g → Reads content g
+reads-content content given g is reads =
+    let short : length (front LIMIT_ACTION content) ≤ LIMIT_ACTION = subst (λ b. length b ≤ LIMIT_ACTION) is reads.0 in
+    subst (λ b. Reads b g) (is ∙ short-front LIMIT_ACTION content short) reads
 
 -- where a content reads, what was read of it is refused for want of memory alone
-pub reads-refused_memory : (bytes : List ℕ) (g : Listed) (r : Refusal) → Reads bytes g → Refuses (front action_limit bytes) r → refusal_status r ≡ status.Memory
-reads-refused_memory bytes g refusal.Size reads long = absurd (omega (arith, reads.0, long-front action_limit bytes long))
-reads-refused_memory bytes g (refusal.Text e) reads errs =
-    let whole : Errs bytes e = subst (λ b. Errs b e) (short-front action_limit bytes errs.0) errs in
-    ap (λ f. refusal_status (refusal.Text f)) (only_memory bytes g e reads.1 whole.1)
+pub content-refused : (content given : List ℕ) (g : Listed) (line : Line) → given ≡ front LIMIT_ACTION content → Reads content g → RefusesText given line → line ≡ Memory
+content-refused content given g line is reads refused =
+    reads-refused content g line reads (subst (λ b. RefusesText b line) (reads-whole content given g is reads) refused)

@@ -1,8 +1,7 @@
+pub mod Texts
+pub mod Says
+pub mod Runs
+pub mod Sending
+pub mod Files
 pub mod Commands
-pub mod Lines
-pub mod Answers
-pub mod Prints
-pub mod Contents
-pub mod Performed
 pub mod Serving
-pub mod Outboxes

@@ -1,93 +1,71 @@
--- What serving a command line does: to the sink, and to the store.
-use Rattle.std.specs.Prelude.{◌≡◌, ◌≢◌, ◌⊎◌, ℕ, ◌≤◌, Bool, true, IsTrue, List, ◌++◌, length, Option, Some, None, Result, Ok, Err}
-use Rattle.acg_base.specs.Outside.{Contents, SameContents, Grew, Rose}
-use Rattle.acg_base.specs.declared.store.StoreError.{StoreError}
+-- What serving a command line says, and what it does to the store and the sink.
+use Rattle.std.specs.Prelude.{◌≡◌, ◌≢◌, ◌⊎◌, ℕ, ◌≤◌, IsTrue, List, [], ◌∷◌, ◌++◌, length, Option, Some, None}
+use Rattle.acg_base.specs.Outside.{Contents}
+use Rattle.acg_base.specs.declared.limits.TheConstants.{LIMIT_INPUT}
+use Rattle.acg_base.specs.declared.sink.Sink.{Ghosts as Sink}
 use Rattle.acg_base.specs.declared.status.Status.{Status}
 use Rattle.acg_base.specs.declared.status.Status.TheVariants as status
+use Rattle.acg_base.specs.declared.store.Store.{Ghosts as Store}
 use Rattle.action_terms.specs.Numbering.{Listed}
-use Rattle.rv_code.specs.Images.{Image}
-use Rattle.rv_machine.specs.Machines.{MachineValue, loaded_machine}
-use Rattle.rv_codegen.specs.RightImage.{IsRight}
-use Rattle.rv_codegen.specs.Measures.{subject_of, node_count}
-use Rattle.acg_driver.specs.Commands.{Command, Act, Perform, command_of}
-use Rattle.acg_driver.specs.Lines.{words_line, memory_line, read_fault_line}
-use Rattle.acg_driver.specs.Answers.{Reads, IsAnswer, default_stack, default_units}
-use Rattle.acg_driver.specs.Contents.{IsContentAt}
-use Rattle.acg_driver.specs.Prints.{unread_status}
-use Rattle.acg_driver.specs.Performed.{IsInput, input_limit, IsPerformReply}
+use Rattle.acg_words.specs.Commands.{Command, Act, Perform, Help, Version, command_of}
+use Rattle.acg_words.specs.Lines.{read_fault_line}
+use Rattle.acg_words.specs.Prints.{Answered}
+use Rattle.acg_words.specs.Usage.{usage, version_line}
+use Rattle.acg_words.specs.declared.line.Line.{Line}
+use Rattle.acg_words.specs.declared.line.Line.TheVariants.{Words}
+use Rattle.acg_driver.specs.Texts.{Reads}
+use Rattle.acg_driver.specs.Says.{Says, SaysOne}
+use Rattle.acg_driver.specs.Files.{File, files_if, readings_of, ReadOnly, FaultsWhere, Lacks, missing_file}
+use Rattle.acg_driver.specs.Commands.Act.{RefusesAct, RunsAct}
+use Rattle.acg_driver.specs.Commands.Perform.{RefusesPerform, SaysPerform}
 
--- what `act` prints, by its status. Memory may run out before the file is read
-abbrev pub IsActReply : (told : Bool) → Contents → (name printed : List ℕ) → Status → Type 0
-IsActReply told contents name printed status.Memory = printed ≡ memory_line
-IsActReply told contents name printed status.ReadFault = printed ≡ read_fault_line name
-IsActReply told contents name printed result = (content : List ℕ) × IsContentAt told contents name content × IsAnswer content printed result
+-- the line with which a command is refused, from what its files gave
+abbrev pub Refuses : Command → (givens : List (List ℕ)) → Line → Type 0
+Refuses (Act action) givens line = RefusesAct action givens line
+Refuses (Perform n action input) givens line = RefusesPerform action input givens line
+Refuses Help givens line = ⊥
+Refuses Version givens line = ⊥
 
--- what is printed for words, by the status: words that are no command are refused, and a command is answered
-abbrev pub IsCommandReply : Option Command → (told : Bool) → Contents → (printed : List ℕ) → Status → Type 0
-IsCommandReply None told contents printed result = (result ≡ status.Words) × (printed ≡ words_line)
-IsCommandReply (Some (Act name)) told contents printed result = IsActReply told contents name printed result
-IsCommandReply (Some (Perform n name input)) told contents printed result = IsPerformReply told contents n name input printed result
+-- what a command says that isn't refused
+abbrev pub Carries : Command → (givens : List (List ℕ)) → (text : List ℕ) → Status → Type 0
+Carries (Act action) givens text status = RunsAct givens text status
+Carries (Perform n action input) givens text status = SaysPerform n input givens text status
+Carries Help givens text s = (givens ≡ []) × ((text ≡ usage) × (s ≡ status.Done))
+Carries Version givens text s = (givens ≡ []) × ((text ≡ version_line) × (s ≡ status.Done))
 
-abbrev pub IsReply : (words : List (List ℕ)) → (told : Bool) → Contents → (printed : List ℕ) → Status → Type 0
-IsReply words told contents printed result = IsCommandReply (command_of words) told contents printed result
+-- what a command says, from what its files gave: a line that refuses it, or what it is there for
+abbrev pub Replies : Command → (givens : List (List ℕ)) → (text : List ℕ) → Status → Type 0
+Replies command givens text status = SaysOne (Refuses command givens) text status ⊎ Carries command givens text status
 
--- a sink with these members gets what is right for the answered status; or one of its writes failed, and the status says so
-pub record Spoken {K : Type 0} (written : K → List ℕ) (faults : K → ℕ) (tells : K → Bool) (IsSaid : (printed : List ℕ) → Status → Type 0) (old new : K) (result : Status) : Type 0 where
-  pub said : result ≢ status.WriteFault → ((printed : List ℕ) × IsSaid printed result × (IsTrue (tells old) → written new ≡ written old ++ printed))
-  pub failed : result ≡ status.WriteFault → Rose (faults old) (faults new)
-  pub grew : Grew (faults old) (faults new) → result ≡ status.WriteFault
-  pub counts : faults old ≤ faults new
-  pub tells_still : tells new ≡ tells old
+abbrev pub RepliesIf : Option Command → (givens : List (List ℕ)) → (text : List ℕ) → Status → Type 0
+RepliesIf None givens text status = (givens ≡ []) × Says Words text status
+RepliesIf (Some command) givens text status = Replies command givens text status
 
--- a store with these members has the same contents as before; a read that failed is counted, and nothing else is
-pub record Looked {S : Type 0} (contents : S → Contents) (failed_reads failed_writes : S → ℕ) (tells : S → Bool) (old new : S) (result : Status) : Type 0 where
-  pub same : IsTrue (tells old) → SameContents (contents old) (contents new)
-  pub failed : result ≡ status.ReadFault → Rose (failed_reads old) (failed_reads new)
-  pub grew : Grew (failed_reads old) (failed_reads new) → (result ≡ status.ReadFault) ⊎ (result ≡ status.WriteFault)
-  pub counts : failed_reads old ≤ failed_reads new
-  pub writes : failed_writes new ≡ failed_writes old
-  pub tells_still : tells new ≡ tells old
+-- what is said for words, from what the files gave that were read, in their order: words that are no command are refused
+abbrev pub IsReply : (words : List (List ℕ)) → (givens : List (List ℕ)) → (text : List ℕ) → Status → Type 0
+IsReply words givens text status = RepliesIf (command_of words) givens text status
 
--- the status of a read
-abbrev pub read_status : {A : Type 0} → Result A StoreError → Status
-read_status (Ok read) = status.Done
-read_status (Err e) = unread_status e
+-- what a request does. The first of its files are read, once each, and what is said is right for what they gave. The
+-- sink gets that text, and its status is answered. Or the sink gets a front of the text, since its last write failed, and
+-- the answer says so
+pub record Served {S K : Type 0} (store : Store S) (sink : Sink K) (files : List File) (IsSaid : (givens : List (List ℕ)) → (text : List ℕ) → Status → Type 0) (old new : S) (out gained : K) (result : Status) : Type 0 where
+  pub givens : List (List ℕ)
+  pub text : List ℕ
+  pub status : Status
+  pub said : IsSaid givens text status
+  pub read : ReadOnly store (readings_of files givens) status old new
+  pub answered : Answered sink text status out gained result
 
--- the store lacks a file that the command reads: a second one is read where the first spells an action
-abbrev pub Lacks : Contents → Command → Type 0
-Lacks contents (Act name) = contents name ≡ None
-Lacks contents (Perform n name None) = contents name ≡ None
-Lacks contents (Perform n name (Some input)) =
-    (contents name ≡ None) ⊎ (((content : List ℕ) × (g : Listed) × (contents name ≡ Some content) × Reads content g) × (contents input ≡ None))
+-- where a read fault is answered, a sink gets its line with this name
+abbrev pub Names : {K : Type 0} (sink : Sink K) (name : List ℕ) (old new : K) → Status → Type 0
+Names sink name old new result =
+    result ≡ status.ReadFault → IsTrue (sink.tells old) → sink.written new ≡ sink.written old ++ read_fault_line name
 
--- the file of an input isn't there
-abbrev pub LacksInput : Contents → (input : Option (List ℕ)) → Type 0
-LacksInput contents None = ⊥
-LacksInput contents (Some name) = contents name ≡ None
-
--- a read fault is answered where a file is lacking, unless memory runs out before or the sink fails
-pub record FaultsWhere (IsLacking : Type 0) (result : Status) : Type 0 where
-  pub only : result ≡ status.ReadFault → IsLacking
-  pub all : IsLacking → (result ≡ status.ReadFault) ⊎ ((result ≡ status.Memory) ⊎ (result ≡ status.WriteFault))
-
--- over a store whose reads fail only at names that aren't there, a read fault is answered where a file of the command isn't there
-abbrev pub FaultsSurely : Contents → Command → Status → Type 0
-FaultsSurely contents command result = FaultsWhere (Lacks contents command) result
-
--- of the two files of a command, the first one that isn't there
-abbrev pub first_missing : Option (List ℕ) → (name input : List ℕ) → List ℕ
-first_missing None name input = name
-first_missing (Some content) name input = input
-
--- the file of a command that a read fault names over such a store
-abbrev pub missing_file : Contents → Command → List ℕ
-missing_file contents (Act name) = name
-missing_file contents (Perform n name None) = name
-missing_file contents (Perform n name (Some input)) = first_missing (contents name) name input
-
--- where a read fault is answered, a sink with these members gets its line with this name
-abbrev pub Names : {K : Type 0} (written : K → List ℕ) (tells : K → Bool) (name : List ℕ) (old new : K) → Status → Type 0
-Names written tells name old new result = result ≡ status.ReadFault → IsTrue (tells old) → written new ≡ written old ++ read_fault_line name
+-- over a store that fails only at names that aren't there: a read fault is answered where a file is lacking, and its line
+-- names the first that isn't there
+pub record ServedSurely {K : Type 0} (sink : Sink K) (contents : Contents) (files : List File) (old new : K) (result : Status) : Type 0 where
+  pub faults : FaultsWhere (Lacks contents files) result
+  pub named : Names sink (missing_file contents files) old new result
 
 -- the statuses of a performance that isn't refused
 abbrev pub IsOfPerformance : Status → Type 0
@@ -98,15 +76,23 @@ IsOfPerformance status.Running = Unit {0}
 IsOfPerformance status.Memory = Unit {0}
 IsOfPerformance _ = ⊥
 
--- an action that reads, and an input within its limit, are performed: nothing is refused, unless memory runs out
-abbrev pub Performs : Contents → Command → Status → Type 0
-Performs contents (Act name) result = Unit {0}
-Performs contents (Perform n name input) result =
-    (content : List ℕ) (g : Listed) (bytes : List ℕ) → contents name ≡ Some content → Reads content g
-    → IsInput true contents input bytes → length bytes ≤ input_limit → IsOfPerformance result
+-- the bytes of the input of a command: there are none where it names no file
+abbrev pub IsInput : Contents → Option (List ℕ) → (bytes : List ℕ) → Type 0
+IsInput contents None bytes = bytes ≡ []
+IsInput contents (Some name) bytes = contents name ≡ Some bytes
 
--- the machine stands before the first instruction of an image that is right for the graph's action, with the default capacity
-abbrev pub IsRightStart : Listed → MachineValue → Type 0
-IsRightStart g machine =
-    (image : Image) × IsRight image (node_count g) (subject_of g default_stack default_units)
-    × (machine ≡ loaded_machine image)
+-- an action that reads, and an input within its limit, are performed: nothing is refused, unless memory runs out
+abbrev pub PerformsAsked : Contents → Option Command → Status → Type 0
+PerformsAsked contents (Some (Perform n action input)) result =
+    (content : List ℕ) (g : Listed) (bytes : List ℕ) → contents action ≡ Some content → Reads content g
+    → IsInput contents input bytes → length bytes ≤ LIMIT_INPUT → IsOfPerformance result
+PerformsAsked contents _ result = Unit {0}
+
+abbrev pub Performs : Contents → (words : List (List ℕ)) → Status → Type 0
+Performs contents words result = PerformsAsked contents (command_of words) result
+
+-- what a command does, or words that are none, over any store and any sink
+pub record Handled {S K : Type 0} (store : Store S) (sink : Sink K) (asked : Option Command) (old new : S) (out gained : K) (result : Status) : Type 0 where
+  pub served : Served store sink (files_if asked) (RepliesIf asked) old new out gained result
+  pub surely : IsTrue (store.sure old) → ServedSurely sink (store.contents old) (files_if asked) out gained result
+  pub idle : files_if asked ≡ [] → new ≡ old

@@ -4,7 +4,7 @@ ghost use Rattle.std.specs.Prelude.{◌≡◌, ◌+◌, ◌*◌, ◌≤◌, leng
 ghost use Rattle.rv_code.specs.Images.{IsImage};
 ghost use Rattle.rv_asm.specs.Conventions.{instruction_bytes, region_address, region_size};
 ghost use Rattle.rv_codegen.specs.RightImage.{compiled_image};
-ghost use Rattle.acg_driver.specs.Answers.{default_stack, default_units};
+ghost use Rattle.acg_driver.specs.Runs.{default_stack, default_units};
 
 use acg_base::Memory;
 use rv_machine::{Image, Segment};

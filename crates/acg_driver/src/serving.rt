@@ -1,55 +1,65 @@
 //! Serving command lines.
 
-ghost use Rattle.std.specs.Prelude.{◌≡◌, ◌⊎◌, Some, None, IsTrue};
-ghost use Rattle.acg_base.specs.Outside.{Rose};
-ghost use Rattle.acg_driver.specs.Commands.{Command as Asked, command_of};
-ghost use Rattle.acg_driver.specs.Serving.{IsReply, Spoken, Looked, FaultsSurely, missing_file, Names, Performs};
+ghost use Rattle.std.specs.Prelude.{◌≡◌, ◌≢◌, [], IsTrue, option_map};
+ghost use Rattle.acg_words.specs.Commands.{asked};
+ghost use Rattle.acg_driver.specs.Files.{files_asked, FaultsWhere, Lacks, missing_file};
+ghost use Rattle.acg_driver.specs.Serving.{IsReply, Served, Names, Performs, Handled};
 
-use crate::act_command::act;
-use crate::lines::answer;
-use crate::perform_command::perform_file;
-use crate::words::{Command, parse_command};
+use crate::commands::act::act;
+use crate::commands::help::{help, version};
+use crate::commands::perform::perform;
 use acg_base::{Sink, Status, Store, Words};
+use acg_words::{Command, Line, parse_command};
 use std::alloc::Global;
+
+// Does what a command asks for, or refuses words that are none.
+fn carry_out<S: Store, K: Sink>(
+    alloc: Global,
+    command: Option<Command<'_>>,
+    store: &mut S,
+    out: &mut K,
+) -> Status
+    ensures { Handled S.Store K.Sink (option_map asked command.entry)
+        store.old store.new out.old out.new result }
+{
+    match command {
+        None => Line::Words.answer(out),
+        Some(Command::Act(operands)) => act(alloc, operands, store, out),
+        Some(Command::Perform(operands)) => perform(alloc, operands, store, out),
+        Some(Command::Help) => help(out),
+        Some(Command::Version) => version(out),
+    }
+}
 
 /// Does what a command line asks for.
 ///
 /// `act ACTION` reads the action text that the store has at the name ACTION, compiles it, and runs its image on no input.
 /// `perform N ACTION` reads it and performs it without an image, for at most 1000000 steps: the number N chooses each
-/// step among those that stand open. Its input is empty, or with `perform N ACTION INPUT` the file INPUT.
+/// step among those that stand open. Its input is empty, or with `perform N ACTION INPUT` the file INPUT. `help` prints
+/// how the program is used, and `version` its version.
 ///
 /// The sink gets the lines that are printed: for a run of an image first a header with the words of the stack, the units
-/// and the factor; then each message as it is sent, and the outcome; else the one line of a refusal. The status tells the
-/// same as the lines.
+/// and the factor; then the messages in the order in which they were sent, and the outcome; else the one line of a
+/// refusal. The status tells the same as the lines. Behind a write that failed nothing is written.
 pub fn serve<S: Store, K: Sink>(alloc: Global, words: &Words, store: &mut S, out: &mut K) -> Status
-    ensures spoken { Spoken K.written K.faults K.tells (IsReply words.now (S.tells store.old) (S.contents store.old)) out.old out.new result }
-    ensures looked { Looked S.contents S.failed_reads S.failed_writes S.tells store.old store.new result }
+    // Which files are read, what is said for what they gave, and what store and sink get.
+    ensures served { Served S.Store K.Sink (files_asked words.now) (IsReply words.now)
+        store.old store.new out.old out.new result }
 
     // Over a sure store a read fault comes exactly where a file isn't there.
-    ensures surely { IsTrue (S.sure store.old) → (asked : Asked) → command_of words.now ≡ Some asked →
-        FaultsSurely (S.contents store.old) asked result }
+    ensures surely { IsTrue (S.sure store.old) →
+        FaultsWhere (Lacks (S.contents store.old) (files_asked words.now)) result }
 
     // Its line names the first file that isn't there.
-    ensures named { IsTrue (S.sure store.old) → (asked : Asked) → command_of words.now ≡ Some asked →
-        Names K.written K.tells (missing_file (S.contents store.old) asked) out.old out.new result }
+    ensures named { IsTrue (S.sure store.old) →
+        Names K.Sink (missing_file (S.contents store.old) (files_asked words.now)) out.old out.new result }
 
     // An action that reads is performed: only want of memory and faults are free to come.
-    ensures performs { (asked : Asked) → command_of words.now ≡ Some asked → IsTrue (S.tells store.old) →
-        ¬ (Rose (K.faults out.old) (K.faults out.new)) →
-        (¬ (Rose (S.failed_reads store.old) (S.failed_reads store.new)) ⊎ IsTrue (S.sure store.old)) →
-        Performs (S.contents store.old) asked result }
-    ensures sure_still { S.sure store.new ≡ S.sure store.old }
-    ensures idle { command_of words.now ≡ None → store.new ≡ store.old }
+    ensures performs { IsTrue (S.tells store.old) → result ≢ Status.ReadFault → result ≢ Status.WriteFault →
+        Performs (S.contents store.old) words.now result }
+
+    // Where there is no file to read, the store isn't asked.
+    ensures idle { files_asked words.now ≡ [] → store.new ≡ store.old }
 {
-    match parse_command(words) {
-        None => answer(out, b"words\n", Status::Words),
-        Some(Command::Act { name }) => act(alloc, name, store, out),
-        Some(
-            Command::Perform {
-                number,
-                name,
-                input,
-            },
-        ) => perform_file(alloc, number, name, input, store, out),
-    }
+    carry_out(alloc, parse_command(words), store, out)
 }

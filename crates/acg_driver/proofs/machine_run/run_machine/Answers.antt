@@ -1,94 +1,112 @@
-use Rattle.std.proofs.Common.{◌≡◌, ℕ, [], ◌++◌, refl, sym, ap, ◌∙◌, subst, append-nil, arith}
-use Rattle.rv_machine.specs.Machines.{left, sent, sent_in, Runs}
-use Rattle.rv_machine.proofs.RunsLemmas.{runs-none, runs-more, sent_in-none}
-use Rattle.rv_machine.proofs.SentLaws.{steps-within}
-use Rattle.acg_driver.specs.Lines.{output_lines, running_line}
-use Rattle.acg_driver.specs.Outboxes.{outbox_limit}
-use Rattle.acg_driver.proofs.MessageLemmas.{both-written}
-use Rattle.acg_driver.proofs.MachineRunLemmas.{lines-more, never-traps, exit-code, exit-answer, running-answer, settled, rose-positive, never-full}
+use Rattle.std.proofs.Common.{◌≡◌, ◌≢◌, ℕ, ◌+◌, ◌<◌, ◌≤◌, List, [], ◌++◌, refl, sym, ap, ◌∙◌, subst, arith}
+use Rattle.rv_code.specs.Machine.{run}
+use Rattle.rv_machine.specs.Machines.{MachineValue, left, state_of, sent, sent_in, Runs}
+use Rattle.rv_machine.proofs.RunsLemmas.{runs-none, runs-then, runs-more, sent_in-none}
+use Rattle.rv_machine.specs.declared.answers.QuietEnd.TheVariants as quiet_end
+use Rattle.acg_words.specs.Lines.{bytes_of, status_of}
+use Rattle.acg_words.specs.Prints.{Took, Broke}
+use Rattle.acg_words.specs.declared.line.Line.TheVariants.{Running}
+use Rattle.acg_words.proofs.PrintsLemmas.{took-none, took-then, broke-then}
+use Rattle.acg_driver.specs.Runs.{output_lines, IsRunOf}
+use Rattle.acg_driver.proofs.RunLemmas.{lines-more, quiet-behind, never-traps, exit-code, exit-answer, running-answer, says-at}
+use Rattle.acg_driver.proofs.Saying.{printed-whole, printed-failed, said-line, said-broke}
 use Rattle.acg_driver.proofs.machine_run.run_machine.Goals as goal
 
-pub loop-turn-init : goal.loop-turn-init
-loop-turn-init g c = record {
-  runs = runs-none c.args.machine.now [];
-  room = c.requires.room;
-  empty = c.clear.ensures;
-  still = refl;
-  telling = refl;
-  wrote = λ _. rw (sent_in-none c.args.machine.now []) (sym (append-nil _));
+pub runs-init : goal.runs-init
+runs-init g c = record {
+  within = omega arith;
+  ran = runs-none c.args.machine.now [];
+  took = subst (λ lines. Took g.K.Sink (output_lines lines) c.args.out.now c.args.out.now) (sym (sent_in-none c.args.machine.now [])) (took-none c.args.out.now);
 }
 
-pub print_exit-requires : goal.print_exit-requires
-print_exit-requires g c =
-    exit-code c.loop-turn._turn c.args.budget c.args.machine.now c.loop-turn.machine (left c.loop-turn.input) c.in-Exited.code c.requires.messages
-    c.loop-turn.invariant.runs (c.in-Exited.ensures.exited c.in-Exited.code refl) c.loop-turn-test.true
+pub exit_line-requires : goal.exit_line-requires
+exit_line-requires g c =
+    let before = c.runs.invariant in
+    let quiet = c.run_quietly-quiet in
+    let ran = runs-then c.runs.ran quiet.result.ran c.args.machine.now [] c.runs.machine (left c.runs.input) quiet.new.self (left quiet.new.input) before.ran quiet.ensures.ran in
+    let other : quiet.result.end ≢ quiet_end.Budget = λ e. let both = sym e ∙ c.in-Exited.is in cc in
+    exit-code (c.runs.ran + quiet.result.ran) c.args.budget c.args.machine.now quiet.new.self (left quiet.new.input) c.in-Exited.code c.requires ran
+    (quiet.ensures.exited c.in-Exited.code c.in-Exited.is) (omega (arith, quiet.ensures.fewer other, before.within))
 
-pub returns-in-Exited-clause-ran : goal.returns-in-Exited-clause-ran
-returns-in-Exited-clause-ran g c = λ printed.
-    let before = c.loop-turn.invariant in
-    let told = c.print_exit.ensures.printed printed in
-    let lines = output_lines (sent_in c.loop-turn._turn c.args.machine.now []) in (
-      lines ++ told.0,
-      exit-answer c.loop-turn._turn c.args.budget c.args.machine.now c.loop-turn.machine (left c.loop-turn.input) c.in-Exited.code told.0
-          c.print_exit.result before.runs (c.in-Exited.ensures.exited c.in-Exited.code refl) c.loop-turn-test.true told.1,
-      λ tells. both-written (g.K.Sink.written c.args.out.now) (g.K.Sink.written c.loop-turn.out) (g.K.Sink.written c.print_exit.new.out) lines told.0
-          (before.wrote tells) (told.2 (rw before.telling tells)),
-    )
+pub returns-in-Exited : goal.returns-in-Exited
+returns-in-Exited g c =
+    let before = c.runs.invariant in
+    let quiet = c.run_quietly-quiet in
+    let m = c.args.machine.now in
+    let n = c.runs.ran + quiet.result.ran in
+    let ran = runs-then c.runs.ran quiet.result.ran m [] c.runs.machine (left c.runs.input) quiet.new.self (left quiet.new.input) before.ran quiet.ensures.ran in
+    let same = quiet-behind c.runs.ran quiet.result.ran m c.runs.machine quiet.new.self (left c.runs.input) (left quiet.new.input) before.ran quiet.ensures.ran quiet.ensures.silent in
+    let other : quiet.result.end ≢ quiet_end.Budget = λ e. let both = sym e ∙ c.in-Exited.is in cc in
+    let took = subst (λ sent. Took g.K.Sink (output_lines sent) c.args.out.now c.runs.out) (sym same) before.took in
+    said-line {P = IsRunOf (run c.args.budget (state_of m [] []))} c.exit_line.result took c.answer.ensures
+    (exit-answer n c.args.budget m quiet.new.self (left quiet.new.input) c.in-Exited.code c.exit_line.result ran
+    (quiet.ensures.exited c.in-Exited.code c.in-Exited.is) (omega (arith, quiet.ensures.fewer other, before.within)) c.exit_line.ensures)
 
 pub unreachable-requires : goal.unreachable-requires
 unreachable-requires g c =
-    let trapped = c.in-Trapped.ensures.trapped c.in-Trapped.cause c.in-Trapped.pc refl in
-    never-traps c.loop-turn._turn c.args.budget c.args.machine.now c.loop-turn.machine (left c.loop-turn.input) c.in-Trapped.cause
-    c.requires.messages c.loop-turn.invariant.runs trapped.0 c.loop-turn-test.true
+    let before = c.runs.invariant in
+    let quiet = c.run_quietly-quiet in
+    let ran = runs-then c.runs.ran quiet.result.ran c.args.machine.now [] c.runs.machine (left c.runs.input) quiet.new.self (left quiet.new.input) before.ran quiet.ensures.ran in
+    let other : quiet.result.end ≢ quiet_end.Budget = λ e. let both = sym e ∙ c.in-Trapped.is in cc in
+    let trapped = quiet.ensures.trapped c.in-Trapped.cause c.in-Trapped.pc c.in-Trapped.is in
+    never-traps (c.runs.ran + quiet.result.ran) c.args.budget c.args.machine.now quiet.new.self (left quiet.new.input) c.in-Trapped.cause c.requires ran
+    trapped.0 (omega (arith, quiet.ensures.fewer other, before.within))
 
-pub unreachable-requires-in-SinkFault : goal.unreachable-requires-in-SinkFault
-unreachable-requires-in-SinkFault g c =
-    let before = c.loop-turn.invariant in
-    let fault = c.in-SinkFault.ensures in
-    let after = c.step.new.out in
-    never-full outbox_limit c.loop-turn.machine c.loop-turn.outbox.bytes.items after.bytes.items before.room before.empty (fault.part refl refl)
-    (after.full (rose-positive c.loop-turn.outbox.faults after.faults (fault.rose refl)))
+pub returns-in-Budget : goal.returns-in-Budget
+returns-in-Budget g c =
+    let before = c.runs.invariant in
+    let quiet = c.run_quietly-quiet in
+    let m = c.args.machine.now in
+    let n = c.runs.ran + quiet.result.ran in
+    let ran = runs-then c.runs.ran quiet.result.ran m [] c.runs.machine (left c.runs.input) quiet.new.self (left quiet.new.input) before.ran quiet.ensures.ran in
+    let same = quiet-behind c.runs.ran quiet.result.ran m c.runs.machine quiet.new.self (left c.runs.input) (left quiet.new.input) before.ran quiet.ensures.ran quiet.ensures.silent in
+    let all : n ≡ c.args.budget = omega (arith, quiet.ensures.all c.in-Budget.is, before.within) in
+    let took = subst (λ sent. Took g.K.Sink (output_lines sent) c.args.out.now c.runs.out) (sym same ∙ ap (λ count. sent_in count m []) all) before.took in
+    let Ran : ℕ → Type 0 = λ count. Runs count m [] quiet.new.self (left quiet.new.input) in
+    said-line {P = IsRunOf (run c.args.budget (state_of m [] []))} Running took c.answer-in-Budget.ensures
+    (running-answer c.args.budget m quiet.new.self (left quiet.new.input) (subst Ran all ran))
 
-pub loop-turn-preserved : goal.loop-turn-preserved
-loop-turn-preserved g c =
-    let before = c.loop-turn.invariant in
-    let machine = c.loop-turn.machine in
-    let step = c.in-Ran.ensures in
-    let steps = step.ran refl in
-    let printed = c.in-Ok.ensures in
-    let sends : c.bytes.result.now ≡ sent machine =
-    c.bytes.ensures ∙ (step.told refl refl ∙ ap (λ bytes. bytes ++ sent machine) before.empty)
-    in
-    let old = g.K.Sink.written c.args.out.now in
-    let there = g.K.Sink.written c.loop-turn.out in
+pub returns-then-is_err : goal.returns-then-is_err
+returns-then-is_err g c =
+    let before = c.runs.invariant in
+    let quiet = c.run_quietly-quiet in
+    let m = c.args.machine.now in
+    let k = quiet.new.self in
+    let n = c.runs.ran + quiet.result.ran in
+    let ran = runs-then c.runs.ran quiet.result.ran m [] c.runs.machine (left c.runs.input) k (left quiet.new.input) before.ran quiet.ensures.ran in
+    let same = quiet-behind c.runs.ran quiet.result.ran m c.runs.machine k (left c.runs.input) (left quiet.new.input) before.ran quiet.ensures.ran quiet.ensures.silent in
+    let took = subst (λ sent. Took g.K.Sink (output_lines sent) c.args.out.now c.runs.out) (sym same) before.took in
+    let broke = printed-failed c.print_messages.result (sym c.is_err.ensures.value ∙ c.if-is_err.true) c.print_messages.ensures in
+    let sends = quiet.ensures.sends c.in-Sends.is in
+    let other : quiet.result.end ≢ quiet_end.Budget = λ e. let both = sym e ∙ c.in-Sends.is in cc in
+    let says = says-at n c.args.budget m k (left quiet.new.input) c.requires (omega (arith, quiet.ensures.fewer other, before.within)) ran sends.0 sends.1 in
+    let piece : Broke g.K.Sink (output_lines (sent k)) c.runs.out c.print_messages.new.out = subst (λ bytes. Broke g.K.Sink (output_lines bytes) c.runs.out c.print_messages.new.out) c.sending.ensures broke in
+    said-broke {P = IsRunOf (run c.args.budget (state_of m [] []))} says.rest says.status (broke-then took piece) says.right
+
+pub pass_over-requires : goal.pass_over-requires
+pass_over-requires g c = (c.run_quietly-quiet.ensures.sends c.in-Sends.is).0
+
+pub runs-preserved : goal.runs-preserved
+runs-preserved g c =
+    let before = c.runs.invariant in
+    let quiet = c.run_quietly-quiet in
+    let m = c.args.machine.now in
+    let k = quiet.new.self in
+    let j = left quiet.new.input in
+    let n = c.runs.ran + quiet.result.ran in
+    let ran = runs-then c.runs.ran quiet.result.ran m [] c.runs.machine (left c.runs.input) k j before.ran quiet.ensures.ran in
+    let same = quiet-behind c.runs.ran quiet.result.ran m c.runs.machine k (left c.runs.input) j before.ran quiet.ensures.ran quiet.ensures.silent in
+    let took = subst (λ sent. Took g.K.Sink (output_lines sent) c.args.out.now c.runs.out) (sym same) before.took in
+    let other : quiet.result.end ≢ quiet_end.Budget = λ e. let both = sym e ∙ c.in-Sends.is in cc in
+    let steps = c.pass_over.ensures.ran j in
+    let sent_now = printed-whole c.print_messages.result (sym c.is_err.ensures.value ∙ c.if-is_err.false) c.print_messages.ensures in
+    let piece : Took g.K.Sink (output_lines (sent k)) c.runs.out c.print_messages.new.out = subst (λ bytes. Took g.K.Sink (output_lines bytes) c.runs.out c.print_messages.new.out) c.sending.ensures sent_now in
+    let lines = lines-more n m k c.pass_over.new.self j j c.requires ran steps in
+    let count : n + 1 ≡ c.runs.ran + (quiet.result.ran + 1) = omega arith in
+    let Ran : ℕ → Type 0 = λ i. Runs i m [] c.pass_over.new.self j in
+    let Wrote : ℕ → Type 0 = λ i. Took g.K.Sink (output_lines (sent_in i m [])) c.args.out.now c.print_messages.new.out in
     record {
-      runs =
-          runs-more c.loop-turn._turn c.args.machine.now [] machine (left c.loop-turn.input) c.step.new.self (left c.step.new.input) before.runs steps;
-      room = steps-within outbox_limit machine c.step.new.self (left c.loop-turn.input) (left c.step.new.input) before.room steps;
-      empty = c.clear-in-Ok.ensures;
-      still = settled (g.K.Sink.faults c.loop-turn.out) (g.K.Sink.faults c.print_messages.new.out) printed.counts
-          (λ more. let fails = printed.grew more in cc) ∙ before.still;
-      telling = printed.tells_still ∙ before.telling;
-      wrote = λ tells.
-          both-written old there (g.K.Sink.written c.print_messages.new.out) (output_lines (sent_in c.loop-turn._turn c.args.machine.now []))
-          (output_lines (sent machine)) (before.wrote tells)
-          (printed.printed (rw before.telling tells) ∙ ap (λ bytes. there ++ output_lines bytes) sends)
-          ∙ ap (λ lines. old ++ lines)
-          (sym (lines-more c.loop-turn._turn c.args.machine.now machine c.step.new.self (left c.loop-turn.input) (left c.step.new.input)
-          c.requires.messages before.runs steps));
+      within = omega (arith, quiet.ensures.fewer other, before.within);
+      ran = subst Ran count (runs-more n m [] k j c.pass_over.new.self j ran steps);
+      took = subst Wrote count (subst (λ text. Took g.K.Sink text c.args.out.now c.print_messages.new.out) (sym lines) (took-then took piece));
     }
-
-pub returns-clause-ran : goal.returns-clause-ran
-returns-clause-ran g c = λ printed.
-    let before = c.loop-turn.invariant in
-    let start = c.args.machine.now in
-    let all : c.loop-turn._turn ≡ c.args.budget = omega arith in
-    let RunsSo : ℕ → Type 0 = λ n. Runs n start [] c.loop-turn.machine (left c.loop-turn.input) in
-    let WroteSo : ℕ → Type 0 = λ n. g.K.Sink.written c.loop-turn.out ≡ g.K.Sink.written c.args.out.now ++ output_lines (sent_in n start []) in (
-      output_lines (sent_in c.args.budget start []) ++ running_line,
-      running-answer c.args.budget start c.loop-turn.machine (left c.loop-turn.input) c.answer.result (subst RunsSo all before.runs)
-          (c.answer.ensures.answer printed),
-      λ tells. both-written (g.K.Sink.written c.args.out.now) (g.K.Sink.written c.loop-turn.out) (g.K.Sink.written c.answer.new.out)
-          (output_lines (sent_in c.args.budget start [])) running_line (subst WroteSo all (before.wrote tells))
-          (c.answer.ensures.done printed (rw before.telling tells)),
-    )

@@ -1,10 +1,13 @@
-use Rattle.std.proofs.Common.{◌≡◌, suc, ◌+◌, ℤ, List, ◌++◌, length, drop, refl, sym, ap, subst, ◌∙◌, arith}
+use Rattle.std.proofs.Common.{◌≡◌, suc, ◌+◌, ℤ, List, [], ◌++◌, length, drop, refl, sym, ap, subst, ◌∙◌, arith}
 use Rattle.action_sos.specs.Schedules.{number_at, next_number}
-use Rattle.acg_driver.specs.Lines.{message_lines}
-use Rattle.acg_driver.specs.Performed.{IsPerformed, step_limit}
-use Rattle.acg_driver.specs.Prints.{Printed}
-use Rattle.acg_driver.proofs.PerformanceLemmas.{chosen-within, moved-ended, moved-on, one-more, start-going, start-silent, reached-start, reached-more, same-graph, lines-step, ended-performed, running-performed, broken-performed}
-use Rattle.acg_driver.proofs.Speaking.{answered-behind, fault-spoken, printed-behind, printed-whole, printed-still}
+use Rattle.acg_words.specs.Lines.{message_lines, bytes_of, status_of}
+use Rattle.acg_words.specs.Prints.{Took, Printed, Answered}
+use Rattle.acg_words.specs.declared.line.Line.{Line}
+use Rattle.acg_words.specs.declared.line.Line.TheVariants.{Memory, Running}
+use Rattle.acg_words.proofs.PrintsLemmas.{took-none, took-then, broke-then}
+use Rattle.acg_driver.specs.Commands.Perform.{IsPerformed, step_limit, end_line}
+use Rattle.acg_driver.proofs.PerformanceLemmas.{chosen-within, moved-ended, moved-on, one-more, start-going, start-silent, reached-start, reached-more, same-graph, lines-step, step-goes, ended-performed, running-performed, broken-performed}
+use Rattle.acg_driver.proofs.Saying.{printed-whole, printed-failed, said-line, said-broke}
 use Rattle.acg_driver.proofs.performance.take_steps.Goals as goal
 
 pub loop-turn-init : goal.loop-turn-init
@@ -16,16 +19,14 @@ loop-turn-init g c =
       reached = reached-start c.args.number start.graph input start.state c.requires;
       chooses = refl;
       going = start-going start.state input c.requires;
-      still = refl;
-      telling = refl;
-      wrote = λ _. start-silent (g.K.Sink.written c.args.out.now) start.state input c.requires;
+      took = subst (λ lines. Took g.K.Sink lines c.args.out.now c.args.out.now) (sym (start-silent start.state input c.requires)) (took-none c.args.out.now);
     }
 
 pub returns-in_default : goal.returns-in_default
 returns-in_default g c =
     let start = c.args.performer.now in
     let before = c.loop-turn.invariant in
-    answered-behind {IsSaid = IsPerformed c.args.number start.graph start.state.world.input} (message_lines c.loop-turn.performer.state.world.output) before.telling before.still before.wrote c.answer.ensures
+    said-line {P = IsPerformed c.args.number start.graph start.state.world.input} Memory before.took c.answer.ensures
     (broken-performed c.args.number start.graph start.state.world.input c.loop-turn._turn c.loop-turn.performer.state before.reached (omega arith))
 
 pub returns-in-Ended : goal.returns-in-Ended
@@ -35,17 +36,17 @@ returns-in-Ended g c =
     let old = c.loop-turn.performer in
     let new = c.step.new.self in
     let takes = c.in-Ok.ensures.takes in
-    let behind : List ℤ → Type 0 = λ output. Printed g.K.Sink.written g.K.Sink.faults g.K.Sink.tells (message_lines (drop (length c.output-before.result.now) output)) c.loop-turn.out c.print_sent.new.out c.print_sent.result in
+    let behind : List ℤ → Type 0 = λ output. Printed g.K.Sink (message_lines (drop (length c.output-before.result.now) output)) c.loop-turn.out c.print_sent.new.out c.print_sent.result in
     let sent = printed-whole c.print_sent.result (sym c.is_err.ensures.value ∙ c.if-is_err.false) (subst behind c.output.ensures c.print_sent.ensures) in
     let reached = reached-more c.args.number c.loop-turn.number start.graph start.state.world.input c.loop-turn._turn c.chosen-choice.result c.open_steps.result old new before.reached
     before.same before.chooses c.open_steps.ensures.count c.chosen-choice.ensures takes in
     let ended = moved-ended new.state.tree c.in-Ended.outcome (sym c.in-Ended.is ∙ c.in-Ok.ensures.moved) in
-    answered-behind {IsSaid = IsPerformed c.args.number start.graph start.state.world.input} (message_lines new.state.world.output)
-    (sent.tells_still ∙ before.telling)
-    (printed-still sent ∙ before.still)
-    (λ tells. printed-behind (message_lines old.state.world.output) before.telling before.wrote sent tells
-    ∙ ap (λ lines. g.K.Sink.written c.args.out.now ++ lines) (sym (lines-step c.chosen-choice.result (length c.output-before.result.now) old new (ap length c.output-before.ensures) takes)))
-    (c.print_end.ensures ended.0 ended.2)
+    let lines = lines-step c.chosen-choice.result (length c.output-before.result.now) old new (ap length c.output-before.ensures) takes in
+    let took : Took g.K.Sink (message_lines new.state.world.output) c.args.out.now c.print_sent.new.out =
+    subst (λ text. Took g.K.Sink text c.args.out.now c.print_sent.new.out) (sym lines) (took-then before.took sent) in
+    let AnsweredOf : Line → Type 0 = λ line. Answered g.K.Sink (bytes_of line) (status_of line) c.print_sent.new.out c.answer-in-Ended.new.out c.answer-in-Ended.result in
+    said-line {P = IsPerformed c.args.number start.graph start.state.world.input} (end_line ended.0) took
+    (subst AnsweredOf (c.end_line.ensures ended.0 ended.2) c.answer-in-Ended.ensures)
     (ended-performed c.args.number start.graph start.state.world.input (c.loop-turn._turn + 1) new.state ended.0 reached (omega arith) ended.1)
 
 pub loop-turn-preserved : goal.loop-turn-preserved
@@ -55,19 +56,17 @@ loop-turn-preserved g c =
     let old = c.loop-turn.performer in
     let new = c.step.new.self in
     let takes = c.in-Ok.ensures.takes in
-    let behind : List ℤ → Type 0 = λ output. Printed g.K.Sink.written g.K.Sink.faults g.K.Sink.tells (message_lines (drop (length c.output-before.result.now) output)) c.loop-turn.out c.print_sent.new.out c.print_sent.result in
+    let behind : List ℤ → Type 0 = λ output. Printed g.K.Sink (message_lines (drop (length c.output-before.result.now) output)) c.loop-turn.out c.print_sent.new.out c.print_sent.result in
     let sent = printed-whole c.print_sent.result (sym c.is_err.ensures.value ∙ c.if-is_err.false) (subst behind c.output.ensures c.print_sent.ensures) in
     let next : suc c.loop-turn._turn ≡ c.loop-turn._turn + 1 = omega arith in
+    let lines = lines-step c.chosen-choice.result (length c.output-before.result.now) old new (ap length c.output-before.ensures) takes in
     record {
       same = same-graph c.chosen-choice.result old new takes ∙ before.same;
       reached = reached-more c.args.number c.loop-turn.number start.graph start.state.world.input c.loop-turn._turn c.chosen-choice.result c.open_steps.result old new before.reached
           before.same before.chooses c.open_steps.ensures.count c.chosen-choice.ensures takes;
       chooses = c.next_number-number.ensures ∙ ap next_number before.chooses ∙ ap (number_at c.args.number) next;
       going = moved-on new.state.tree (sym c.in_default-moved.is ∙ c.in-Ok.ensures.moved);
-      still = printed-still sent ∙ before.still;
-      telling = sent.tells_still ∙ before.telling;
-      wrote = λ tells. printed-behind (message_lines old.state.world.output) before.telling before.wrote sent tells
-          ∙ ap (λ lines. g.K.Sink.written c.args.out.now ++ lines) (sym (lines-step c.chosen-choice.result (length c.output-before.result.now) old new (ap length c.output-before.ensures) takes));
+      took = subst (λ text. Took g.K.Sink text c.args.out.now c.print_sent.new.out) (sym lines) (took-then before.took sent);
     }
 
 pub returns : goal.returns
@@ -75,7 +74,7 @@ returns g c =
     let start = c.args.performer.now in
     let before = c.loop-turn.invariant in
     let all : c.loop-turn._turn ≡ step_limit = omega arith in
-    answered-behind {IsSaid = IsPerformed c.args.number start.graph start.state.world.input} (message_lines c.loop-turn.performer.state.world.output) before.telling before.still before.wrote c.answer-2.ensures
+    said-line {P = IsPerformed c.args.number start.graph start.state.world.input} Running before.took c.answer-2.ensures
     (running-performed c.args.number start.graph start.state.world.input c.loop-turn._turn c.loop-turn.performer.state before.reached all before.going)
 
 pub chosen-choice-requires : goal.chosen-choice-requires
@@ -96,6 +95,17 @@ print_sent-requires g c =
 
 pub returns-then-is_err : goal.returns-then-is_err
 returns-then-is_err g c =
+    let start = c.args.performer.now in
     let before = c.loop-turn.invariant in
-    let line = message_lines (drop (length c.output-before.result.now) c.output.result.now) in
-    fault-spoken {line = line} c.print_sent.result (sym c.is_err.ensures.value ∙ c.if-is_err.true) before.telling before.still c.print_sent.ensures
+    let old = c.loop-turn.performer in
+    let new = c.step.new.self in
+    let takes = c.in-Ok.ensures.takes in
+    let behind : List ℤ → Type 0 = λ output. Printed g.K.Sink (message_lines (drop (length c.output-before.result.now) output)) c.loop-turn.out c.print_sent.new.out c.print_sent.result in
+    let broke = printed-failed c.print_sent.result (sym c.is_err.ensures.value ∙ c.if-is_err.true) (subst behind c.output.ensures c.print_sent.ensures) in
+    let reached = reached-more c.args.number c.loop-turn.number start.graph start.state.world.input c.loop-turn._turn c.chosen-choice.result c.open_steps.result old new before.reached
+    before.same before.chooses c.open_steps.ensures.count c.chosen-choice.ensures takes in
+    let lines = lines-step c.chosen-choice.result (length c.output-before.result.now) old new (ap length c.output-before.ensures) takes in
+    let goes = step-goes c.args.number start.graph start.state.world.input (c.loop-turn._turn + 1) new.state c.in-Ok.moved reached (omega arith) c.in-Ok.ensures.moved in
+    let Performed = IsPerformed c.args.number start.graph start.state.world.input in
+    said-broke {P = Performed} (bytes_of goes.line) (status_of goes.line) (broke-then before.took broke)
+    (subst (λ text. Performed (text ++ bytes_of goes.line) (status_of goes.line)) lines goes.right)

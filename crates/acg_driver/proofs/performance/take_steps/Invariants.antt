@@ -1,7 +1,8 @@
-use Rattle.std.proofs.Common.{◌≡◌, ◌++◌, IsTrue}
+use Rattle.std.proofs.Common.{◌≡◌}
 use Rattle.action_sos.specs.Performers.{IsEnd}
 use Rattle.action_sos.specs.Schedules.{number_at}
-use Rattle.acg_driver.specs.Lines.{message_lines}
+use Rattle.acg_words.specs.Lines.{message_lines}
+use Rattle.acg_words.specs.Prints.{Took}
 use Rattle.acg_driver.proofs.PerformanceLemmas.{IsReached}
 use Rattle.acg_driver.proofs.performance.take_steps.Given as goal
 
@@ -11,7 +12,5 @@ invariant-loop-turn g l = record {
   reached : IsReached l.fn.number l.fn.performer.graph l.fn.performer.state.world.input l._turn l.performer.state;
   chooses : l.number ≡ number_at l.fn.number l._turn;
   going : IsEnd l.performer.state.tree → ⊥;
-  still : g.K.Sink.faults l.out ≡ g.K.Sink.faults l.fn.out;
-  telling : g.K.Sink.tells l.out ≡ g.K.Sink.tells l.fn.out;
-  wrote : IsTrue (g.K.Sink.tells l.fn.out) → g.K.Sink.written l.out ≡ g.K.Sink.written l.fn.out ++ message_lines l.performer.state.world.output;
+  took : Took g.K.Sink (message_lines l.performer.state.world.output) l.fn.out l.out;
 }

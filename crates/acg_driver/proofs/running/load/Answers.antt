@@ -3,7 +3,7 @@ use Rattle.rv_code.specs.Images.{IsImage}
 use Rattle.rv_asm.specs.Conventions.{instruction_bytes}
 use Rattle.rv_machine.specs.Machines.{loaded_machine}
 use Rattle.rv_codegen.specs.RightImage.{compiled_image}
-use Rattle.acg_driver.specs.Answers.{default_stack, default_units}
+use Rattle.acg_driver.specs.Runs.{default_stack, default_units}
 use Rattle.acg_driver.proofs.running.load.Goals as goal
 
 pub compiled_image-requires : goal.compiled_image-requires
@@ -16,4 +16,4 @@ returns c =
     let right = c.in_ok-code.ensures.right default_stack default_units (omega arith) (omega arith) (omega arith) (omega arith) in
     let image = compiled_image (instruction_bytes c.in_ok-code.code.words.items) default_stack default_units in
     let same : c.in_ok-image.image ≡ image = c.in_ok-image.ensures ∙ ap (λ words. compiled_image (instruction_bytes words) default_stack default_units) c.deref.ensures.value in
-    (image, right, c.in_ok-machine.ensures.loaded ∙ ap loaded_machine same)
+    ((image, right, c.in_ok-machine.ensures.loaded ∙ ap loaded_machine same), c.instructions_per_step-factor.ensures)

@@ -1,42 +1,36 @@
-use Rattle.std.proofs.Common.{[], Ok, refl, sym, subst}
+use Rattle.std.proofs.Common.{ℕ, [], ◌++◌, ap, sym, subst}
 use Rattle.rv_code.specs.Machine.{run}
-use Rattle.rv_machine.specs.Machines.{state_of}
-use Rattle.action_terms.specs.Meaning.{action_of}
-use Rattle.rv_codegen.specs.Measures.{subject_of, node_count, factor_of}
-use Rattle.acg_driver.specs.Answers.{default_stack, default_units, default_budget, IsRunOf}
-use Rattle.acg_driver.specs.Lines.{header_line}
-use Rattle.acg_driver.specs.Outboxes.{SendsMessages, FitsOutbox}
-use Rattle.acg_driver.specs.Prints.{Printed}
-use Rattle.acg_driver.proofs.RightRuns.{right-sends, right-fits}
-use Rattle.acg_driver.proofs.Speaking.{spoken-behind}
+use Rattle.rv_machine.specs.Machines.{state_of, sent_in}
+use Rattle.rv_codegen.specs.Measures.{subject_of, node_count}
+use Rattle.acg_words.specs.Lines.{bytes_of, status_of, header_line}
+use Rattle.acg_driver.specs.Runs.{default_stack, default_units, default_budget, output_lines, IsRunOf, IsRun}
+use Rattle.acg_driver.specs.Sending.{SendsMessages}
+use Rattle.acg_driver.proofs.RightRuns.{right-sends}
+use Rattle.acg_driver.proofs.RunLemmas.{whole-run}
+use Rattle.acg_driver.proofs.Saying.{said-then, said-broke}
 use Rattle.acg_driver.proofs.running.run.Goals as goal
 
-pub run_machine-requires-clause-messages : goal.run_machine-requires-clause-messages
-run_machine-requires-clause-messages g c =
-    let graph = c.args.graph.now in
-    let start = c.requires.start in
+pub run_machine-requires : goal.run_machine-requires
+run_machine-requires g c =
+    let graph = c.requires.0 in
+    let start = c.requires.1.0 in
     λ m. subst (λ machine. SendsMessages (run m (state_of machine [] []))) (sym start.2) (right-sends start.0 (node_count graph) (subject_of graph default_stack default_units) start.1 m)
 
-pub run_machine-requires-clause-room : goal.run_machine-requires-clause-room
-run_machine-requires-clause-room g c =
-    let graph = c.args.graph.now in
-    let start = c.requires.start in
-    subst (λ machine. FitsOutbox machine.segments) (sym start.2) (right-fits start.0 (node_count graph) (subject_of graph default_stack default_units) start.1 refl refl)
-
 pub returns-in-Ok : goal.returns-in-Ok
-returns-in-Ok g c =
-    let graph = c.args.graph.now in
-    let start = c.requires.start in
-    let header = header_line default_stack default_units (factor_of (action_of graph)) in
-    let printed : Printed g.K.Sink.written g.K.Sink.faults g.K.Sink.tells header c.args.out.now c.print_header.new.out (Ok c.in-Ok.field-0) =
-    subst (λ f. Printed g.K.Sink.written g.K.Sink.faults g.K.Sink.tells (header_line default_stack default_units f) c.args.out.now c.print_header.new.out (Ok c.in-Ok.field-0)) c.instructions_per_step.ensures
-    (subst (λ r. Printed g.K.Sink.written g.K.Sink.faults g.K.Sink.tells (header_line default_stack default_units c.instructions_per_step.result) c.args.out.now c.print_header.new.out r) c.in-Ok.is c.print_header.ensures) in
-    spoken-behind {P = λ rest result. IsRunOf (run default_budget (state_of c.args.loaded.now.machine [] [])) rest result} printed
-    (λ rest runs. (start.0, start.1, (rest, refl, subst (λ machine. IsRunOf (run default_budget (state_of machine [] [])) rest c.run_machine.result) start.2 runs)))
-    (record {
-      said = c.run_machine.ensures.ran;
-      failed = c.run_machine.ensures.fault;
-      grew = c.run_machine.ensures.grew;
-      counts = c.run_machine.ensures.counts;
-      tells_still = c.run_machine.ensures.tells_still;
-    })
+returns-in-Ok g c = λ graph loaded.
+    let start = loaded.0 in
+    said-then {P = IsRunOf (run default_budget (state_of c.args.loaded.now.machine [] []))} {Q = IsRun graph} c.in-Ok.ensures.done
+    (λ rest s runs. (start.0, start.1, (rest, ap (λ factor. header_line default_stack default_units factor ++ rest) loaded.1,
+    subst (λ machine. IsRunOf (run default_budget (state_of machine [] [])) rest s) start.2 runs)))
+    c.run_machine.ensures
+
+pub returns-in-Err-Failed : goal.returns-in-Err-Failed
+returns-in-Err-Failed g c = λ graph loaded.
+    let start = loaded.0 in
+    let machine = c.args.loaded.now.machine in
+    let sane : (m : ℕ) → SendsMessages (run m (state_of machine [] [])) = λ m. subst (λ k. SendsMessages (run m (state_of k [] []))) (sym start.2) (right-sends start.0 (node_count graph) (subject_of graph default_stack default_units) start.1 m) in
+    let whole = whole-run default_budget machine sane in
+    let rest = output_lines (sent_in default_budget machine []) ++ bytes_of whole.line in
+    said-broke {P = IsRun graph} rest (status_of whole.line) c.in-Err-Failed.ensures.failed
+    (start.0, start.1, (rest, ap (λ factor. header_line default_stack default_units factor ++ rest) loaded.1,
+    subst (λ k. IsRunOf (run default_budget (state_of k [] [])) rest (status_of whole.line)) start.2 whole.right))

@@ -1,0 +1,83 @@
+-- An action that reads is performed.
+use Rattle.std.proofs.Common.{◌≡◌, ◌≢◌, inl, inr, ℕ, ◌≤◌, ℤ, List, [], ◌∷◌, length, Option, Some, None, refl, sym, ap, ◌∙◌, subst, arith}
+use Rattle.acg_base.specs.Outside.{Contents, front}
+use Rattle.acg_base.specs.declared.limits.TheConstants.{LIMIT_ACTION, LIMIT_INPUT}
+use Rattle.acg_base.specs.declared.status.Status.{Status}
+use Rattle.acg_base.specs.declared.status.Status.TheVariants as status
+use Rattle.action_terms.specs.Acting.{End, Done, Esc, Fail, Tree}
+use Rattle.action_terms.specs.Numbering.{Listed}
+use Rattle.acg_words.specs.Commands.{Command, Act, Perform, Help, Version}
+use Rattle.acg_words.specs.Lines.{status_of}
+use Rattle.acg_words.specs.declared.line.Line.{Line}
+use Rattle.acg_words.specs.declared.line.Line.TheVariants.{LimitInput, Memory, ReadFault, Running}
+use Rattle.acg_driver.specs.Texts.{Reads, IsUnread}
+use Rattle.acg_driver.specs.Files.{file, Action, Input, files_if, input_files, readings_of, reading, IsGiven, AreGiven}
+use Rattle.acg_driver.specs.Commands.Perform.{end_line, IsOutcome, IsPerformed, RefusesBytes, RefusesInput, RefusesPerform}
+use Rattle.acg_driver.specs.Serving.{Replies, RepliesIf, IsOfPerformance, IsInput, PerformsAsked}
+use Rattle.acg_driver.proofs.Fronts.{whole-front}
+use Rattle.acg_driver.proofs.TextErrors.{content-refused}
+
+memory-performs : (line : Line) → line ≡ Memory → IsOfPerformance (status_of line)
+memory-performs line is = subst (λ l. IsOfPerformance (status_of l)) (sym is) tt
+
+unread-performs : (name : List ℕ) (line : Line) → IsUnread name line → status_of line ≢ status.ReadFault → IsOfPerformance (status_of line)
+unread-performs name (ReadFault other) unread not = absurd (not refl)
+unread-performs name Memory unread not = tt
+unread-performs name _ unread not = absurd unread
+
+end-performs : (z : End) → IsOfPerformance (status_of (end_line z))
+end-performs (Done d b) = tt
+end-performs (Esc d) = tt
+end-performs Fail = tt
+
+outcome-performs : (count : ℕ) (tree : Tree) (line : Line) → IsOutcome count tree line → IsOfPerformance (status_of line)
+outcome-performs count tree Running h = tt
+outcome-performs count tree Memory h = tt
+outcome-performs count tree line (z, within, ended, is) = subst (λ l. IsOfPerformance (status_of l)) (sym is) (end-performs z)
+
+performed-performs : (n : ℕ) (g : Listed) (input : List ℤ) (text : List ℕ) (s : Status) → IsPerformed n g input text s → IsOfPerformance s
+performed-performs n g input text s (steps, state, line, scheduled, outcome, says) =
+    subst IsOfPerformance (sym says.1) (outcome-performs (length steps) state.tree line outcome)
+
+-- what was given of a content
+given-is : (contents : Contents) (name content given : List ℕ) (limit : ℕ) → contents name ≡ Some content → IsGiven contents (record { name = name; limit = limit; given = given }) → given ≡ front limit content
+given-is contents name content given limit there is =
+    let both = sym there ∙ is.1 in
+    let same : is.0 ≡ content = cc in
+    is.2 ∙ ap (front limit) same
+
+bytes-perform : (bytes taken : List ℕ) (line : Line) → taken ≡ front LIMIT_INPUT bytes → length bytes ≤ LIMIT_INPUT → RefusesBytes taken line → IsOfPerformance (status_of line)
+bytes-perform bytes taken LimitInput is within long =
+    let whole = is ∙ whole-front LIMIT_INPUT bytes within in
+    absurd (omega (arith, within, long, ap length whole))
+bytes-perform bytes taken Memory is within refused = tt
+bytes-perform bytes taken _ is within refused = absurd refused
+
+input-performs : (contents : Contents) (input : Option (List ℕ)) (givens : List (List ℕ)) (bytes : List ℕ) (line : Line) → AreGiven contents (readings_of (input_files input) givens) → IsInput contents input bytes
+    → length bytes ≤ LIMIT_INPUT → status_of line ≢ status.ReadFault → RefusesInput input givens line → IsOfPerformance (status_of line)
+input-performs contents None givens bytes line given is within not refused = absurd refused
+input-performs contents (Some input) [] bytes line given is within not unread = unread-performs input line unread not
+input-performs contents (Some input) (taken ∷ []) bytes line given is within not refused =
+    bytes-perform bytes taken line (given-is contents input bytes taken LIMIT_INPUT is given.0) within refused
+input-performs contents (Some input) (taken ∷ more ∷ others) bytes line given is within not refused = absurd refused
+
+perform-performs : (contents : Contents) (n : ℕ) (action : List ℕ) (input : Option (List ℕ)) (givens : List (List ℕ)) (text : List ℕ) (s : Status)
+    → AreGiven contents (readings_of (files_if (Some (Perform n action input))) givens) → Replies (Perform n action input) givens text s → s ≢ status.ReadFault → PerformsAsked contents (Some (Perform n action input)) s
+perform-performs contents n action input [] text s given (inl (line, unread, says)) not content g bytes there reads is within =
+    subst IsOfPerformance (sym says.1) (unread-performs action line unread (λ e. not (says.1 ∙ e)))
+perform-performs contents n action input [] text s given (inr none) not content g bytes there reads is within = absurd none
+perform-performs contents n action input (b ∷ givens) text s given (inl (line, inl (none, refused), says)) not content g bytes there reads is within =
+    subst IsOfPerformance (sym says.1) (memory-performs line (content-refused content b g line (given-is contents action content b LIMIT_ACTION there given.0) reads refused))
+perform-performs contents n action input (b ∷ givens) text s given (inl (line, inr (is_action, refused), says)) not content g bytes there reads is within =
+    subst IsOfPerformance (sym says.1) (input-performs contents input givens bytes line given.1 is within (λ e. not (says.1 ∙ e)) refused)
+perform-performs contents n action input (b ∷ givens) text s given (inr (h, integers, read, is_input, performed)) not content g bytes there reads is within =
+    performed-performs n h integers text s performed
+
+-- what is replied to a command over a store that tells its contents
+pub reply-performs : (contents : Contents) (asked : Option Command) (givens : List (List ℕ)) (text : List ℕ) (s : Status) → AreGiven contents (readings_of (files_if asked) givens) → RepliesIf asked givens text s
+    → s ≢ status.ReadFault → PerformsAsked contents asked s
+reply-performs contents None givens text s given reply not = tt
+reply-performs contents (Some (Act action)) givens text s given reply not = tt
+reply-performs contents (Some (Perform n action input)) givens text s given reply not = perform-performs contents n action input givens text s given reply not
+reply-performs contents (Some Help) givens text s given reply not = tt
+reply-performs contents (Some Version) givens text s given reply not = tt

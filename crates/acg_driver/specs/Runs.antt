@@ -1,0 +1,63 @@
+-- What the run of a graph's action says.
+use Rattle.std.specs.Prelude.{◌≡◌, ℕ, zero, suc, List, [], ◌++◌}
+use Rattle.acg_base.specs.declared.status.Status.{Status}
+use Rattle.action_terms.specs.Numbering.{Listed}
+use Rattle.action_terms.specs.Meaning.{action_of}
+use Rattle.action_terms.specs.Performances.{records}
+use Rattle.rv_code.specs.Machine.{Outcome, Ran, Exited, Trapped, run}
+use Rattle.rv_code.specs.Images.{Image, started}
+use Rattle.rv_codegen.specs.RightImage.{IsRight}
+use Rattle.rv_codegen.specs.Measures.{subject_of, node_count, factor_of}
+use Rattle.rv_machine.specs.Machines.{MachineValue, loaded_machine}
+use Rattle.acg_words.specs.Lines.{header_line, message_lines}
+use Rattle.acg_words.specs.declared.line.Line.{Line}
+use Rattle.acg_words.specs.declared.line.Line.TheVariants.{Completed, Failed, Escaped, Full, Running}
+use Rattle.acg_driver.specs.Says.{SaysBehind}
+use Rattle.acg_driver.specs.declared.running.Loaded.{Loaded}
+
+-- the words of the stack and the units, and the instructions of a run
+abbrev pub default_stack : ℕ
+default_stack = 1048576
+
+abbrev pub default_units : ℕ
+default_units = 262144
+
+abbrev pub default_budget : ℕ
+default_budget = 10000000
+
+-- the messages of an output, a line each
+abbrev pub output_lines : List ℕ → List ℕ
+output_lines output = message_lines (records output)
+
+-- the line that an exit with a code has
+abbrev pub IsExit : ℕ → Line → Type 0
+IsExit zero line = line ≡ Completed
+IsExit (suc zero) line = line ≡ Failed
+IsExit (suc (suc zero)) line = line ≡ Escaped
+IsExit (suc (suc (suc zero))) line = line ≡ Full
+IsExit (suc (suc (suc (suc code)))) line = ⊥
+
+-- what a run says: the messages that were sent, then the line of its exit, or that it is still running
+abbrev pub IsRunOf : Outcome → (text : List ℕ) → Status → Type 0
+IsRunOf (Ran s) text status = SaysBehind (output_lines s.output) Running text status
+IsRunOf (Exited code output) text status = (line : Line) × IsExit code line × SaysBehind (output_lines output) line text status
+IsRunOf (Trapped cause) text status = ⊥
+
+-- some image is right for the action of the graph, with the default capacity and the printed factor; behind the header
+-- line stands its run, on no input, within the default budget
+abbrev pub IsRun : Listed → (text : List ℕ) → Status → Type 0
+IsRun g text status =
+    (image : Image) × IsRight image (node_count g) (subject_of g default_stack default_units)
+    × ((rest : List ℕ) × (text ≡ header_line default_stack default_units (factor_of (action_of g)) ++ rest)
+    × IsRunOf (run default_budget (started image [])) rest status)
+
+-- the machine stands before the first instruction of an image that is right for the graph's action, with the default
+-- capacity
+abbrev pub IsRightStart : Listed → MachineValue → Type 0
+IsRightStart g machine =
+    (image : Image) × IsRight image (node_count g) (subject_of g default_stack default_units)
+    × (machine ≡ loaded_machine image)
+
+-- so does the machine that is loaded, and the factor is that of the action
+abbrev pub IsLoaded : Listed → Loaded → Type 0
+IsLoaded g loaded = IsRightStart g loaded.machine × (loaded.factor ≡ factor_of (action_of g))

@@ -1,0 +1,5 @@
+//! The commands.
+
+pub mod act;
+pub mod help;
+pub mod perform;

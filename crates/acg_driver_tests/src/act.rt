@@ -1,0 +1,76 @@
+//! The worked rows of `act`, `help` and `version`, over a map of files and a list of bytes.
+
+use crate::tools::answers;
+use acg_base::Status;
+use std::alloc::Global;
+use std::test::Fail;
+
+// Whether `act a` prints these lines for the action, and answers this status.
+fn acts(alloc: Global, action: &[u8], printed: &[u8], status: Status) -> Result<bool, Fail> {
+    answers(alloc, &["act", "a"], action, b"", printed, status)
+}
+
+#[test]
+fn performances(rt: HostRuntime) -> Result<(), Fail> {
+    let alloc = rt.alloc();
+    assert!(rt;
+        acts(
+            alloc,
+            b"send 42",
+            b"stack 1048576 units 262144 factor 448\n42\ncompleted\n",
+            Status::Done,
+        )?
+    );
+    assert!(rt;
+        acts(
+            alloc,
+            b"(send 1 and then send -2) and complete",
+            b"stack 1048576 units 262144 factor 448\n1\n-2\ncompleted\n",
+            Status::Done,
+        )?
+    );
+    assert!(rt;
+        acts(
+            alloc,
+            b"fail and then send 1",
+            b"stack 1048576 units 262144 factor 448\nfailed\n",
+            Status::Failed,
+        )?
+    );
+    assert!(rt;
+        acts(
+            alloc,
+            b"complete",
+            b"stack 1048576 units 262144 factor 424\ncompleted\n",
+            Status::Done,
+        )?
+    );
+    Ok(())
+}
+
+#[test]
+fn refusals(rt: HostRuntime) -> Result<(), Fail> {
+    let alloc = rt.alloc();
+    assert!(rt; acts(alloc, b"give 1", b"unbuilt 0\n", Status::Action)?);
+    assert!(rt; acts(alloc, b"send ?", b"action byte 5\n", Status::Action)?);
+    assert!(rt; acts(alloc, b"send 1 and", b"action text 10\n", Status::Action)?);
+    assert!(rt; acts(alloc, b"unfold", b"stray unfold 0\n", Status::Action)?);
+    let long = vec![in alloc; b' '; 1048577]?;
+    assert!(rt; acts(alloc, &long, b"limit action 1048576\n", Status::Limit)?);
+    Ok(())
+}
+
+#[test]
+fn command_lines(rt: HostRuntime) -> Result<(), Fail> {
+    let alloc = rt.alloc();
+    for list in [
+        [""].as_slice(),
+        ["act"].as_slice(),
+        ["act", "a", "a"].as_slice(),
+        ["help", "act"].as_slice(),
+    ] {
+        assert!(rt; answers(alloc, list, b"send 42", b"", b"words\n", Status::Words)?);
+    }
+    assert!(rt; answers(alloc, &["version"], b"", b"", b"acg 0.2.0\n", Status::Done)?);
+    Ok(())
+}

@@ -1,0 +1,15 @@
+//! Tests of `acg_driver`: a crate with tests is proved twice, so they stand in one of their own.
+#![tactic(auto)]
+
+#[cfg(test)]
+mod act;
+#[cfg(test)]
+mod assembled;
+#[cfg(test)]
+mod faults;
+#[cfg(test)]
+mod others;
+#[cfg(test)]
+mod perform;
+#[cfg(test)]
+mod tools;

@@ -1,0 +1,54 @@
+//! What the tests share: words, files, sinks, and whether a request answers as wanted.
+
+use acg_base::{ListSink, MapStore, Name, Status, Words};
+use acg_driver::serve;
+use std::alloc::Global;
+use std::test::Fail;
+
+/// The words of a command line.
+pub fn words(alloc: Global, list: &[&str]) -> Result<Words, Fail> {
+    let mut words = Vec::new(alloc);
+    for word in list {
+        words.push(String::from_str(alloc, word)?)?;
+    }
+    Ok(Words::new(words))
+}
+
+// A file.
+fn file(alloc: Global, name: &str, bytes: &[u8]) -> Result<(Name, Vec<u8>), Fail> {
+    let name = Name::new(alloc, name).ok().ok_or("memory")?;
+    Ok((name, Vec::from_slice(alloc, bytes)?))
+}
+
+/// A store with an action at the name `a` and an input at the name `i`. Its reads of these numbers fail.
+pub fn store(
+    alloc: Global,
+    action: &[u8],
+    input: &[u8],
+    reads: Vec<u32>,
+) -> Result<MapStore, Fail> {
+    let mut files = Vec::new(alloc);
+    files.push(file(alloc, "a", action)?)?;
+    files.push(file(alloc, "i", input)?)?;
+    Ok(MapStore::new(alloc, files, reads, Vec::new(alloc)))
+}
+
+/// A sink with room for every row. Its writes of these numbers fail.
+pub fn sink(alloc: Global, writes: Vec<u32>) -> Result<ListSink, Fail> {
+    Ok(ListSink::new(alloc, 2048, writes).ok().ok_or("memory")?)
+}
+
+/// Whether the words print these lines for the action and the input, and answer this status.
+pub fn answers(
+    alloc: Global,
+    list: &[&str],
+    action: &[u8],
+    input: &[u8],
+    printed: &[u8],
+    status: Status,
+) -> Result<bool, Fail> {
+    let mut files = store(alloc, action, input, Vec::new(alloc))?;
+    let mut out = sink(alloc, Vec::new(alloc))?;
+    let answer = serve(alloc, &words(alloc, list)?, &mut files, &mut out);
+    Ok(answer == status && out.bytes() == printed)
+}
