@@ -39,8 +39,7 @@ module _ {K : Type 0} {sink : Ghosts K} where
   perform-said n input [] p starts said = absurd starts
   perform-said n input (bytes ∷ givens) p (integers, reads, is_input, is) said =
       let same : p.state.world.input ≡ integers = ap (λ (s : State). s.world.input) is in
-      let performed = subst (λ i. IsPerformed n p.graph i said.text said.status) same said.said in
-      (
+      let performed = subst (λ i. IsPerformed n p.graph i said.text said.status) same said.said in (
         record { text = said.text; status = said.status; said = (p.graph, integers, reads, is_input, performed); answered = said.answered },
-        performed-other n p.graph integers said.text said.status performed
+        performed-other n p.graph integers said.text said.status performed,
       )

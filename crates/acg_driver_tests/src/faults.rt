@@ -42,7 +42,12 @@ fn writes(rt: HostRuntime) -> Result<(), Fail> {
             alloc,
             &["act", "a"],
             action,
-            &[header, b"1\n".as_slice(), b"-2\n".as_slice(), b"completed\n".as_slice()],
+            &[
+                header,
+                b"1\n".as_slice(),
+                b"-2\n".as_slice(),
+                b"completed\n".as_slice()
+            ],
             Status::Done,
         )?
     );
@@ -51,7 +56,11 @@ fn writes(rt: HostRuntime) -> Result<(), Fail> {
             alloc,
             &["perform", "0", "a"],
             action,
-            &[b"1\n".as_slice(), b"-2\n".as_slice(), b"completed\n".as_slice()],
+            &[
+                b"1\n".as_slice(),
+                b"-2\n".as_slice(),
+                b"completed\n".as_slice()
+            ],
             Status::Done,
         )?
     );
@@ -60,7 +69,11 @@ fn writes(rt: HostRuntime) -> Result<(), Fail> {
             alloc,
             &["act", "absent"],
             action,
-            &[b"read fault ".as_slice(), b"absent".as_slice(), b"\n".as_slice()],
+            &[
+                b"read fault ".as_slice(),
+                b"absent".as_slice(),
+                b"\n".as_slice()
+            ],
             Status::ReadFault,
         )?
     );
@@ -77,7 +90,10 @@ fn reads(rt: HostRuntime) -> Result<(), Fail> {
     ] {
         let mut files = store(alloc, b"send 42", b"", vec![in alloc; failing]?)?;
         let mut out = sink(alloc, Vec::new(alloc))?;
-        assert_eq!(rt; serve(alloc, &perform, &mut files, &mut out), Status::ReadFault);
+        assert_eq!(rt;
+            serve(alloc, &perform, &mut files, &mut out),
+            Status::ReadFault
+        );
         assert_eq!(rt; out.bytes(), fault);
     }
     let mut files = store(alloc, b"send 42", b"", vec![in alloc; 0]?)?;

@@ -110,7 +110,10 @@ fn denied_writes(rt: HostRuntime) -> Result<(), Fail> {
     let mut files = single(alloc, b"send 1 and then send 2", 9)?;
     let mut out = denier(alloc, 1);
     let act = words(alloc, &["act", "any name"])?;
-    assert_eq!(rt; serve(alloc, &act, &mut files, &mut out), Status::WriteFault);
+    assert_eq!(rt;
+        serve(alloc, &act, &mut files, &mut out),
+        Status::WriteFault
+    );
     assert_eq!(rt;
         out.bytes.as_slice(),
         b"stack 1048576 units 262144 factor 448\n1\n".as_slice()
@@ -127,7 +130,10 @@ fn starved_reads(rt: HostRuntime) -> Result<(), Fail> {
     for starved in 0..2 {
         let mut files = single(alloc, b"send 1", starved)?;
         let mut out = denier(alloc, 9);
-        assert_eq!(rt; serve(alloc, &perform, &mut files, &mut out), Status::Memory);
+        assert_eq!(rt;
+            serve(alloc, &perform, &mut files, &mut out),
+            Status::Memory
+        );
         assert_eq!(rt; out.bytes.as_slice(), b"memory\n".as_slice());
         assert_eq!(rt; files.reads, starved + 1);
     }

@@ -25,7 +25,14 @@ fn sends_received(
     status: Status,
 ) -> Result<bool, Fail> {
     let action = b"receive an integer then send the given integer";
-    answers(alloc, &["perform", "0", "a", "i"], action, input, printed, status)
+    answers(
+        alloc,
+        &["perform", "0", "a", "i"],
+        action,
+        input,
+        printed,
+        status,
+    )
 }
 
 #[test]

@@ -18,7 +18,10 @@ fn words(alloc: Global, list: &[&str]) -> Result<Words, Fail> {
 fn command_lines(rt: HostRuntime) -> Result<(), Fail> {
     let alloc = rt.alloc();
     let act = words(alloc, &["act", "a"])?;
-    assert_eq!(rt; parse_command(&act), Some(Command::Act(Act { action: "a" })));
+    assert_eq!(rt;
+        parse_command(&act),
+        Some(Command::Act(Act { action: "a" }))
+    );
     let perform = words(alloc, &["perform", "9223372036854775807", "a", "help"])?;
     assert_eq!(rt;
         parse_command(&perform),
@@ -28,8 +31,14 @@ fn command_lines(rt: HostRuntime) -> Result<(), Fail> {
             input: Some("help"),
         }))
     );
-    assert_eq!(rt; parse_command(&words(alloc, &["help"])?), Some(Command::Help));
-    assert_eq!(rt; parse_command(&words(alloc, &["version"])?), Some(Command::Version));
+    assert_eq!(rt;
+        parse_command(&words(alloc, &["help"])?),
+        Some(Command::Help)
+    );
+    assert_eq!(rt;
+        parse_command(&words(alloc, &["version"])?),
+        Some(Command::Version)
+    );
     for list in [
         [].as_slice(),
         [""].as_slice(),
@@ -53,7 +62,11 @@ fn command_lines(rt: HostRuntime) -> Result<(), Fail> {
 
 // A sink with room for the usage.
 fn sink(alloc: Global) -> Result<ListSink, Fail> {
-    Ok(ListSink::new(alloc, 2048, Vec::new(alloc)).ok().ok_or("memory")?)
+    Ok(
+        ListSink::new(alloc, 2048, Vec::new(alloc))
+            .ok()
+            .ok_or("memory")?,
+    )
 }
 
 const USAGE: &[u8] = b"acg act ACTION
@@ -93,8 +106,14 @@ fn lines(rt: HostRuntime) -> Result<(), Fail> {
     let alloc = rt.alloc();
     let name = Name::new(alloc, "a b").ok().ok_or("memory")?;
     let mut out = sink(alloc)?;
-    assert_eq!(rt; Line::ReadFault { name }.answer(&mut out), Status::ReadFault);
-    assert_eq!(rt; Line::ActionByte { offset: 1_048_575 }.answer(&mut out), Status::Action);
+    assert_eq!(rt;
+        Line::ReadFault { name }.answer(&mut out),
+        Status::ReadFault
+    );
+    assert_eq!(rt;
+        Line::ActionByte { offset: 1_048_575 }.answer(&mut out),
+        Status::Action
+    );
     assert_eq!(rt; Line::LimitNodes.answer(&mut out), Status::Limit);
     assert_eq!(rt;
         out.bytes(),

@@ -48,12 +48,7 @@ fn prepare<S: Store>(alloc: Global, command: Act<'_>, store: &mut S) -> Result<L
 }
 
 /// Reads the file with the action, compiles it, and runs its image on no input.
-pub fn act<S: Store, K: Sink>(
-    alloc: Global,
-    command: Act<'_>,
-    store: &mut S,
-    out: &mut K,
-) -> Status
+pub fn act<S: Store, K: Sink>(alloc: Global, command: Act<'_>, store: &mut S, out: &mut K) -> Status
     ensures { Handled S.Store K.Sink (Some (act_asked command.entry))
         store.old store.new out.old out.new result }
 {

@@ -20,11 +20,7 @@ use bumpalo::Bump;
 use std::alloc::Global;
 
 // Reads the integers of the input; without a file there are none.
-fn read_input<S: Store>(
-    alloc: Global,
-    input: Option<&str>,
-    store: &mut S,
-) -> Result<Vec<i64>, Line>
+fn read_input<S: Store>(alloc: Global, input: Option<&str>, store: &mut S) -> Result<Vec<i64>, Line>
     ensures taken { let name = option_map (λ file. file.now) input.entry in
         IfOk result (λ list. ((givens : List (List ℕ)) × IsInputOf name givens list.items
         × ReadOnly S.Store (readings_of (input_files name) givens) Done store.old store.new)) }

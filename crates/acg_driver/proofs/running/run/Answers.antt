@@ -20,8 +20,15 @@ pub returns-in-Ok : goal.returns-in-Ok
 returns-in-Ok g c = λ graph loaded.
     let start = loaded.0 in
     said-then {P = IsRunOf (run default_budget (state_of c.args.loaded.now.machine [] []))} {Q = IsRun graph} c.in-Ok.ensures.done
-    (λ rest s runs. (start.0, start.1, (rest, ap (λ factor. header_line default_stack default_units factor ++ rest) loaded.1,
-    subst (λ machine. IsRunOf (run default_budget (state_of machine [] [])) rest s) start.2 runs)))
+    (λ rest s runs. (
+      start.0,
+      start.1,
+      (
+        rest,
+        ap (λ factor. header_line default_stack default_units factor ++ rest) loaded.1,
+        subst (λ machine. IsRunOf (run default_budget (state_of machine [] [])) rest s) start.2 runs,
+      ),
+    ))
     c.run_machine.ensures
 
 pub returns-in-Err-Failed : goal.returns-in-Err-Failed
@@ -31,6 +38,12 @@ returns-in-Err-Failed g c = λ graph loaded.
     let sane : (m : ℕ) → SendsMessages (run m (state_of machine [] [])) = λ m. subst (λ k. SendsMessages (run m (state_of k [] []))) (sym start.2) (right-sends start.0 (node_count graph) (subject_of graph default_stack default_units) start.1 m) in
     let whole = whole-run default_budget machine sane in
     let rest = output_lines (sent_in default_budget machine []) ++ bytes_of whole.line in
-    said-broke {P = IsRun graph} rest (status_of whole.line) c.in-Err-Failed.ensures.failed
-    (start.0, start.1, (rest, ap (λ factor. header_line default_stack default_units factor ++ rest) loaded.1,
-    subst (λ k. IsRunOf (run default_budget (state_of k [] [])) rest (status_of whole.line)) start.2 whole.right))
+    said-broke {P = IsRun graph} rest (status_of whole.line) c.in-Err-Failed.ensures.failed (
+      start.0,
+      start.1,
+      (
+        rest,
+        ap (λ factor. header_line default_stack default_units factor ++ rest) loaded.1,
+        subst (λ k. IsRunOf (run default_budget (state_of k [] [])) rest (status_of whole.line)) start.2 whole.right,
+      ),
+    )

@@ -27,6 +27,6 @@ returns-clause-refused g c =
     IfErr-weaker c.load_text.result (Refuses c.deref.result.now)
     (λ line. (givens : List (List ℕ)) × RefusesAct action givens line × ReadOnly g.S.Store (readings_of (file Action action ∷ []) givens) (status_of line) c.args.store.now c.read_file.new.store)
     (λ line refused.
-        let refuses : Refuses bytes line = subst (λ b. Refuses b line) c.deref.ensures.value refused in
-        (bytes ∷ [], refuses, reads-as (status_of line) (load-other bytes line refuses) c.in_ok-bytes.ensures.given))
+    let refuses : Refuses bytes line = subst (λ b. Refuses b line) c.deref.ensures.value refused in
+    (bytes ∷ [], refuses, reads-as (status_of line) (load-other bytes line refuses) c.in_ok-bytes.ensures.given))
     c.load_text.ensures.refused
