@@ -6,18 +6,12 @@ use Rattle.rv_code.specs.declared.instruction.Inst.{Inst}
 use Rattle.rv_code.specs.Encode.{is_encodable}
 use Rattle.std.proofs.Common.{All, true, ltb, lt-ltb}
 use Rattle.rv_asm.specs.Pieces.{send_word, exit_with}
+use Rattle.rv_asm.specs.PieceRuns.{CanSend}
 use Rattle.rv_asm.specs.WordMachine.{WordState, Goes, Exits, get, put, run_words, word_index, Has}
 use Rattle.rv_asm.proofs.Encodings.{All-each_encodes}
 use Rattle.rv_asm.proofs.Places.{word_index-inside}
 use Rattle.rv_asm.proofs.Registers.{put-other}
 use Rattle.rv_asm.proofs.Stretches.{then-runs, then-ends, Between, one-between, quiet-then-between}
-
--- a piece that sends is ready to run: register 3 holds the region's address, and the word that it uses is inside
-pub record CanSend (base place : ℕ) (c : WordState) : Type 0 where
-  pub aligned : base % 8 ≡ 0
-  pub below : base + 8 * place < 2 ^ 64
-  pub region : c.registers 3 ≡ base
-  pub inside : place < length c.words
 
 module _ (base : ℕ) (code : List Inst) (register place : ℕ) (c : WordState) where
   -- the region's words with the message in its place

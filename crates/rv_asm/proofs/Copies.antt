@@ -1,22 +1,13 @@
 -- Words of the region that are copied to other places.
-use Rattle.std.proofs.Common.{◌≡◌, ◌≢◌, ℕ, zero, suc, ◌+◌, ◌*◌, ◌%◌, ◌^◌, ◌<◌, ◌≤◌, List, length, get_or, set, refl, sym, ap, ◌∙◌, subst, arith, length-set, ◌⊎◌, ⊎_elim, inl, inr, get_or-set_same, get_or-set_other}
+use Rattle.std.proofs.Common.{◌≡◌, ◌≢◌, ℕ, zero, suc, ◌+◌, ◌*◌, ◌<◌, ◌≤◌, List, length, get_or, set, refl, sym, ap, ◌∙◌, subst, arith, length-set, ◌⊎◌, ⊎_elim, inl, inr, get_or-set_same, get_or-set_other}
 use Rattle.rv_code.specs.Arithmetic.{wrap}
 use Rattle.rv_code.specs.declared.instruction.Inst.{Inst}
 use Rattle.rv_asm.specs.Pieces.{copy_words}
+use Rattle.rv_asm.specs.PieceRuns.{IsCopied, AreDisjoint, CanCopy}
 use Rattle.rv_asm.specs.WordMachine.{WordState, Goes, get, put, run_words, Has}
 use Rattle.rv_asm.proofs.Places.{word_index-inside}
 use Rattle.rv_asm.proofs.Registers.{put-other, get-put_same, get-put_other}
 use Rattle.rv_asm.proofs.Stretches.{then-runs}
-
--- n words from place a on stand from place b on, and all else is as before
-pub record IsCopied (n a b : ℕ) (old new : List ℕ) : Type 0 where
-  pub size : length new ≡ length old
-  pub moved : (k : ℕ) → k < n → get_or new (b + k) 0 ≡ get_or old (a + k) 0
-  pub kept : (j : ℕ) → (j < b) ⊎ (b + n ≤ j) → get_or new j 0 ≡ get_or old j 0
-
--- two ranges of n words have none in common
-abbrev pub AreDisjoint : ℕ → ℕ → ℕ → Type 0
-AreDisjoint n a b = (a + n ≤ b) ⊎ (b + n ≤ a)
 
 copied-none : (a b : ℕ) (ws : List ℕ) → IsCopied 0 a b ws ws
 copied-none a b ws = record { size = refl; moved = λ k h. absurd (omega arith); kept = λ j h. refl }
@@ -42,26 +33,17 @@ copied-more n a b ws new h apart c = record { size = c.size ∙ length-set ws b 
     kept j out =
         c.kept j (⊎_elim (λ lt. inl (omega arith)) (λ ge. inr (omega arith)) out) ∙ get_or-set_other ws b j (get_or ws a 0) 0 (⊎_elim (λ lt. omega arith) (λ ge. omega arith) out)
 
--- a piece that copies is ready to run: its registers hold addresses of words of the region, and its ranges are inside
-pub record CanCopy (base : ℕ) (n scratch source from target to i j : ℕ) (c : WordState) : Type 0 where
-  pub aligned : base % 8 ≡ 0
-  pub below : base + 8 * length c.words < 2 ^ 64
-  pub some_register : 0 < scratch
-  pub other_source : source ≢ scratch
-  pub other_target : target ≢ scratch
-  pub source_is : get c.registers source ≡ base + 8 * i
-  pub target_is : get c.registers target ≡ base + 8 * j
-  pub source_inside : i + from + n ≤ length c.words
-  pub target_inside : j + to + n ≤ length c.words
-  pub apart : AreDisjoint n (i + from) (j + to)
-
 -- what a piece that copies leaves: the words copied, the scratch register changed at most, and its instructions done
-pub record HasCopied (base : ℕ) (code : List Inst) (n scratch a b : ℕ) (c : WordState) : Type 0 where
+pub record CopyRuns (base : ℕ) (code : List Inst) (n scratch a b : ℕ) (c : WordState) : Type 0 where
   pub words : List ℕ
   pub registers : ℕ → ℕ
   pub runs : run_words base code (2 * n) c ≡ Goes (record c { pc = c.pc + 8 * n; registers = registers; words = words })
   pub copied : IsCopied n a b c.words words
   pub others : (k : ℕ) → k ≢ scratch → registers k ≡ c.registers k
+
+pub length-copy_words : (n scratch source from target to : ℕ) → length (copy_words n scratch source from target to) ≡ 2 * n
+length-copy_words zero scratch source from target to = refl
+length-copy_words (suc n) scratch source from target to = omega (arith, length-copy_words n scratch source (from + 1) target (to + 1))
 
 module _ (base : ℕ) (code : List Inst) where
   -- the state behind the first word
@@ -104,8 +86,8 @@ module _ (base : ℕ) (code : List Inst) where
   more :
       (n scratch source from target to i j : ℕ) (c : WordState) → CanCopy base (suc n) (suc scratch) source from target to i j c →
       run_words base code 2 c ≡ Goes (copied_one c (suc scratch) (i + from) (j + to)) →
-      HasCopied base code n (suc scratch) (i + (from + 1)) (j + (to + 1)) (copied_one c (suc scratch) (i + from) (j + to)) →
-      HasCopied base code (suc n) (suc scratch) (i + from) (j + to) c
+      CopyRuns base code n (suc scratch) (i + (from + 1)) (j + (to + 1)) (copied_one c (suc scratch) (i + from) (j + to)) →
+      CopyRuns base code (suc n) (suc scratch) (i + from) (j + to) c
   more n scratch source from target to i j c can first rest =
       let d = copied_one c (suc scratch) (i + from) (j + to) in
       let m : 2 + 2 * n ≡ 2 * suc n = omega arith in
@@ -126,7 +108,7 @@ module _ (base : ℕ) (code : List Inst) where
   pub copy_words-runs :
       (n scratch source from target to i j : ℕ) (c : WordState) → CanCopy base n scratch source from target to i j c →
       Has code c.pc (copy_words n scratch source from target to) →
-      HasCopied base code n scratch (i + from) (j + to) c
+      CopyRuns base code n scratch (i + from) (j + to) c
   copy_words-runs n zero source from target to i j c can h = absurd (omega (arith, can.some_register))
   copy_words-runs zero (suc d) source from target to i j c can h =
       let e : c.pc ≡ c.pc + 8 * 0 = omega arith in

@@ -10,7 +10,8 @@ use Rattle.rv_asm.specs.Meanings.{Meaning, Follows}
 use Rattle.rv_asm.specs.Pieces.{load_constant, copy_words}
 use Rattle.rv_asm.specs.WordMachine.{WordState, Goes, put, run_words, start_state}
 use Rattle.rv_asm.proofs.Constants.{load_constant-runs}
-use Rattle.rv_asm.proofs.Copies.{CanCopy, HasCopied, copy_words-runs}
+use Rattle.rv_asm.specs.PieceRuns.{CanCopy}
+use Rattle.rv_asm.proofs.Copies.{CopyRuns, copy_words-runs}
 use Rattle.rv_asm.proofs.Encodings.{All-each_encodes}
 use Rattle.rv_asm.proofs.Follows.{follows-compiled}
 use Rattle.rv_asm.proofs.Moments.{Advances, quiet-advance}
@@ -40,7 +41,7 @@ can-copy = record {
   apart = inl (omega arith);
 }
 
-copy-runs : HasCopied 69632 (copy_words 2 5 3 1 2 4) 2 5 1 4 copying
+copy-runs : CopyRuns 69632 (copy_words 2 5 3 1 2 4) 2 5 1 4 copying
 copy-runs = copy_words-runs 69632 (copy_words 2 5 3 1 2 4) 2 5 3 1 2 4 0 0 copying can-copy (Has-whole (copy_words 2 5 3 1 2 4))
 
 -- ---- a loop without end: one instruction before it, and two for each round, each of which is a step

@@ -25,3 +25,4 @@ pub mod Appended
 pub mod Fronts
 pub mod Sending
 mod LabelsExample
+pub mod PieceLeads

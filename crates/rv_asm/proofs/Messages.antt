@@ -13,7 +13,8 @@ use Rattle.rv_asm.specs.Messages.{messages_code, messages_program, IsMoment, Sen
 use Rattle.rv_asm.specs.Pieces.{load_constant, send_word}
 use Rattle.rv_asm.specs.WordMachine.{WordState, put, Has, word_bytes, start_state}
 use Rattle.rv_asm.proofs.Regions.{compiled-below}
-use Rattle.rv_asm.proofs.Calls.{CanSend, after_send, send_word-runs, send_word-between, before_exit, before_exit-runs, exit-stops, send_word-encodable, exit_with-encodable}
+use Rattle.rv_asm.specs.PieceRuns.{CanSend}
+use Rattle.rv_asm.proofs.Calls.{after_send, send_word-runs, send_word-between, before_exit, before_exit-runs, exit-stops, send_word-encodable, exit_with-encodable}
 use Rattle.rv_asm.proofs.Constants.{load_constant-runs, length-load_constant, load_constant-encodable}
 use Rattle.rv_asm.proofs.Moments.{Advances, Stops, CodeFollows, sending-advance, quiet-stop}
 use Rattle.rv_asm.proofs.Follows.{follows-compiled}

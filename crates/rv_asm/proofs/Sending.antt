@@ -17,7 +17,8 @@ use Rattle.rv_asm.proofs.Messages.{messages-compiled}
 pub all-words : (ms : List ℕ) → ((i : ℕ) → Fits w64 (get_or ms i 0)) → All (λ w. w < 2 ^ 64) ms
 all-words ms h k d lt = rw (get_or_default_zero ms k d lt) (omega (arith, h k))
 
-code_from-plain : (at : ℕ → ℕ) (n : ℕ) (is : List Inst) → code_from at n (map Plain is) ≡ is
+-- plain items become the instructions that they are
+pub code_from-plain : (at : ℕ → ℕ) (n : ℕ) (is : List Inst) → code_from at n (map Plain is) ≡ is
 code_from-plain at n [] = refl
 code_from-plain at n (i ∷ is) = ap (λ k. i ∷ k) (code_from-plain at (n + 1) is)
 

@@ -6,3 +6,4 @@ pub mod Pieces
 pub mod Messages
 pub mod Assembly
 pub mod Arrivals
+pub mod PieceRuns

@@ -5,6 +5,7 @@ ghost use Rattle.std.specs.Prelude.{◌≡◌, ℕ, ◌+◌, ◌-◌, ◌*◌, �
 ghost use Rattle.rv_code.specs.declared.instruction.Inst.TheVariants.{OpImm, Upper, Shift, Load, Store, Ecall};
 ghost use Rattle.rv_code.specs.declared.instruction.OpImmOp.TheVariants.{Addi};
 ghost use Rattle.rv_asm.specs.Assembly.{Listing};
+ghost use Rattle.rv_asm.specs.PieceRuns.{LoadsConstant, CopiesWords, SendsWord, ExitsWith};
 ghost use Rattle.rv_asm.specs.Pieces.{appended, AppendsFrontOf, fits_immediate, low_part, high_part, parts_of, load_parts, load_constant, copy_words, send_word, exit_with};
 
 use crate::asm::Asm;
@@ -78,6 +79,7 @@ fn parts_into(asm: &mut Asm, rd: Reg, value: u64, parts: u8) -> Result<(), Memor
 /// Appends at most 8 instructions that put a number into a register, and change no other.
 pub fn load_constant(asm: &mut Asm, rd: Reg, value: u64) -> Result<(), Memory>
     ensures ok { OnOk result (asm.new ≡ appended asm.old (load_constant rd value)) }
+    ensures loads { OnOk result (LoadsConstant rd value asm.old asm.new) }
     ensures err { OnErr result (AppendsFrontOf (load_constant rd value) asm.old asm.new) }
 {
     if value < 2048 {
@@ -110,6 +112,7 @@ pub fn copy_words(
     requires from { from + n ≤ 256 }
     requires to { to + n ≤ 256 }
     ensures ok { OnOk result (asm.new ≡ appended asm.old (copy_words n scratch source from target to)) }
+    ensures copies { OnOk result (CopiesWords n scratch source from target to asm.old asm.new) }
     ensures err { OnErr result (AppendsFrontOf (copy_words n scratch source from target to) asm.old asm.new) }
 {
     for i in 0..n {
@@ -133,6 +136,7 @@ pub fn copy_words(
 /// change registers 10, 11, 12 and 17, and that word.
 pub fn send_word(asm: &mut Asm, register: Reg, place: u8) -> Result<(), Memory>
     ensures ok { OnOk result (asm.new ≡ appended asm.old (send_word register place)) }
+    ensures sends { OnOk result (SendsWord register place asm.old asm.new) }
     ensures err { OnErr result (AppendsFrontOf (send_word register place) asm.old asm.new) }
 {
     let offset = 8 * place as i32;
@@ -152,6 +156,7 @@ pub fn send_word(asm: &mut Asm, register: Reg, place: u8) -> Result<(), Memory>
 /// Appends 3 instructions that exit with a code.
 pub fn exit_with(asm: &mut Asm, code: u8) -> Result<(), Memory>
     ensures ok { OnOk result (asm.new ≡ appended asm.old (exit_with code)) }
+    ensures exits { OnOk result (ExitsWith code asm.old asm.new) }
     ensures err { OnErr result (AppendsFrontOf (exit_with code) asm.old asm.new) }
 {
     add(asm, Reg(10), Reg(0), code as i32)?;

@@ -6,7 +6,8 @@ use Rattle.rv_code.specs.declared.instruction.Inst.{Inst}
 use Rattle.rv_code.specs.declared.instruction.Inst.TheVariants.{Jalr}
 use Rattle.rv_asm.specs.Pieces.{send_word}
 use Rattle.rv_asm.specs.WordMachine.{WordState, Goes, run_words, Has}
-use Rattle.rv_asm.proofs.Calls.{CanSend, after_send, after_send-others, send_word-runs, send_word-between}
+use Rattle.rv_asm.specs.PieceRuns.{CanSend}
+use Rattle.rv_asm.proofs.Calls.{after_send, after_send-others, send_word-runs, send_word-between}
 use Rattle.rv_asm.proofs.Places.{Has-front}
 use Rattle.rv_asm.proofs.Stretches.{then-runs, Between, between-then-quiet}
 use Rattle.rv_codegen.specs.Blocks.{send_entry}

@@ -7,7 +7,7 @@ use Rattle.rv_asm.specs.Pieces.{load_constant}
 use Rattle.rv_asm.specs.WordMachine.{put, Has}
 use Rattle.rv_asm.specs.declared.item.Item.{Item}
 use Rattle.rv_asm.specs.declared.item.Item.TheVariants.{Plain, Mark, Jump, Address}
-use Rattle.rv_asm.proofs.Calls.{CanSend}
+use Rattle.rv_asm.specs.PieceRuns.{CanSend}
 use Rattle.rv_asm.proofs.Constants.{load_constant-runs, length-load_constant}
 use Rattle.rv_asm.proofs.Stretches.{then-runs, between-then-quiet, quiet-then-between}
 use Rattle.action_terms.specs.Information.{NoBinds}

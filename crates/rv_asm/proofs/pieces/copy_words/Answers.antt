@@ -1,10 +1,13 @@
 -- The two instructions of a word stand behind those of the words so far.
-use Rattle.std.proofs.Common.{◌≡◌, suc, ◌+◌, ◌-◌, ◌*◌, [], ◌∷◌, pos, to_z, of_z, w32, arith, rules, ap, ◌∙◌}
+use Rattle.std.proofs.Common.{◌≡◌, suc, ◌+◌, ◌-◌, ◌*◌, [], ◌∷◌, pos, to_z, of_z, w32, arith, rules, sym, ap, ◌∙◌, subst}
 use Rattle.std.proofs.lemmas.Int.{ints}
 use Rattle.rv_code.specs.declared.instruction.Inst.TheVariants.{Load}
 use Rattle.rv_code.specs.declared.instruction.LoadOp.TheVariants.{Ld}
-use Rattle.rv_asm.specs.Pieces.{appended}
+use Rattle.std.proofs.lemmas.Grind.{common_steps}
+use Rattle.rv_asm.specs.PieceRuns.{CopiesWords}
+use Rattle.rv_asm.specs.Pieces.{appended, copy_words}
 use Rattle.rv_asm.proofs.Appended.{appended-copy_words_more}
+use Rattle.rv_asm.proofs.PieceLeads.{copies-words}
 use Rattle.rv_asm.proofs.Fronts.{front-none, front-one, front-copied}
 use Rattle.rv_asm.proofs.pieces.copy_words.Goals as goal
 
@@ -32,3 +35,9 @@ returns-in_err-emit-2-clause-err c =
     front-copied c.loop-i.i (suc (c.args.n - c.loop-i.i - 1)) c.args.n c.args.scratch c.args.source c.args.from c.args.target c.args.to c.args.asm.now c.loop-i.asm c.emit-in-loop-i.new.self
     (omega arith) c.loop-i.invariant (front-one _ _ _ _ _ loaded (front-none _ _ _ c.in_err-emit-2.ensures.err)) in
     search rules
+
+pub returns-clause-copies : goal.returns-clause-copies
+returns-clause-copies c =
+    let a = c.args in
+    let same : c.loop-i.asm ≡ appended a.asm.now (copy_words a.n a.scratch a.source a.from a.target a.to) = first_of (search rules, grind (arith, common_steps)) in
+    subst (CopiesWords a.n a.scratch a.source a.from a.target a.to a.asm.now) (sym same) (copies-words a.asm.now a.n a.scratch a.source a.from a.target a.to)

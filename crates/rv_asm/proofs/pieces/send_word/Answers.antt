@@ -1,11 +1,13 @@
 -- Where an instruction isn't emitted, the assembler holds those before it.
-use Rattle.std.proofs.Common.{◌≡◌, ℕ, ◌*◌, [], ◌∷◌, pos, rules}
+use Rattle.std.proofs.Common.{◌≡◌, ℕ, ◌*◌, [], ◌∷◌, pos, OnOk, rules, arith}
+use Rattle.std.proofs.lemmas.Grind.{common_steps}
 use Rattle.std.proofs.lemmas.Result.{on_err_weaker}
 use Rattle.rv_code.specs.declared.instruction.Inst.TheVariants.{OpImm, Store, Ecall}
 use Rattle.rv_code.specs.declared.instruction.StoreOp.TheVariants.{Sd}
 use Rattle.rv_code.specs.declared.instruction.OpImmOp.TheVariants.{Addi}
 use Rattle.rv_asm.specs.Assembly.{Listing}
 use Rattle.rv_asm.specs.Pieces.{appended, AppendsFrontOf, send_word}
+use Rattle.rv_asm.proofs.PieceLeads.{sends-ok}
 use Rattle.rv_asm.proofs.Fronts.{front-none, front-one}
 use Rattle.rv_asm.proofs.pieces.send_word.Goals as goal
 
@@ -52,3 +54,8 @@ returns-clause-err c =
     behind_three c.args.register c.args.place c.args.asm.now c.emit.new.self c.add.new.asm c.add-2.new.asm c.emit-2.new.self
     (search rules) (search rules) (search rules) (front-one _ _ _ _ _ fourth (front-one _ _ _ _ _ fifth (front-none _ _ _ same))))
     c.emit-2.ensures.err
+
+pub returns-clause-sends : goal.returns-clause-sends
+returns-clause-sends c =
+    let ok : OnOk c.emit-2.result (c.emit-2.new.self ≡ appended c.args.asm.now (send_word c.args.register c.args.place)) = first_of (search rules, grind (arith, common_steps)) in
+    sends-ok c.emit-2.result c.args.asm.now c.emit-2.new.self c.args.register c.args.place ok
