@@ -81,10 +81,14 @@ impl Store for Single {
     fn write(&mut self, _name: &Name, _bytes: &[u8]) -> Result<(), StoreError> {
         Err(StoreError::Memory)
     }
+
+    ghost sure_tells = { λ _ sure. sure };
+
+    ghost sure_logs = { λ _ sure. sure };
 }
 
 // A store whose read of this number, from 0, finds no memory.
-fn single(alloc: Global, content: &[u8], starved: u64) -> Result<Single, Fail> {
+fn content_everywhere(alloc: Global, content: &[u8], starved: u64) -> Result<Single, Fail> {
     let content = Vec::from_slice(alloc, content)?;
     Ok(Single {
         content,
@@ -94,7 +98,7 @@ fn single(alloc: Global, content: &[u8], starved: u64) -> Result<Single, Fail> {
 }
 
 // A sink that denies the write of this number, from 0.
-fn denier(alloc: Global, denied: u64) -> Denier {
+fn denying_sink(alloc: Global, denied: u64) -> Denier {
     Denier {
         bytes: Vec::new(alloc),
         denied,
@@ -107,8 +111,8 @@ fn denier(alloc: Global, denied: u64) -> Denier {
 #[test]
 fn denied_writes(rt: HostRuntime) -> Result<(), Fail> {
     let alloc = rt.alloc();
-    let mut files = single(alloc, b"send 1 and then send 2", 9)?;
-    let mut out = denier(alloc, 1);
+    let mut files = content_everywhere(alloc, b"send 1 and then send 2", 9)?;
+    let mut out = denying_sink(alloc, 1);
     let act = words(alloc, &["act", "any name"])?;
     assert_eq!(rt;
         serve(alloc, &act, &mut files, &mut out),
@@ -128,8 +132,8 @@ fn starved_reads(rt: HostRuntime) -> Result<(), Fail> {
     let alloc = rt.alloc();
     let perform = words(alloc, &["perform", "0", "a", "i"])?;
     for starved in 0..2 {
-        let mut files = single(alloc, b"send 1", starved)?;
-        let mut out = denier(alloc, 9);
+        let mut files = content_everywhere(alloc, b"send 1", starved)?;
+        let mut out = denying_sink(alloc, 9);
         assert_eq!(rt;
             serve(alloc, &perform, &mut files, &mut out),
             Status::Memory
