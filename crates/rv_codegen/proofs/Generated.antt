@@ -23,7 +23,7 @@ use Rattle.rv_codegen.specs.Works.{node_of_work, action_of_works, FitsWord, unbu
 use Rattle.rv_codegen.specs.declared.work.Work.{Work}
 use Rattle.rv_codegen.specs.declared.work.Work.TheVariants as work
 use Rattle.rv_codegen.proofs.Compiling.{IsCompilable}
-use Rattle.rv_codegen.proofs.Loading.{compiled-loads}
+use Rattle.rv_codegen.proofs.Loading.{code_bytes-small, compiled-loads}
 use Rattle.rv_codegen.proofs.Right.{image-shows}
 use Rattle.rv_codegen.proofs.WorkLaws.{tree-of-graph, built-of-graph, length-action_of}
 
@@ -98,6 +98,6 @@ module _ (g : Listed) (graph : IsGraph g) (works : List Work) (same : action_of_
         let paid = λ (k n : ℕ) (le : n ≤ 0). factor-covers 0 (most_yielders a) n (node_yielder_count (node_at a k)) le (most-yielders a k) in
         subst (λ b. IsRight (compiled_image b stack units) (node_count g) x) (sym known.bytes)
         (record {
-          loads = compiled-loads (code_bytes code) stack units (node_count g) (length-nodes_few g graph) s u (omega (arith, size_is, few_items, size));
+          loads = compiled-loads (code_bytes code) stack units (node_count g) (code_bytes-small code) (length-nodes_few g graph) s u (omega (arith, size_is, few_items, size));
           shows = λ input is_bytes m. image-shows x compilable stand (omega (arith, few_items, few)) (omega arith) paid s_low s u input is_bytes known.encodable m;
         })

@@ -1,8 +1,13 @@
 -- The image of compiled code loads.
-use Rattle.std.proofs.Common.{ℕ, zero, suc, ◌+◌, ◌^◌, ◌≤◌, List, [], ◌∷◌, length, refl, arith, inl, inr}
+use Rattle.std.proofs.Common.{ℕ, zero, suc, ◌+◌, ◌^◌, ◌<◌, ◌≤◌, List, [], ◌∷◌, length, refl, arith, inl, inr}
 use Rattle.std.specs.Prelude.{All, AllPairs}
+use Rattle.std.proofs.lemmas.List.Elements.{All-nil, All-append}
+use Rattle.rv_code.specs.Bytes.{bytes_of}
+use Rattle.rv_code.specs.Encode.{word_of}
 use Rattle.rv_code.specs.Images.{ImageSegment, AreApart}
-use Rattle.rv_asm.specs.Conventions.{region_address, region_size}
+use Rattle.rv_code.specs.declared.instruction.Inst.{Inst}
+use Rattle.rv_code.proofs.ByteLaws.{bytes-small}
+use Rattle.rv_asm.specs.Conventions.{code_bytes, region_address, region_size}
 use Rattle.rv_codegen.specs.RightImage.{compiled_image, code_limit, Loads}
 
 -- a fact of each of two
@@ -20,8 +25,14 @@ AllPairs-two R x y r (suc i) zero d lt before = absurd (omega arith)
 AllPairs-two R x y r (suc i) (suc zero) d lt before = absurd (omega arith)
 AllPairs-two R x y r (suc i) (suc (suc j)) d lt before = absurd (omega arith)
 
-pub compiled-loads : (code : List ℕ) (stack units nodes : ℕ) → nodes ≤ 65536 → stack ≤ 16777216 → units ≤ 4194304 → length code ≤ code_limit nodes → Loads (compiled_image code stack units) stack units nodes
-compiled-loads code stack units nodes few s u short =
+-- the bytes of code are below 256
+pub code_bytes-small : (code : List Inst) → All (λ b. b < 256) (code_bytes code)
+unfolding code_bytes
+code_bytes-small [] = All-nil (λ b. b < 256)
+code_bytes-small (i ∷ code) = All-append (λ b. b < 256) (bytes_of 4 (word_of i)) (code_bytes code) (bytes-small 4 (word_of i)) (code_bytes-small code)
+
+pub compiled-loads : (code : List ℕ) (stack units nodes : ℕ) → All (λ b. b < 256) code → nodes ≤ 65536 → stack ≤ 16777216 → units ≤ 4194304 → length code ≤ code_limit nodes → Loads (compiled_image code stack units) stack units nodes
+compiled-loads code stack units nodes small few s u short =
     let size = length code in
     let behind : 65536 + size ≤ region_address size = omega arith in
     let below : region_address size ≤ 65536 + size + 4096 = omega arith in
@@ -36,6 +47,7 @@ compiled-loads code stack units nodes few s u short =
         apart = AllPairs-two AreApart code_part region (inr (inr (inl behind)));
         total = omega arith;
       };
+      bytes = All-two (λ x. All (λ b. b < 256) x.bytes) code_part region small (All-nil (λ b. b < 256));
       code = code;
       compiled = refl;
       short = short;

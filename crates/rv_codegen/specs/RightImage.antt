@@ -26,9 +26,10 @@ compiled_image code stack units = record {
 abbrev pub code_limit : ℕ → ℕ
 code_limit nodes = 4096 * nodes + 65536
 
--- the image loads, and is one of compiled code for the capacity that isn't too long
+-- the image loads, each segment of it is of bytes, and it is one of compiled code for the capacity that isn't too long
 pub record Loads (image : Image) (stack units nodes : ℕ) : Type 0 where
   pub valid : IsImage image
+  pub bytes : All (λ x. All (λ b. b < 256) x.bytes) image.segments
   pub code : List ℕ
   pub compiled : image ≡ compiled_image code stack units
   pub short : length code ≤ code_limit nodes
