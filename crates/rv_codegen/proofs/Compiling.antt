@@ -192,6 +192,8 @@ module _ (x : Subject) (ok : IsCompilable x.action) (labels : LabelsStand (actio
       placed = placed;
       part_node = part-there;
       same_frame = λ n k part. refl;
+      main_within = omega arith;
+      body_within = λ n c h. absurd h;
       phases = phases-laid;
       both = both-laid;
       small = omega (arith, small);

@@ -16,11 +16,14 @@ pub mod BindTables
 pub mod InputLeft
 pub mod Settings
 pub mod Units
+pub mod UnitsTaken
+pub mod UnitsStored
 pub mod Around
 pub mod AroundKept
 pub mod Configurations
 pub mod RestPoints
 pub mod Performing
+pub mod Fullness
 pub mod Emitting
 pub mod Entering
 pub mod Walk

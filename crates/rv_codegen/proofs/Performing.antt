@@ -10,7 +10,7 @@ use Rattle.rv_asm.proofs.Moments.{sending-advance, quiet-stop}
 use Rattle.rv_asm.proofs.Stretches.{Between, then-runs}
 use Rattle.action_terms.specs.Information.{Binds, Data}
 use Rattle.action_terms.specs.Acting.{Done, Tree, Run, Ended}
-use Rattle.action_terms.specs.Need.{effect_units, closures_units}
+use Rattle.action_terms.specs.Need.{effect_units, closures_units, Passes}
 use Rattle.action_terms.specs.Performances.{OneOf, messages_bytes}
 use Rattle.action_terms.specs.Steps.{Step, commits, world_after, failed, open_steps}
 use Rattle.action_terms.specs.Frames.{Frame, plug, plugged, shut_all}
@@ -113,19 +113,18 @@ module _ (s : Setting) where
         step-goes n failed (failure s) o same did
         (record { k = x.k; here = stays-behind n (failure s) did; at = did.at; rank_is = refl })
 
-    -- no more units are left than the step spends: nothing is asked of what was done before that
-    pub record Filled (n : Step) (full : ℕ) : Type 0 where
+    -- the code of the node has come to where the run ends as full
+    pub record Filled (full : ℕ) : Type 0 where
       pub end : WordState
       pub count : ℕ
       pub few : count + 66 ≤ s.factor
       pub runs : run_words s.base (code s) count x.state ≡ Goes end
       pub at : end.pc ≡ address_of full
       pub quiet : end.output ≡ x.state.output
-      pub over : s.room < x.runs.here.units_are.spent + (effect_units n.effect + closures_units s.sizes n.made)
 
-    -- the run ends as full, past the capacity one step on
-    pub step-full : (full : ℕ) → Has (code s) (address_of full) (exit_with 3) → (n : Step) → OneOf n (open_steps s.action x.world (Run x.k x.d x.b)) → Filled n full → StartGoesOn s x
-    step-full full exits n o filled =
+    -- the run ends as full, where the part passes the capacity
+    pub filled-stops : (full : ℕ) → Has (code s) (address_of full) (exit_with 3) → Passes s.action s.sizes s.stack s.room x.steps (record { tree = plug x.frames (Run x.k x.d x.b); world = x.world }) → Filled full → StartGoesOn s x
+    filled-stops full exits passes filled =
         let has : Has (code s) filled.end.pc (exit_with 3) = subst (λ q. Has (code s) q (exit_with 3)) (sym filled.at) exits in
         let last = before_exit s.base (code s) 3 filled.end in
         inr
@@ -140,6 +139,13 @@ module _ (s : Setting) where
           output = filled.quiet ∙ x.shown;
           exits = exit-stops s.base (code s) 3 filled.end (omega arith) has;
           reached = x.reached;
-          ends = inr (refl, inr (plugged x.frames n, open-plug s.action x.world x.frames (Run x.k x.d x.b) n o, inr (omega (arith, filled.over, x.runs.here.units_are.few))));
+          ends = inr (refl, passes);
           paid = omega (arith, filled.few);
         }))
+
+    -- no more units are left than the step spends: nothing is asked of what was done before that
+    pub step-full : (full : ℕ) → Has (code s) (address_of full) (exit_with 3) → (n : Step) → OneOf n (open_steps s.action x.world (Run x.k x.d x.b)) → s.room < x.runs.here.units_are.spent + (effect_units n.effect + closures_units s.sizes n.made) → Filled full → StartGoesOn s x
+    step-full full exits n o over filled =
+        filled-stops full exits
+        (inr (plugged x.frames n, open-plug s.action x.world x.frames (Run x.k x.d x.b) n o, inr (omega (arith, over, x.runs.here.units_are.few))))
+        filled

@@ -133,6 +133,9 @@ module _ (s : Setting) where
     pub placed : IsPlaced s
     pub part_node : (n k : ℕ) → IsPartOf (node_at s.action n) k → IsNode (node_at s.action k)
     pub same_frame : (n k : ℕ) → IsPartOf (node_at s.action n) k → frame_words s k ≡ frame_words s n
+    -- the words of frames are within what procedures need
+    pub main_within : frame_words s 0 ≤ s.sizes.main_slots
+    pub body_within : (n c : ℕ) → s.procedures.calls n c → frame_words s c ≤ s.sizes.slots c
     pub phases : (n l r : ℕ) (q : Chain) → node_at s.action n ≡ Phases q l r → LaidPhases q n l r
     pub both : (n l r : ℕ) (j : Join) → node_at s.action n ≡ Both j l r → LaidBoth j n l r
     -- the code is one that the machine can hold, and the factor covers the code of each node, with lists

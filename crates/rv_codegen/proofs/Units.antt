@@ -36,11 +36,12 @@ module _ (s : Setting) where
     pub cells_apart : (c c' i i' : ℕ) → slice_get heap.cells c ≡ Some i → slice_get heap.cells c' ≡ Some i' → c ≢ c' → (i + 2 ≤ i') ⊎ (i' + 2 ≤ i)
     pub closures_apart : (c i n : ℕ) (m : PlacedClosure) → slice_get heap.cells c ≡ Some i → slice_get heap.closures n ≡ Some m → (i + 2 ≤ m.place) ⊎ (m.place + 2 * closure_units s.bodies m.body ≤ i)
 
-  cell-words-kept : (heap heap' : Heap) (ws ws' : List ℕ) (i : ℕ) (x : Option Datum) → Grows heap heap' → get_or ws' i 0 ≡ get_or ws i 0 → get_or ws' (i + 1) 0 ≡ get_or ws (i + 1) 0 → CellWords heap ws i x → CellWords heap' ws' i x
+  -- a cell or a closure stays where its words aren't written
+  pub cell-words-kept : (heap heap' : Heap) (ws ws' : List ℕ) (i : ℕ) (x : Option Datum) → Grows heap heap' → get_or ws' i 0 ≡ get_or ws i 0 → get_or ws' (i + 1) 0 ≡ get_or ws (i + 1) 0 → CellWords heap ws i x → CellWords heap' ws' i x
   cell-words-kept heap heap' ws ws' i None g e f h = e ∙ h
   cell-words-kept heap heap' ws ws' i (Some x) g e f h = (e ∙ h.0, subst (λ w. StandsFor s.base heap' w x) (sym f) (stands-grown s.base heap heap' g _ x h.1))
 
-  closure-words-kept : (heap heap' : Heap) (ws ws' : List ℕ) (m : PlacedClosure) → Grows heap heap' → ((j : ℕ) → m.place ≤ j → j < m.place + 2 * closure_units s.bodies m.body → get_or ws' j 0 ≡ get_or ws j 0) → ClosureWords heap ws m → ClosureWords heap' ws' m
+  pub closure-words-kept : (heap heap' : Heap) (ws ws' : List ℕ) (m : PlacedClosure) → Grows heap heap' → ((j : ℕ) → m.place ≤ j → j < m.place + 2 * closure_units s.bodies m.body → get_or ws' j 0 ≡ get_or ws j 0) → ClosureWords heap ws m → ClosureWords heap' ws' m
   closure-words-kept heap heap' ws ws' m g e h = record {
     entry = e m.place (omega arith) (omega arith) ∙ h.entry;
     size = e (m.place + 1) (omega arith) (omega arith) ∙ h.size;
