@@ -1,37 +1,45 @@
 -- What a loop of steps has done so far, and how it ends.
-use Rattle.std.proofs.Common.{◌≡◌, ℕ, ◌+◌, ◌<◌, Bool, List, ◌++◌, refl, sym, ◌∙◌, arith, append-nil, append_assoc}
-use Rattle.std.specs.Prelude.{IsTrue}
+use Rattle.std.proofs.Common.{◌≡◌, ℕ, ◌+◌, ◌<◌, Bool, List, [], ◌∷◌, ◌++◌, refl, sym, ap, ◌∙◌, arith, append-nil, append_assoc}
+use Rattle.std.specs.Prelude.{◌≢◌, IsTrue}
+use Rattle.acg_base.specs.Outside.{counted}
 use Rattle.rv_code.specs.declared.cause.Cause.{Cause}
 use Rattle.rv_machine.specs.declared.answers.Step.TheVariants as step
 use Rattle.rv_machine.specs.declared.answers.Run.TheVariants as run
-use Rattle.rv_machine.specs.Machines.{MachineValue, InputValue, left, sent_in, Runs, IsCounted}
+use Rattle.rv_machine.specs.Machines.{MachineValue, InputValue, left, sent, sent_in, write_counted, writes_behind, Runs, IsCounted}
 use Rattle.rv_machine.specs.Stepping.{Stepped, RanWithin}
-use Rattle.rv_machine.proofs.RunsLemmas.{runs-none, runs-more, sent_in-none, sent_in-more, sent_in-exit, sent_in-trap, run-exits, run-traps, counted-none, counted-more}
+use Rattle.rv_machine.proofs.RunsLemmas.{runs-none, runs-more, sent_in-none, sent_in-more, sent_in-exit, sent_in-trap, run-exits, run-traps, writes_behind-none, writes_behind-more, writes_behind-end, counted-none, counted-more}
 
 -- n instructions led from a machine, its input and its sink to others, without a fault
-pub record RanSo {K : Type 0} (written : K → List ℕ) (faults : K → ℕ) (tells : K → Bool) (n : ℕ) (old : MachineValue) (input : InputValue) (out : K) (new : MachineValue) (rest : InputValue) (gained : K) : Type 0 where
+pub record RanSo {K : Type 0} (written : K → List ℕ) (faults writes : K → ℕ) (tells : K → Bool) (n : ℕ) (old : MachineValue) (input : InputValue) (out : K) (new : MachineValue) (rest : InputValue) (gained : K) : Type 0 where
   pub runs : Runs n old (left input) new (left rest)
   pub counted : IsCounted n old new
   pub bytes : rest.bytes ≡ input.bytes
   pub still : faults gained ≡ faults out
   pub telling : tells gained ≡ tells out
-  pub wrote : IsTrue (tells out) → written gained ≡ written out ++ sent_in n old (left input)
+  pub wrote : writes gained ≡ writes_behind n old (left input) (writes out)
+  pub told : IsTrue (tells out) → written gained ≡ written out ++ sent_in n old (left input)
 
-module _ {K : Type 0} (written : K → List ℕ) (faults : K → ℕ) (tells : K → Bool) (old : MachineValue) (input : InputValue) (out : K) where
-  pub begins : RanSo written faults tells 0 old input out old input out
+module _ {K : Type 0} (written : K → List ℕ) (faults writes : K → ℕ) (tells : K → Bool) (old : MachineValue) (input : InputValue) (out : K) where
+  pub begins : RanSo written faults writes tells 0 old input out old input out
   begins = record {
     runs = runs-none old (left input);
     counted = counted-none old;
     bytes = refl;
     still = refl;
     telling = refl;
-    wrote = λ _. rw (sent_in-none old (left input)) (sym (append-nil (written out)));
+    wrote = sym (writes_behind-none old (left input) (writes out));
+    told = λ _. rw (sent_in-none old (left input)) (sym (append-nil (written out)));
   }
 
-module _ {K : Type 0} (written : K → List ℕ) (faults writes : K → ℕ) (tells last_failed : K → Bool) (n : ℕ) (old : MachineValue) (input : InputValue) (out : K) (m : MachineValue) (i : InputValue) (k : K) (before : RanSo written faults tells n old input out m i k) where
+-- what makes no write with an empty piece, and one with another
+once : (piece : List ℕ) (first all : ℕ) → (piece ≡ [] → all ≡ first) → (piece ≢ [] → all ≡ counted first) → all ≡ write_counted piece first
+once [] first all none one = none refl
+once (byte ∷ bytes) first all none one = one (λ e. cc)
+
+module _ {K : Type 0} (written : K → List ℕ) (faults writes : K → ℕ) (tells last_failed : K → Bool) (n : ℕ) (old : MachineValue) (input : InputValue) (out : K) (m : MachineValue) (i : InputValue) (k : K) (before : RanSo written faults writes tells n old input out m i k) where
   -- one more instruction
   pub goes-on : (new : MachineValue) (rest : InputValue) (gained : K) → Stepped written faults writes tells last_failed step.Ran m i k new rest gained →
-      RanSo written faults tells (n + 1) old input out new rest gained
+      RanSo written faults writes tells (n + 1) old input out new rest gained
   goes-on new rest gained h =
       let steps = h.ran refl in
       record {
@@ -40,10 +48,12 @@ module _ {K : Type 0} (written : K → List ℕ) (faults writes : K → ℕ) (te
         bytes = h.bytes ∙ before.bytes;
         still = h.still (λ e. cc) ∙ before.still;
         telling = h.tells_still ∙ before.telling;
-        wrote = λ told.
+        wrote = rw (writes_behind-more n old (left input) m (left i) new (left rest) (writes out) before.runs steps, ← before.wrote)
+            (once (sent m) (writes k) (writes gained) (λ e. ap writes (h.untouched e)) h.once);
+        told = λ told.
             rw (
               h.told refl (rw before.telling told),
-              before.wrote told,
+              before.told told,
               sent_in-more n old (left input) m (left i) new (left rest) before.runs steps,
               append_assoc,
             )
@@ -59,7 +69,8 @@ module _ {K : Type 0} (written : K → List ℕ) (faults writes : K → ℕ) (te
     trapped = λ cause pc e. absurd (cc);
     fault = λ e. absurd (cc);
     bytes = before.bytes;
-    told = λ _ told. before.wrote told;
+    told = λ _ told. before.told told;
+    wrote = λ _. before.wrote;
     part = λ e. absurd (cc);
     failed = λ e. absurd (cc);
     still = λ _. before.still;
@@ -75,6 +86,7 @@ module _ {K : Type 0} (written : K → List ℕ) (faults writes : K → ℕ) (te
       let stays = s.stays (λ e. cc) in
       let exits = s.exited code refl in
       let idle = s.idle (λ e. cc) (λ e. cc) in
+      let silent = λ (b : ℕ). sent_in-exit n b old (left input) m (left i) code before.runs exits in
       let runs = run-exits n most old (left input) m (left i) code before.runs exits h in
       rw (stays.0, stays.1, idle)
       (record {
@@ -84,7 +96,8 @@ module _ {K : Type 0} (written : K → List ℕ) (faults writes : K → ℕ) (te
         trapped = λ cause pc e. absurd (cc);
         fault = λ e. absurd (cc);
         bytes = before.bytes;
-        told = λ _ told. rw (sent_in-exit n most old (left input) m (left i) code before.runs exits h) (before.wrote told);
+        told = λ _ told. rw (sent_in-exit n most old (left input) m (left i) code before.runs exits h) (before.told told);
+        wrote = λ _. rw (writes_behind-end n most old (left input) (writes out) silent h) before.wrote;
         part = λ e. absurd (cc);
         failed = λ e. absurd (cc);
         still = λ _. before.still;
@@ -100,6 +113,7 @@ module _ {K : Type 0} (written : K → List ℕ) (faults writes : K → ℕ) (te
       let stays = s.stays (λ e. cc) in
       let traps = s.trapped cause pc refl in
       let idle = s.idle (λ e. cc) (λ e. cc) in
+      let silent = λ (b : ℕ). sent_in-trap n b old (left input) m (left i) cause before.runs traps.0 in
       let runs = run-traps n most old (left input) m (left i) cause before.runs traps.0 h in
       rw (stays.0, stays.1, idle)
       (record {
@@ -109,7 +123,8 @@ module _ {K : Type 0} (written : K → List ℕ) (faults writes : K → ℕ) (te
         trapped = λ c p e. let same : cause ≡ c = cc in let at : p ≡ m.pc = cc (traps.1) in rw (← same) (runs, (traps.0, at));
         fault = λ e. absurd (cc);
         bytes = before.bytes;
-        told = λ _ told. rw (sent_in-trap n most old (left input) m (left i) cause before.runs traps.0 h) (before.wrote told);
+        told = λ _ told. rw (sent_in-trap n most old (left input) m (left i) cause before.runs traps.0 h) (before.told told);
+        wrote = λ _. rw (writes_behind-end n most old (left input) (writes out) silent h) before.wrote;
         part = λ e. absurd (cc);
         failed = λ e. absurd (cc);
         still = λ _. before.still;
@@ -133,8 +148,23 @@ module _ {K : Type 0} (written : K → List ℕ) (faults writes : K → ℕ) (te
         fault = λ _. fault;
         bytes = before.bytes;
         told = λ e. absurd (e refl);
-        part = λ _ told.
-            (n, (h, (before.runs, (before.counted, rw (← before.wrote told) (s.part refl (rw before.telling told))))));
+        wrote = λ e. absurd (e refl);
+        part = λ _. (
+          n,
+          (
+            h,
+            (
+              before.runs,
+              (
+                before.counted,
+                (
+                  rw (← before.wrote) (s.once fault.0),
+                  λ told. rw (← before.told told) (s.part refl (rw before.telling told)),
+                ),
+              ),
+            ),
+          ),
+        );
         failed = λ _. rw (← before.still) (s.failed refl);
         still = λ e. absurd (e refl);
         counts = omega (arith, before.still, s.counts);

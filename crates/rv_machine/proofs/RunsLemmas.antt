@@ -1,9 +1,11 @@
 -- Runs: one more step, and a stop.
-use Rattle.std.proofs.Common.{◌≡◌, ℕ, zero, suc, ◌+◌, ◌<◌, List, [], ◌++◌, refl, ap, ◌∙◌, arith, append-nil, append_assoc, add-one}
+use Rattle.std.proofs.Common.{◌≡◌, ℕ, zero, suc, ◌+◌, ◌<◌, List, [], ◌++◌, refl, ap, ◌∙◌, arith, append-nil, append_assoc, add-one, ⊎_elim}
 use Rattle.rv_code.specs.Machine.{State, Outcome, Ran, Exited, Trapped, after, step, run}
 use Rattle.rv_code.specs.declared.cause.Cause.{Cause}
-use Rattle.rv_machine.specs.Machines.{MachineValue, state_of, state_behind, sent, last, sent_in, Steps, StepExits, StepTraps, Runs, RunExits, RunTraps, IsCounted}
+use Rattle.rv_machine.specs.Machines.{MachineValue, state_of, state_behind, sent, last, sent_in, write_counted, writes_behind, Steps, StepExits, StepTraps, Runs, RunExits, RunTraps, IsCounted}
 use Rattle.acg_base.specs.Outside.{counted}
+use Rattle.std.proofs.Math.Seq.{drop-length, drop-append_seam}
+use Rattle.std.proofs.lemmas.Bool.{cases_lt}
 use Rattle.std.proofs.lemmas.Bool.Decides.{nat_tests}
 
 -- ---- states
@@ -137,6 +139,31 @@ pub runs-then : (n p : ℕ) (m : MachineValue) (i : List ℕ) (k : MachineValue)
     Runs n m i k j → Runs p k j l q → Runs (n + p) m i l q
 runs-then n p m i k j l q r s =
     λ output. rw (sent_in-then n p m i k j l q r s, ← append_assoc) (run-then n p (state_of m i output) _ (r output) ∙ s (output ++ sent_in n m i))
+
+-- ---- the writes
+
+pub writes_behind-none : (m : MachineValue) (i : List ℕ) (before : ℕ) → writes_behind 0 m i before ≡ before
+unfolding writes_behind
+writes_behind-none m i before = refl
+
+-- one more step makes one write where it sends
+pub writes_behind-more : (n : ℕ) (m : MachineValue) (i : List ℕ) (k : MachineValue) (j : List ℕ) (l : MachineValue) (q : List ℕ) (before : ℕ) →
+    Runs n m i k j → Steps k j l q → writes_behind (n + 1) m i before ≡ write_counted (sent k) (writes_behind n m i before)
+unfolding writes_behind
+writes_behind-more n m i k j l q before r s =
+    let all : sent_in (suc n) m i ≡ sent_in n m i ++ sent k = rw add-one at (sent_in-more n m i k j l q r s) in
+    rw (add-one, all, drop-append_seam) refl
+
+-- where no more is sent, no more is written
+pub writes_behind-end : (n b : ℕ) (m : MachineValue) (i : List ℕ) (before : ℕ) →
+    ((c : ℕ) → n < c → sent_in c m i ≡ sent_in n m i) → n < b → writes_behind b m i before ≡ writes_behind n m i before
+unfolding writes_behind
+writes_behind-end n zero m i before stays h = absurd (omega arith)
+writes_behind-end n (suc b) m i before stays h =
+    ⊎_elim
+    (λ lt. rw (stays (suc b) h, stays b lt, drop-length, writes_behind-end n b m i before stays lt) refl)
+    (λ ge. let same : b ≡ n = omega arith in rw (same, stays (suc n) (omega arith), drop-length) refl)
+    (cases_lt n b)
 
 -- ---- the count
 

@@ -1,5 +1,6 @@
 -- The machine and its input as callers see them, and what the definition says of their steps and runs.
-use Rattle.std.specs.Prelude.{◌≡◌, ℕ, zero, suc, ◌+◌, ◌-◌, ◌^◌, ◌<◌, nat_le, if◌then◌else◌, List, [], ◌++◌, drop, map, replicate}
+use Rattle.std.specs.Prelude.{◌≡◌, ℕ, zero, suc, ◌+◌, ◌-◌, ◌^◌, ◌<◌, nat_le, if◌then◌else◌, List, [], ◌∷◌, ◌++◌, length, drop, map, replicate}
+use Rattle.acg_base.specs.Outside.{counted}
 use Rattle.rv_code.specs.Machine.{Segment, State, Outcome, Ran, Exited, Trapped, step, run}
 use Rattle.rv_code.specs.Images.{Image, filled}
 use Rattle.rv_code.specs.declared.cause.Cause.{Cause}
@@ -60,6 +61,18 @@ last (suc n) s = state_behind (step s) s (last n)
 -- the bytes that at most n instructions send
 unfoldable pub sent_in : ℕ → MachineValue → (input : List ℕ) → List ℕ
 sent_in n machine input = (last n (state_of machine input [])).output
+
+-- how many writes a sink had, behind an instruction that sends a piece in one write: one more where there are bytes in it
+abbrev pub write_counted : (piece : List ℕ) → (before : ℕ) → ℕ
+write_counted [] before = before
+write_counted (byte ∷ bytes) before = counted before
+
+-- how many writes a sink had, behind at most n instructions: each that sends bytes makes one write, and no other does
+unfoldable pub writes_behind : ℕ → MachineValue → (input : List ℕ) → (before : ℕ) → ℕ
+writes_behind zero machine input before = before
+writes_behind (suc n) machine input before =
+    write_counted (drop (length (sent_in n machine input)) (sent_in (suc n) machine input))
+    (writes_behind n machine input before)
 
 -- the next instruction leads from one machine and its input to others, whatever the output so far
 abbrev pub Steps : (old : MachineValue) (input : List ℕ) (new : MachineValue) (rest : List ℕ) → Type 0

@@ -8,7 +8,7 @@ use Rattle.rv_machine.specs.declared.answers.Run.{Run}
 use Rattle.rv_machine.specs.declared.answers.Run.TheVariants as run
 use Rattle.rv_machine.specs.declared.answers.Quiet.{Quiet}
 use Rattle.rv_machine.specs.declared.answers.QuietEnd.TheVariants as quiet
-use Rattle.rv_machine.specs.Machines.{MachineValue, InputValue, left, sent, sent_in, Steps, StepExits, StepTraps, StepSends, Runs, RunsBelow, IsCounted, RunExits, RunTraps}
+use Rattle.rv_machine.specs.Machines.{MachineValue, InputValue, left, sent, sent_in, writes_behind, Steps, StepExits, StepTraps, StepSends, Runs, RunsBelow, IsCounted, RunExits, RunTraps}
 
 -- what one instruction does. A sink, which has these members, gets what it sends, in one write: no other instruction writes to it.
 -- A fault of the sink comes only at an instruction that runs by the definition and sends bytes
@@ -34,16 +34,18 @@ pub record Stepped {K : Type 0} (written : K → List ℕ) (faults writes : K �
   pub counts : faults out ≤ faults gained
   pub tells_still : tells gained ≡ tells out
 
--- fewer than n instructions lead from one machine and its input to others, and are what the new one counts more;
--- behind what was written before stands what they send, and a front of what the next one sends
-abbrev pub WroteBelow : ℕ → (old : MachineValue) (input : List ℕ) (new : MachineValue) (rest : List ℕ) → (before behind : List ℕ) → Type 0
-WroteBelow n old input new rest before behind =
+-- fewer than n instructions lead from one machine and its input to others, and are what the new one counts more; a sink
+-- had their writes and the failed one, and behind its bytes, where it tells them, stands what they send, and a front of
+-- what the next one sends
+abbrev pub WroteBelow : ℕ → (old : MachineValue) (input : List ℕ) (new : MachineValue) (rest : List ℕ) → (tells : Bool) (before behind : List ℕ) (first all : ℕ) → Type 0
+WroteBelow n old input new rest tells before behind first all =
     (count : ℕ) × ((count < n) × (Runs count old input new rest × (IsCounted count old new
-    × GainsFrontOf (sent new) (before ++ sent_in count old input) behind)))
+    × ((all ≡ counted (writes_behind count old input first))
+    × (IsTrue tells → GainsFrontOf (sent new) (before ++ sent_in count old input) behind)))))
 
 -- what a run of at most so many instructions does. Where fewer ran, the machine and the input stand before the one that
--- ended the run. The sink gets what the run sends, or a front of it where it fails, which comes only at an instruction
--- that runs by the definition and sends bytes
+-- ended the run. The sink gets what the run sends, one write for each instruction that sends bytes, or a front of it where
+-- it fails, which comes only at an instruction that runs by the definition and sends bytes
 pub record RanWithin {K : Type 0} (written : K → List ℕ) (faults writes : K → ℕ) (tells last_failed : K → Bool) (most : ℕ) (result : Run) (old : MachineValue) (input : InputValue) (out : K) (new : MachineValue) (rest : InputValue) (gained : K) : Type 0 where
   pub all : result ≡ run.Budget → Runs most old (left input) new (left rest) × IsCounted most old new
   pub fewer : result ≢ run.Budget → RunsBelow most old (left input) new (left rest)
@@ -55,8 +57,9 @@ pub record RanWithin {K : Type 0} (written : K → List ℕ) (faults writes : K 
   pub bytes : rest.bytes ≡ input.bytes
   pub told : result ≢ run.SinkFault → IsTrue (tells out) →
       written gained ≡ written out ++ sent_in most old (left input)
-  pub part : result ≡ run.SinkFault → IsTrue (tells out) →
-      WroteBelow most old (left input) new (left rest) (written out) (written gained)
+  pub wrote : result ≢ run.SinkFault → writes gained ≡ writes_behind most old (left input) (writes out)
+  pub part : result ≡ run.SinkFault → WroteBelow most old (left input) new (left rest)
+      (tells out) (written out) (written gained) (writes out) (writes gained)
   pub failed : result ≡ run.SinkFault →
       (faults gained ≡ counted (faults out)) × (last_failed gained ≡ true)
   pub still : result ≢ run.SinkFault → faults gained ≡ faults out

@@ -3,7 +3,7 @@ use Rattle.std.proofs.Common.{◌≡◌, arith}
 use Rattle.rv_machine.proofs.machine.Machine.run.Goals as goal
 
 pub loop-i-init : goal.loop-i-init
-loop-i-init g c = begins _ _ _ c.args.self.now c.args.input.now c.args.out.now
+loop-i-init g c = begins _ _ _ _ c.args.self.now c.args.input.now c.args.out.now
 
 pub loop-i-preserved : goal.loop-i-preserved
 loop-i-preserved g c =
