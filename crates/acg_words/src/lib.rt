@@ -14,6 +14,3 @@ pub use line::Line;
 pub use parser::parse_command;
 pub use prints::{print_header, print_message};
 pub use usage::{print_usage, print_version};
-
-#[cfg(test)]
-mod tests;

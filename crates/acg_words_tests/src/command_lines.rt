@@ -1,7 +1,7 @@
 //! Command lines, and what is printed for `help` and `version`.
 
-use crate::{Act, Command, Line, Perform, parse_command, print_usage, print_version};
 use acg_base::{ListSink, Name, Status, Words};
+use acg_words::{Act, Command, Line, Perform, parse_command, print_usage, print_version};
 use std::alloc::Global;
 use std::test::Fail;
 
@@ -12,6 +12,12 @@ fn words(alloc: Global, list: &[&str]) -> Result<Words, Fail> {
         words.push(String::from_str(alloc, word)?)?;
     }
     Ok(Words::new(words))
+}
+
+// Whether the words are no command.
+fn is_refused(alloc: Global, list: &[&str]) -> Result<bool, Fail> {
+    let words = words(alloc, list)?;
+    Ok(parse_command(&words).is_none())
 }
 
 #[test]
@@ -39,24 +45,20 @@ fn command_lines(rt: HostRuntime) -> Result<(), Fail> {
         parse_command(&words(alloc, &["version"])?),
         Some(Command::Version)
     );
-    for list in [
-        [].as_slice(),
-        [""].as_slice(),
-        ["Act", "a"].as_slice(),
-        ["act"].as_slice(),
-        ["act", ""].as_slice(),
-        ["act", "a", "a"].as_slice(),
-        ["help", "act"].as_slice(),
-        ["version", ""].as_slice(),
-        ["perform", "0"].as_slice(),
-        ["perform", "x", "a"].as_slice(),
-        ["perform", "-0", "a"].as_slice(),
-        ["perform", "9223372036854775808", "a"].as_slice(),
-        ["perform", "0", "a", ""].as_slice(),
-        ["perform", "0", "a", "i", "i"].as_slice(),
-    ] {
-        assert_eq!(rt; parse_command(&words(alloc, list)?), None);
-    }
+    assert!(rt; is_refused(alloc, &[])?);
+    assert!(rt; is_refused(alloc, &[""])?);
+    assert!(rt; is_refused(alloc, &["Act", "a"])?);
+    assert!(rt; is_refused(alloc, &["act"])?);
+    assert!(rt; is_refused(alloc, &["act", ""])?);
+    assert!(rt; is_refused(alloc, &["act", "a", "a"])?);
+    assert!(rt; is_refused(alloc, &["help", "act"])?);
+    assert!(rt; is_refused(alloc, &["version", ""])?);
+    assert!(rt; is_refused(alloc, &["perform", "0"])?);
+    assert!(rt; is_refused(alloc, &["perform", "x", "a"])?);
+    assert!(rt; is_refused(alloc, &["perform", "-0", "a"])?);
+    assert!(rt; is_refused(alloc, &["perform", "9223372036854775808", "a"])?);
+    assert!(rt; is_refused(alloc, &["perform", "0", "a", ""])?);
+    assert!(rt; is_refused(alloc, &["perform", "0", "a", "i", "i"])?);
     Ok(())
 }
 
