@@ -169,7 +169,10 @@ fn instructions_of_three_sends(rt: HostRuntime) -> Result<(), Fail> {
     let mut sink = ListSink::new(rt.alloc(), 24, Vec::new(rt.alloc()))
         .ok()
         .ok_or("memory")?;
-    assert_eq!(rt; machine.run(1000, &mut input, &mut sink), Run::Exited { code: 0 });
+    assert_eq!(rt;
+        machine.run(1000, &mut input, &mut sink),
+        Run::Exited { code: 0 }
+    );
     assert_eq!(rt; machine.taken(), 9 + 3 * (1 + 2 + 2 + 7) + 2);
     Ok(())
 }
