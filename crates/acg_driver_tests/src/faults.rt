@@ -19,7 +19,8 @@ fn each_write_fails(
     let mut before = Vec::new(alloc);
     for (failing, piece) in pieces.iter().enumerate() {
         let mut files = store(alloc, action, b"", Vec::new(alloc))?;
-        let mut out = sink(alloc, vec![in alloc; failing as u32]?)?;
+        let failing = u32::try_from(failing).ok().ok_or("a number past 32 bits")?;
+        let mut out = sink(alloc, vec![in alloc; failing]?)?;
         let answer = serve(alloc, &words, &mut files, &mut out);
         if answer != Status::WriteFault || out.bytes() != before.as_slice() {
             return Ok(false);
