@@ -1,21 +1,19 @@
 -- The laws of graphs that code over their nodes rests on: how many nodes there are, where the children and the operands of a node are, and that no node is stray.
 use Rattle.std.proofs.Common.{◌≡◌, ℕ, zero, suc, ◌+◌, ◌<◌, ◌≤◌, List, [], ◌∷◌, length, map, refl, sym, ap, subst, ◌∙◌, arith}
-use Rattle.std.specs.Prelude.{◌≢◌, Some, None, slice_get, option_map, ℤ}
+use Rattle.std.specs.Prelude.{◌≢◌, Some, None, slice_get, option_map}
 use Rattle.std.proofs.lemmas.Option.{slice_get-map}
 use Rattle.action_terms.specs.Labels.{AnAction, operand_lengths}
 use Rattle.action_terms.specs.Numbering.{ListedNode, ListedYielder, Listed, action_count, nodes_of, yielders_of, IsGraph}
-use Rattle.action_terms.specs.Actions.{Yielder, NumberLiteral, Item, Single, And, AndThen, Complete, Failing, Send, Simple, Both, Phases, Node, Stray, node_or_stray, node_at}
-use Rattle.action_terms.specs.Meaning.{item_of, item_or_them, picked, items_from, node_of, node_with, action_of}
+use Rattle.action_terms.specs.Actions.{Node, Stray, node_or_stray, node_at}
+use Rattle.action_terms.specs.Meaning.{items_from, node_of, node_with, action_of}
 use Rattle.action_terms.specs.declared.kinds.Kind.{Kind}
-use Rattle.action_terms.specs.declared.kinds.Kind.TheVariants as kind
-use Rattle.action_terms.specs.declared.kinds.YKind.TheVariants as ykind
 use Rattle.action_terms.proofs.Each.{Each-at_first}
 use Rattle.action_terms.proofs.NodeCounts.{length-nodes_of, length-yielders_of, action_count-some}
-use Rattle.action_terms.proofs.ChildrenLaws.{Sits, sits-tree, child_count}
+use Rattle.action_terms.proofs.ChildrenLaws.{Sits, sits-tree}
 use Rattle.action_terms.proofs.ParentLaws.{OneParent, one_parent-tree}
 use Rattle.action_terms.proofs.SoundNodes.{never_stray-tree}
 use Rattle.action_terms.proofs.NodeForms.{Wanted, wanted}
-use Rattle.action_terms.proofs.OperandItems.{operand_items, only_number}
+use Rattle.action_terms.proofs.OperandItems.{operand_items}
 
 -- each node stands well, and isn't stray
 sits : (g : Listed) (w : IsGraph g) (k : ℕ) (n : ListedNode) → slice_get g.nodes k ≡ Some n → Sits (length g.nodes) (length g.yielders) k n
@@ -63,10 +61,6 @@ pub children_ascend : (g : Listed) → IsGraph g → (k i j c d : ℕ) (n : List
 children_ascend g w k i j c d n at first second less =
     (sits g w k n at).children_ascend i j c d first second less
 
--- a node has as many children as its kind wants
-pub length-children : (g : Listed) → IsGraph g → (k : ℕ) (n : ListedNode) → slice_get g.nodes k ≡ Some n → length n.children ≡ child_count n.kind
-length-children g w k n at = (sits g w k n at).children_count
-
 -- a child has one parent
 pub one_parent : (g : Listed) → IsGraph g → (j k h i c : ℕ) (m n : ListedNode) → slice_get g.nodes j ≡ Some m → slice_get g.nodes k ≡ Some n → slice_get m.children h ≡ Some c → slice_get n.children i ≡ Some c → j ≡ k
 one_parent g w j k h i c m n at at2 child child2 =
@@ -100,49 +94,3 @@ wanted_at g w k n m at is =
 
 pub node_at-kind : (g : Listed) (k : ℕ) (n : ListedNode) (m : Kind) → slice_get g.nodes k ≡ Some n → n.kind ≡ m → node_at (action_of g) k ≡ node_of m n.token n.body n.children (operand_items g.yielders n)
 node_at-kind g k n m at is = node_at-action_of g k n at ∙ ap (λ x. node_of x n.token n.body n.children (operand_items g.yielders n)) is
-
--- the nodes of some kinds
-pub node_at-and : (g : Listed) → IsGraph g → (k : ℕ) (n : ListedNode) → slice_get g.nodes k ≡ Some n → n.kind ≡ kind.And → (l : ℕ) × (r : ℕ) × (n.children ≡ l ∷ r ∷ []) × (node_at (action_of g) k ≡ Both And l r)
-node_at-and g w k n at is =
-    let h = wanted_at g w k n kind.And at is in
-    (h.0, h.1, h.2, node_at-kind g k n kind.And at is ∙ ap (λ ps. node_of kind.And n.token n.body ps (operand_items g.yielders n)) h.2)
-
-pub node_at-and_then : (g : Listed) → IsGraph g → (k : ℕ) (n : ListedNode) → slice_get g.nodes k ≡ Some n → n.kind ≡ kind.AndThen → (l : ℕ) × (r : ℕ) × (n.children ≡ l ∷ r ∷ []) × (node_at (action_of g) k ≡ Phases AndThen l r)
-node_at-and_then g w k n at is =
-    let h = wanted_at g w k n kind.AndThen at is in
-    (h.0, h.1, h.2, node_at-kind g k n kind.AndThen at is ∙ ap (λ ps. node_of kind.AndThen n.token n.body ps (operand_items g.yielders n)) h.2)
-
-pub node_at-complete : (g : Listed) (k : ℕ) (n : ListedNode) → slice_get g.nodes k ≡ Some n → n.kind ≡ kind.Complete → node_at (action_of g) k ≡ Simple Complete
-node_at-complete g k n at is = node_at-kind g k n kind.Complete at is
-
-pub node_at-fail : (g : Listed) (k : ℕ) (n : ListedNode) → slice_get g.nodes k ≡ Some n → n.kind ≡ kind.Fail → node_at (action_of g) k ≡ Simple Failing
-node_at-fail g k n at is = node_at-kind g k n kind.Fail at is
-
--- the datum that a `send` sends is the item of its one yielder
-pub node_at-send : (g : Listed) → IsGraph g → (k : ℕ) (n : ListedNode) → slice_get g.nodes k ≡ Some n → n.kind ≡ kind.Send
-    → (y : ℕ) × (e : Yielder) × (n.operands ≡ (y ∷ []) ∷ []) × (y < length g.yielders) × (item_or_them (slice_get (items_from 0 g.yielders) y) ≡ Single e) × (node_at (action_of g) k ≡ Simple (Send e))
-node_at-send g w k n at is =
-    let h = wanted_at g w k n kind.Send at is in
-    let one = only_number (items_from 0 g.yielders) n.operands (Single h.0) h.1 in
-    let first : slice_get n.operands 0 ≡ Some (one.0 ∷ []) = ap (λ os. slice_get os 0) one.1 in (
-      one.0,
-      h.0,
-      one.1,
-      operand_within g w k 0 0 one.0 n (one.0 ∷ []) at first refl,
-      one.2,
-      node_at-kind g k n kind.Send at is ∙ ap (node_of kind.Send n.token n.body n.children) h.1,
-    )
-
-items_from-at : (y k : ℕ) (ls : List ListedYielder) (l : ListedYielder) → slice_get ls k ≡ Some l → (args : List Item) × (slice_get (items_from y ls) k ≡ Some (item_of l.kind l.token l.body args))
-items_from-at y k [] l at = cc
-items_from-at y zero (m ∷ ls) l at =
-    let args = picked (suc y) (items_from (suc y) ls) m.children in
-    let same : m ≡ l = cc in
-    (args, ap (λ i. Some (item_of i.kind i.token i.body args)) same)
-items_from-at y (suc k) (m ∷ ls) l at = items_from-at (suc y) k ls l at
-
--- the yielder of number y, where it is a number
-pub item-number : (g : Listed) (y : ℕ) (l : ListedYielder) → slice_get g.yielders y ≡ Some l → (z : ℤ) → l.kind ≡ ykind.Number z → item_or_them (slice_get (items_from 0 g.yielders) y) ≡ Single (NumberLiteral z)
-item-number g y l at z is =
-    let item = items_from-at 0 y g.yielders l at in
-    ap item_or_them item.1 ∙ ap (λ k. item_of k l.token l.body item.0) is

@@ -31,6 +31,8 @@ pub mod NodeForms
 pub mod OperandItems
 pub mod ReadNodes
 pub mod GraphLaws
+pub mod ItemsHold
+pub mod NumberLaws
 pub mod ProperYielders
 pub mod ProperBodies
 pub mod ProperNodes

@@ -54,15 +54,6 @@ body_of_item [] y n b e = cc
 body_of_item (l ∷ ls) y zero b e = closure_body l.kind l.token l.body (picked (suc y) (items_from (suc y) ls) l.children) b e
 body_of_item (l ∷ ls) y (suc n) b e = body_of_item ls (suc y) n b e
 
--- the only item of the only operand
-pub only_number : (items : List Item) (os : List (List ℕ)) (i : Item) →
-    map (picked 0 items) os ≡ (i ∷ []) ∷ [] → (y : ℕ) × (os ≡ (y ∷ []) ∷ []) × (item_or_them (slice_get items y) ≡ i)
-only_number items [] i e = cc
-only_number items ([] ∷ os) i e = cc
-only_number items ((n ∷ []) ∷ []) i e = (n, refl, cc (at_number items n))
-only_number items ((n ∷ m ∷ ns) ∷ os) i e = cc
-only_number items ((n ∷ []) ∷ o ∷ os) i e = cc
-
 -- an operand of one item, and two operands
 pub one_number : (items : List Item) (os : List (List ℕ)) (i : Item) (rest : List (List Item)) →
     map (picked 0 items) os ≡ (i ∷ []) ∷ rest → (y : ℕ) × (slice_get os 0 ≡ Some (y ∷ []))

@@ -18,7 +18,8 @@ use Rattle.action_terms.proofs.Each.{Each-at_first}
 use Rattle.action_terms.proofs.GraphLaws.{length-nodes_some, child_within, node_with-sound, wanted_at, node_at-kind}
 use Rattle.action_terms.proofs.ReadNodes.{node_of-read}
 use Rattle.action_terms.proofs.UnfoldLaws.{HasUnfolding, Repeats, repeats}
-use Rattle.action_terms.proofs.ProperYielders.{ItemBelow, picked-below, items_from-below}
+use Rattle.action_terms.proofs.ItemsHold.{picked-hold}
+use Rattle.action_terms.proofs.ProperYielders.{ItemBelow, items_from-below}
 use Rattle.action_terms.proofs.ProperBodies.{node_bodies-tree, yielder_bodies-tree}
 use Rattle.action_terms.proofs.ProperNodes.{OperandsBelow, node_of-below}
 
@@ -44,7 +45,7 @@ children_below g w k n at = λ i d less. child_within g w k i (get_or n.children
 
 operands_below : (count : ℕ) (items : List Item) (operands : List (List ℕ)) → All (ItemBelow count) items → OperandsBelow count (map (picked 0 items) operands)
 operands_below count items operands h =
-    All-map (λ is. All (ItemBelow count) is) (picked 0 items) operands (λ i d less. picked-below count 0 items (get_or operands i d) h)
+    All-map (λ is. All (ItemBelow count) is) (picked 0 items) operands (λ i d less. picked-hold (ItemBelow count) tt 0 items (get_or operands i d) h)
 
 proper_node : (g : Listed) → IsGraph g → (k : ℕ) (n : ListedNode) → slice_get g.nodes k ≡ Some n → n.body < length g.nodes → IsProperNode (length g.nodes) (node_with (items_from 0 g.yielders) n)
 proper_node g w k n at body =

@@ -1,13 +1,14 @@
 -- The closures in the items of a graph have the bodies of its yielders.
-use Rattle.std.proofs.Common.{ℕ, zero, suc, ◌-◌, ◌<◌, List, [], ◌∷◌, ◌++◌}
-use Rattle.std.specs.Prelude.{All, slice_get}
+use Rattle.std.proofs.Common.{ℕ, zero, suc, ◌<◌, List, [], ◌∷◌, ◌++◌}
+use Rattle.std.specs.Prelude.{All}
 use Rattle.std.proofs.lemmas.List.Elements.{All-nil, All-cons, All-head, All-tail, All-append}
 use Rattle.action_terms.specs.Numbering.{ListedYielder}
 use Rattle.action_terms.specs.Actions.{Yielder, Item, Single, Them}
 use Rattle.action_terms.specs.Steps.{closures_in, closures_in_items}
-use Rattle.action_terms.specs.Meaning.{item_of, item_or_them, picked, items_from}
+use Rattle.action_terms.specs.Meaning.{item_of, items_from}
 use Rattle.action_terms.specs.declared.kinds.YKind.{YKind}
 use Rattle.action_terms.specs.declared.kinds.YKind.TheVariants as ykind
+use Rattle.action_terms.proofs.ItemsHold.{items_from-hold}
 
 -- each closure in the item has a body below this count
 abbrev pub ItemBelow : ℕ → Item → Type 0
@@ -50,23 +51,7 @@ item_of-below count ykind.Either tk c (Single y1 ∷ Single y2 ∷ []) body h = 
 item_of-below count ykind.Closure tk c is body h = All-cons (λ k. k < count) c [] body (All-nil (λ k. k < count))
 item_of-below count _ tk c is body h = tt
 
-item_at-below : (count i : ℕ) (is : List Item) → All (ItemBelow count) is → ItemBelow count (item_or_them (slice_get is i))
-item_at-below count i [] h = tt
-item_at-below count zero (j ∷ is) h = All-head (ItemBelow count) j is h
-item_at-below count (suc i) (j ∷ is) h = item_at-below count i is (All-tail (ItemBelow count) j is h)
-
-pub picked-below : (count y : ℕ) (is : List Item) (ns : List ℕ) → All (ItemBelow count) is → All (ItemBelow count) (picked y is ns)
-picked-below count y is [] h = All-nil (ItemBelow count)
-picked-below count y is (n ∷ ns) h =
-    All-cons (ItemBelow count) (item_or_them (slice_get is (n - y))) (picked y is ns) (item_at-below count (n - y) is h) (picked-below count y is ns h)
-
 -- where the bodies of all yielders are below the count, so are those of the closures in the items
 pub items_from-below : (count y : ℕ) (ls : List ListedYielder) → All (λ l. l.body < count) ls → All (ItemBelow count) (items_from y ls)
-items_from-below count y [] h = All-nil (ItemBelow count)
-items_from-below count y (l ∷ ls) h =
-    let later = items_from (suc y) ls in
-    let args = picked (suc y) later l.children in
-    let rest = items_from-below count (suc y) ls (All-tail (λ l. l.body < count) l ls h) in
-    All-cons (ItemBelow count) (item_of l.kind l.token l.body args) later
-    (item_of-below count l.kind l.token l.body args (All-head (λ l. l.body < count) l ls h) (picked-below count (suc y) later l.children rest))
-    rest
+items_from-below count =
+    items_from-hold (ItemBelow count) tt (λ l. l.body < count) (λ l args body below. item_of-below count l.kind l.token l.body args body below)

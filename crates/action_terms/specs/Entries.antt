@@ -1,11 +1,12 @@
 -- The graph of pushed nodes without their tree: a walk from the first node to the last gives numbers and bodies, and a walk from the last to the first gives children and operands.
-use Rattle.std.specs.Prelude.{◌≡◌, ℕ, suc, ◌+◌, List, [], ◌∷◌, ◌++◌, map, take, drop, sum, replicate, Option, None}
+use Rattle.std.specs.Prelude.{◌≡◌, ℕ, suc, ◌+◌, List, [], ◌∷◌, ◌++◌, map, take, drop, sum, replicate, Option, None, All}
 use Rattle.action_terms.specs.Labels.{Label, ActionNode, YielderNode, operand_lengths}
-use Rattle.action_terms.specs.Numbering.{ListedNode, ListedYielder, pieces, children_of, body_of, around_parts, closure_body, around_arguments, stray}
+use Rattle.action_terms.specs.Numbering.{ListedNode, ListedYielder, pieces, children_of, body_of, around_parts, closure_body, around_arguments, stray, KindFits}
 use Rattle.action_terms.specs.Nodes.{listed_node, listed_yielder}
 use Rattle.action_terms.specs.Pushed.{label_of}
 use Rattle.action_terms.specs.declared.bodies.Entered.{Entered}
 use Rattle.action_terms.specs.declared.linking.Linker.{Linker}
+use Rattle.action_terms.specs.declared.pushed.Pushed.{Pushed}
 use Rattle.action_terms.specs.declared.kinds.Kind.{Kind}
 use Rattle.action_terms.specs.declared.kinds.Kind.TheVariants as kind
 use Rattle.action_terms.specs.declared.kinds.YKind.{YKind}
@@ -96,10 +97,14 @@ next_yielder (YielderNode k t) y = suc y
 abbrev pub around_next : Label → ℕ → List (Option ℕ) → List (Option ℕ)
 around_next l a around = replicate (action_places l + yielder_places l) (around_under l a (innermost around)) ++ drop 1 around
 
+-- the entry of a label that comes next
+abbrev pub next_entry : Label → (a y : ℕ) → List (Option ℕ) → Entry
+next_entry l a y around = record { label = l; number = number_at l a y; body = body_at l a (innermost around) }
+
 abbrev pub entries : List (Option ℕ) → (a y : ℕ) → List Label → List Entry
 entries around a y [] = []
 entries around a y (l ∷ labels) =
-    record { label = l; number = number_at l a y; body = body_at l a (innermost around) }
+    next_entry l a y around
     ∷ entries (around_next l a around) (next_action l a) (next_yielder l y) labels
 
 abbrev pub strays_in : List (Option ℕ) → ℕ → List Label → List ℕ
@@ -140,9 +145,15 @@ abbrev pub yielders_in : List Entry → List ListedYielder
 yielders_in [] = []
 yielders_in (e ∷ es) = yielder_from e.label e.body (yielder_roots_in es) ++ yielders_in es
 
--- what is linked so far is what the entries give
+-- what is linked so far is what the entries give, and each number among it is an integer of 64 signed bits
 pub record Links (es : List Entry) (linker : Linker) : Type 0 where
   pub nodes : map listed_node linker.nodes.items ≡ nodes_in es
   pub yielders : map listed_yielder linker.yielders.items ≡ yielders_in es
   pub action_roots : linker.action_roots.items ≡ action_roots_in es
   pub yielder_roots : linker.yielder_roots.items ≡ yielder_roots_in es
+  pub numbers : All (λ y. KindFits y.kind) (map listed_yielder linker.yielders.items)
+
+-- a node with its number and its body is linked before others
+abbrev pub LinksNode : Pushed → (number body : ℕ) → (old new : Linker) → Type 0
+LinksNode node number body old new =
+    (es : List Entry) → Links es old → Links (record { label = label_of node; number = number; body = body } ∷ es) new

@@ -8,6 +8,7 @@ pub mod Steps
 pub mod Performances
 pub mod Frames
 pub mod Proper
+pub mod Literals
 pub mod Sound
 pub mod Need
 pub mod Labels

@@ -1,5 +1,6 @@
 -- The nodes of a tree by number: action nodes from 0 in preorder, and yielders from 0 in preorder.
-use Rattle.std.specs.Prelude.{◌≡◌, ℕ, suc, ◌+◌, ◌≤◌, List, [], ◌∷◌, ◌++◌, take, drop, Option, Some, None}
+use Rattle.std.specs.Prelude.{All, ◌≡◌, ℕ, suc, ◌+◌, ◌≤◌, List, [], ◌∷◌, ◌++◌, take, drop, Option, Some, None, FitsSigned}
+use Rattle.std.specs.Int.{w64}
 use Rattle.action_terms.specs.Labels.{ActionNode, YielderNode, operand_lengths}
 use Rattle.action_terms.specs.Trees.{Tree, tree, Trees, none, more, IsAction}
 use Rattle.action_terms.specs.declared.kinds.Kind.{Kind}
@@ -14,6 +15,11 @@ pub record ListedNode : Type 0 where
   pub children : List ℕ
   pub operands : List (List ℕ)
   pub body : ℕ
+
+-- a number is an integer of 64 signed bits
+abbrev pub KindFits : YKind → Type 0
+KindFits (ykind.Number n) = FitsSigned w64 n
+KindFits _ = Unit {0}
 
 -- a yielder: its arguments, and the root of a closure's body
 pub record ListedYielder : Type 0 where
@@ -146,3 +152,8 @@ pub record IsGraphOf (g : Listed) (t : Tree) : Type 0 where
 
 abbrev pub IsGraph : Listed → Type 0
 IsGraph g = (t : Tree) × IsGraphOf g t
+
+-- what a graph in memory is: that of an action, and each number among its yielders is an integer of 64 signed bits
+pub record IsKept (g : Listed) : Type 0 where
+  pub of_an_action : IsGraph g
+  pub numbers : All (λ y. KindFits y.kind) g.yielders

@@ -2,7 +2,7 @@
 ghost use Rattle.std.specs.Prelude.{◌≡◌, ℕ, ◌+◌, ◌<◌, ◌≤◌, ◌^◌, List, [], ◌∷◌, ◌++◌, None, Some, IfOk, OnOk, OnErr, IsErrOf, IsTrue, ◌↔◌, length, map, drop, replicate, slice_get, sum, option_to_list, if◌then◌else◌};
 ghost use Rattle.action_terms.specs.Labels.{operand_lengths};
 ghost use Rattle.action_terms.specs.Pushed.{label_of};
-ghost use Rattle.action_terms.specs.Entries.{entry_of, entries, strays_in, strays_at, innermost, number_at, next_action, next_yielder, body_at, around_under, around_next, action_places, yielder_places, part_count, closure_count, argument_count};
+ghost use Rattle.action_terms.specs.Entries.{entry_of, next_entry, entries, strays_in, strays_at, innermost, number_at, next_action, next_yielder, body_at, around_under, around_next, action_places, yielder_places, part_count, closure_count, argument_count};
 
 use crate::graph::GraphError;
 use crate::kinds::{Kind, YKind};
@@ -86,7 +86,8 @@ pub fn operand_lengths(kind: Kind, items: u32) -> (Option<u32>, Option<u32>)
 
 // how many trees stand under a node
 fn places_under(node: Pushed<'_>) -> u64
-    ensures { result ≡ action_places (label_of node.entry) + yielder_places (label_of node.entry) }
+    ensures { result
+        ≡ action_places (label_of node.entry) + yielder_places (label_of node.entry) }
 {
     match node {
         Pushed::Action(new) => {
@@ -134,7 +135,8 @@ fn body_at(node: Pushed<'_>, action: u32, around: Option<u32>) -> u32
 }
 
 fn is_stray(node: Pushed<'_>, around: Option<u32>) -> bool
-    ensures { (action : ℕ) → strays_at (label_of node.entry) action around ≡ (if result then action ∷ [] else []) }
+    ensures { (action : ℕ) → strays_at (label_of node.entry) action around
+        ≡ (if result then action ∷ [] else []) }
 {
     match node {
         Pushed::Action(new) => matches!(new.kind, Kind::Unfold) && around.is_none(),
@@ -208,12 +210,18 @@ impl Walk {
     fn enter<'a>(&mut self, node: Pushed<'a>) -> Result<Entered<'a>, GraphError>
         requires action { self.old.action < 65536 }
         requires yielder { self.old.yielder < 65536 }
-        ensures entered { IfOk result (λ e. entry_of e ≡ record { label = label_of node.entry; number = number_at (label_of node.entry) self.old.action self.old.yielder; body = body_at (label_of node.entry) self.old.action (innermost self.old.contexts.items) }) }
-        ensures around { OnOk result (self.new.contexts.items ≡ around_next (label_of node.entry) self.old.action self.old.contexts.items) }
-        ensures next_action { OnOk result (self.new.action ≡ next_action (label_of node.entry) self.old.action) }
-        ensures next_yielder { OnOk result (self.new.yielder ≡ next_yielder (label_of node.entry) self.old.yielder) }
-        ensures none_stray { OnOk result (strays_at (label_of node.entry) self.old.action (innermost self.old.contexts.items) ≡ []) }
-        ensures stray { (n : ℕ) → IsErrOf result (GraphError.StrayUnfold n) → strays_at (label_of node.entry) self.old.action (innermost self.old.contexts.items) ≡ n ∷ [] }
+        ensures entered { IfOk result (λ e. entry_of e ≡ next_entry
+            (label_of node.entry) self.old.action self.old.yielder self.old.contexts.items) }
+        ensures around { OnOk result (self.new.contexts.items
+            ≡ around_next (label_of node.entry) self.old.action self.old.contexts.items) }
+        ensures next_action { OnOk result
+            (self.new.action ≡ next_action (label_of node.entry) self.old.action) }
+        ensures next_yielder { OnOk result
+            (self.new.yielder ≡ next_yielder (label_of node.entry) self.old.yielder) }
+        ensures none_stray { OnOk result (strays_at
+            (label_of node.entry) self.old.action (innermost self.old.contexts.items) ≡ []) }
+        ensures stray { (n : ℕ) → IsErrOf result (GraphError.StrayUnfold n) → strays_at
+            (label_of node.entry) self.old.action (innermost self.old.contexts.items) ≡ n ∷ [] }
         ensures never_nodes { IsErrOf result GraphError.Nodes → ⊥ }
     {
         let around = take_around(&mut self.contexts);
@@ -236,9 +244,11 @@ impl Walk {
 /// Numbers the nodes and finds their bodies, or the first stray `unfold`.
 pub fn enter_all<'a>(alloc: Global, pushed: &[Pushed<'a>]) -> Result<Vec<Entered<'a>>, GraphError>
     requires { length pushed.now ≤ 65536 }
-    ensures entered { IfOk result (λ v. map entry_of v.items ≡ entries (None ∷ []) 0 0 (map label_of pushed.now)) }
+    ensures entered { IfOk result (λ v. map entry_of v.items
+        ≡ entries (None ∷ []) 0 0 (map label_of pushed.now)) }
     ensures none_stray { OnOk result (strays_in (None ∷ []) 0 (map label_of pushed.now) ≡ []) }
-    ensures stray { (n : ℕ) → IsErrOf result (GraphError.StrayUnfold n) → slice_get (strays_in (None ∷ []) 0 (map label_of pushed.now)) 0 ≡ Some n }
+    ensures stray { (n : ℕ) → IsErrOf result (GraphError.StrayUnfold n)
+        → slice_get (strays_in (None ∷ []) 0 (map label_of pushed.now)) 0 ≡ Some n }
     ensures never_nodes { IsErrOf result GraphError.Nodes → ⊥ }
 {
     let mut contexts = VecDeque::new(alloc);

@@ -59,7 +59,8 @@ impl<'a> GraphBuilder<'a> {
     /// Appends an action node, and answers its number among the action nodes. The token is copied.
     pub fn push_action(&mut self, new: NewAction<'_>) -> Result<u32, GraphError>
         ensures number { IfOk result (λ number. number ≡ count_by is_action_node self.old) }
-        ensures pushed { OnOk result (self.new ≡ self.old ++ ActionNode new.entry.kind new.entry.items new.entry.token.now ∷ []) }
+        ensures pushed { OnOk result (self.new
+            ≡ self.old ++ ActionNode new.entry.kind new.entry.items new.entry.token.now ∷ []) }
         ensures nodes { IsErrOf result GraphError.Nodes ↔ (65536 ≤ length self.old) }
         ensures never_stray { (node : ℕ) → IsErrOf result (GraphError.StrayUnfold node) → ⊥ }
         ensures err { OnErr result (self.new ≡ self.old) }
@@ -84,7 +85,8 @@ impl<'a> GraphBuilder<'a> {
     /// Appends a yielder, and answers its number among the yielders. The token is copied.
     pub fn push_yielder(&mut self, new: NewYielder<'_>) -> Result<u32, GraphError>
         ensures number { IfOk result (λ number. number ≡ count_by is_yielder_node self.old) }
-        ensures pushed { OnOk result (self.new ≡ self.old ++ YielderNode new.entry.kind new.entry.token.now ∷ []) }
+        ensures pushed { OnOk result (self.new
+            ≡ self.old ++ YielderNode new.entry.kind new.entry.token.now ∷ []) }
         ensures nodes { IsErrOf result GraphError.Nodes ↔ (65536 ≤ length self.old) }
         ensures never_stray { (node : ℕ) → IsErrOf result (GraphError.StrayUnfold node) → ⊥ }
         ensures err { OnErr result (self.new ≡ self.old) }
@@ -110,8 +112,11 @@ impl<'a> GraphBuilder<'a> {
     /// Its lists are placed in the arena.
     pub fn seal(self) -> Result<Graph<'a>, GraphError>
         requires { IsWhole self }
-        ensures graph { IfOk result (λ g. (t : Tree) → IsAction t → preorder t ≡ self.entry → IsGraphOf g t) }
-        ensures stray { (node : ℕ) → IsErrOf result (GraphError.StrayUnfold node) → (t : Tree) → IsAction t → preorder t ≡ self.entry → slice_get (strays t) 0 ≡ Some node }
+        ensures graph { IfOk result (λ g. (t : Tree) → IsAction t → preorder t ≡ self.entry
+            → IsGraphOf g t) }
+        ensures stray { (node : ℕ) → IsErrOf result (GraphError.StrayUnfold node)
+            → (t : Tree) → IsAction t → preorder t ≡ self.entry
+            → slice_get (strays t) 0 ≡ Some node }
         ensures never_nodes { IsErrOf result GraphError.Nodes → ⊥ }
     {
         let entered = enter_all(self.alloc, self.pushed.as_slice())?;
@@ -123,7 +128,8 @@ impl<'a> GraphBuilder<'a> {
     /// Whether the pushed nodes are the preorder of exactly one action.
     pub fn is_whole(&self) -> bool
         ensures exact { IsTrue result ↔ IsWhole self.now }
-        ensures one_tree { (t : Tree) → (u : Tree) → IsAction t → IsAction u → preorder t ≡ self.now → preorder u ≡ self.now → t ≡ u }
+        ensures one_tree { (t : Tree) → (u : Tree) → IsAction t → IsAction u
+            → preorder t ≡ self.now → preorder u ≡ self.now → t ≡ u }
     {
         self.expected.is_met()
     }

@@ -1,9 +1,10 @@
 //! A graph: the nodes of one action by number, in an arena.
-ghost use Rattle.std.specs.Prelude.{◌≡◌, map};
-ghost use Rattle.action_terms.specs.Nodes.{listed_node, listed_yielder};
-ghost use Rattle.action_terms.specs.Numbering.{IsGraph};
+ghost use Rattle.std.specs.Prelude.{◌≡◌, map, All};
+ghost use Rattle.action_terms.specs.Nodes.{listed_node, listed_yielder, listed_graph};
+ghost use Rattle.action_terms.specs.Numbering.{IsGraph, KindFits};
 ghost use Rattle.action_terms.specs.Meaning.{action_of};
 ghost use Rattle.action_terms.specs.Proper.{IsProper};
+ghost use Rattle.action_terms.specs.Literals.{NumbersFit};
 ghost use Rattle.action_terms.specs.declared.graph.GraphError.TheVariants.{Memory};
 
 use crate::kinds::{Kind, YKind};
@@ -49,22 +50,22 @@ pub struct Graph<'a> {
 }
 
 impl<'a> Model for Graph<'a> {
-    ghost use Rattle.std.specs.Prelude.{map};
-    ghost use Rattle.action_terms.specs.Nodes.{listed_node, listed_yielder};
-    ghost use Rattle.action_terms.specs.Numbering.{Listed, IsGraph};
+    ghost use Rattle.action_terms.specs.Nodes.{listed_graph};
+    ghost use Rattle.action_terms.specs.Numbering.{Listed, IsKept};
 
     ghost Value = { Listed };
 
-    ghost view = { λ g. record { nodes = map listed_node g.nodes.now; yielders = map listed_yielder g.yielders.now } };
+    ghost view = { λ g. listed_graph g.nodes.now g.yielders.now };
 
-    ghost invariant = { λ g. IsGraph (record { nodes = map listed_node g.nodes.now; yielders = map listed_yielder g.yielders.now }) };
+    ghost invariant = { λ g. IsKept (listed_graph g.nodes.now g.yielders.now) };
 }
 
 impl<'a> Graph<'a> {
     /// The graph of these nodes and yielders.
     pub(crate) fn of_lists(nodes: &'a [Node<'a>], yielders: &'a [YNode<'a>]) -> Graph<'a>
-        requires { IsGraph (record { nodes = map listed_node nodes.now; yielders = map listed_yielder yielders.now }) }
-        ensures { result ≡ record { nodes = map listed_node nodes.now; yielders = map listed_yielder yielders.now } }
+        requires of_an_action { IsGraph (listed_graph nodes.now yielders.now) }
+        requires numbers { All (λ y. KindFits y.kind) (map listed_yielder yielders.now) }
+        ensures { result ≡ listed_graph nodes.now yielders.now }
     {
         Graph { nodes, yielders }
     }
@@ -74,6 +75,7 @@ impl<'a> Graph<'a> {
         ensures nodes { map listed_node result.now ≡ self.now.nodes }
         ensures of_an_action { IsGraph self.now }
         ensures proper { IsProper (action_of self.now) }
+        ensures numbers { NumbersFit (action_of self.now) }
     {
         self.nodes
     }
@@ -82,6 +84,7 @@ impl<'a> Graph<'a> {
     pub fn yielders(&self) -> &'a [YNode<'a>]
         ensures yielders { map listed_yielder result.now ≡ self.now.yielders }
         ensures of_an_action { IsGraph self.now }
+        ensures numbers { All (λ y. KindFits y.kind) self.now.yielders }
     {
         self.yielders
     }

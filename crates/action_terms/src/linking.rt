@@ -1,10 +1,8 @@
 //! The children and operands of pushed nodes, from the last node to the first.
-ghost use Rattle.std.specs.Prelude.{◌≡◌, ◌+◌, List, [], ◌∷◌, ◌++◌, IfOk, OnOk, map, take, drop, sum, option_to_list};
+ghost use Rattle.std.specs.Prelude.{◌≡◌, List, [], ◌∷◌, ◌++◌, IfOk, OnOk, map, take, drop, sum, option_to_list};
 ghost use Rattle.action_terms.specs.Labels.{operand_lengths};
 ghost use Rattle.action_terms.specs.Numbering.{pieces, children_of};
-ghost use Rattle.action_terms.specs.Nodes.{listed_node, listed_yielder};
-ghost use Rattle.action_terms.specs.Pushed.{label_of};
-ghost use Rattle.action_terms.specs.Entries.{Entry, entry_of, part_count, closure_count, argument_count, Links};
+ghost use Rattle.action_terms.specs.Entries.{entry_of, part_count, closure_count, argument_count, Links, LinksNode};
 
 use crate::bodies::{Entered, argument_count, closure_count, operand_lengths, part_count};
 use crate::graph::{Node, YNode};
@@ -65,8 +63,10 @@ fn take_operand<'a>(
     length: Option<u32>,
     operands: &mut Vec<&'a [u32], &'a Bump>,
 ) -> Result<(), AllocError>
-    ensures taken { OnOk result (map (λ o. o.now) operands.new.items ≡ map (λ o. o.now) operands.old.items ++ pieces (option_to_list length) roots.old.items) }
-    ensures left { OnOk result (roots.new.items ≡ drop (sum (option_to_list length)) roots.old.items) }
+    ensures taken { OnOk result (map (λ o. o.now) operands.new.items
+        ≡ map (λ o. o.now) operands.old.items ++ pieces (option_to_list length) roots.old.items) }
+    ensures left { OnOk result
+        (roots.new.items ≡ drop (sum (option_to_list length)) roots.old.items) }
 {
     if let Some(count) = length {
         operands.push(take_roots(arena, roots, count)?)?;
@@ -82,8 +82,10 @@ fn take_operands<'a>(
     kind: Kind,
     items: u32,
 ) -> Result<&'a [&'a [u32]], AllocError>
-    ensures taken { IfOk result (λ r. map (λ o. o.now) r.now ≡ pieces (operand_lengths kind items) roots.old.items) }
-    ensures left { OnOk result (roots.new.items ≡ drop (sum (operand_lengths kind items)) roots.old.items) }
+    ensures taken { IfOk result (λ r. map (λ o. o.now) r.now
+        ≡ pieces (operand_lengths kind items) roots.old.items) }
+    ensures left { OnOk result
+        (roots.new.items ≡ drop (sum (operand_lengths kind items)) roots.old.items) }
 {
     let (first, second) = operand_lengths(kind, items);
     let mut operands = Vec::new(arena);
@@ -98,7 +100,8 @@ fn take_children<'a>(
     roots: &mut VecDeque<u32>,
     kind: Kind,
 ) -> Result<&'a [u32], AllocError>
-    ensures taken { IfOk result (λ r. r.now ≡ children_of kind (take (part_count kind) roots.old.items)) }
+    ensures taken { IfOk result
+        (λ r. r.now ≡ children_of kind (take (part_count kind) roots.old.items)) }
     ensures left { OnOk result (roots.new.items ≡ drop (part_count kind) roots.old.items) }
 {
     let parts = take_roots(arena, roots, part_count(kind))?;
@@ -140,10 +143,8 @@ impl<'a> Linker<'a> {
     }
 
     fn link_action(&mut self, new: NewAction<'a>, number: u32, body: u32) -> Result<(), AllocError>
-        ensures nodes { OnOk result (map listed_node self.new.nodes.items ≡ record { kind = new.entry.kind; token = new.entry.token.now; children = children_of new.entry.kind (take (part_count new.entry.kind) self.old.action_roots.items); operands = pieces (operand_lengths new.entry.kind new.entry.items) self.old.yielder_roots.items; body = body } ∷ map listed_node self.old.nodes.items) }
-        ensures yielders { OnOk result (self.new.yielders.items ≡ self.old.yielders.items) }
-        ensures action_roots { OnOk result (self.new.action_roots.items ≡ number ∷ drop (part_count new.entry.kind) self.old.action_roots.items) }
-        ensures yielder_roots { OnOk result (self.new.yielder_roots.items ≡ drop (sum (operand_lengths new.entry.kind new.entry.items)) self.old.yielder_roots.items) }
+        ensures { OnOk result
+            (LinksNode (Pushed.Action new.entry) number body self.old self.new) }
     {
         let children = take_children(self.arena, &mut self.action_roots, new.kind)?;
         let operands = take_operands(self.arena, &mut self.yielder_roots, new.kind, new.items)?;
@@ -164,10 +165,8 @@ impl<'a> Linker<'a> {
         number: u32,
         body: u32,
     ) -> Result<(), AllocError>
-        ensures nodes { OnOk result (self.new.nodes.items ≡ self.old.nodes.items) }
-        ensures yielders { OnOk result (map listed_yielder self.new.yielders.items ≡ record { kind = new.entry.kind; token = new.entry.token.now; children = take (argument_count new.entry.kind) self.old.yielder_roots.items; body = body } ∷ map listed_yielder self.old.yielders.items) }
-        ensures action_roots { OnOk result (self.new.action_roots.items ≡ drop (closure_count new.entry.kind) self.old.action_roots.items) }
-        ensures yielder_roots { OnOk result (self.new.yielder_roots.items ≡ number ∷ drop (argument_count new.entry.kind) self.old.yielder_roots.items) }
+        ensures { OnOk result
+            (LinksNode (Pushed.Yielder new.entry) number body self.old self.new) }
     {
         let children = take_roots(
             self.arena,
@@ -189,7 +188,9 @@ impl<'a> Linker<'a> {
 
     /// The node stands before those that are linked.
     pub fn link(&mut self, entered: Entered<'a>) -> Result<(), AllocError>
-        ensures { (es : List Entry) → Links es self.old → OnOk result (Links (entry_of entered.entry ∷ es) self.new) }
+        ensures { OnOk result
+            (LinksNode entered.entry.node entered.entry.number entered.entry.body
+            self.old self.new) }
     {
         match entered.node {
             Pushed::Action(new) => self.link_action(new, entered.number, entered.body),

@@ -186,7 +186,8 @@ fn under(node: Pushed<'_>) -> (Option<Places>, Option<Places>)
 
 // takes the first place off the stack, whose last places come first
 fn take_place(stack: &mut Vec<Places>) -> Option<Place>
-    ensures first { MatchOption result (wanted_on stack.old.items ≡ []) (λ place. wanted_on stack.old.items ≡ wanted_by place ∷ wanted_on stack.new.items) }
+    ensures first { MatchOption result (wanted_on stack.old.items ≡ [])
+        (λ place. wanted_on stack.old.items ≡ wanted_by place ∷ wanted_on stack.new.items) }
     ensures room { vec_capacity stack.new ≡ vec_capacity stack.old }
     ensures no_more { vec_len stack.new ≤ vec_len stack.old }
 {
@@ -206,7 +207,9 @@ fn take_place(stack: &mut Vec<Places>) -> Option<Place>
 // puts the node in the first place, and wants what stands under it
 fn fill_place(stack: &mut Vec<Places>, node: Pushed<'_>) -> bool
     requires { vec_len stack.old + 2 ≤ vec_capacity stack.old }
-    ensures { (more : List Label) → (if result then fills (wanted_on stack.new.items) more else false) ≡ fills (wanted_on stack.old.items) (label_of node.entry ∷ more) }
+    ensures { (more : List Label)
+        → (if result then fills (wanted_on stack.new.items) more else false)
+        ≡ fills (wanted_on stack.old.items) (label_of node.entry ∷ more) }
 {
     let Some(place) = take_place(stack) else {
         return false;
@@ -227,7 +230,8 @@ fn fill_place(stack: &mut Vec<Places>, node: Pushed<'_>) -> bool
 impl Expected {
     /// One action.
     pub fn an_action(alloc: Global) -> Result<Expected, AllocError>
-        ensures { IfOk result (λ e. (more : List Label) → expects e more ≡ fills (AnAction ∷ []) more) }
+        ensures { IfOk result
+            (λ e. (more : List Label) → expects e more ≡ fills (AnAction ∷ []) more) }
     {
         let mut places = Vec::with_capacity(alloc, 8)?;
         places.push(Places {
@@ -248,7 +252,8 @@ impl Expected {
     /// The node follows.
     pub fn follow(&mut self, node: Pushed<'_>)
         requires { vec_len self.old.places + 2 ≤ vec_capacity self.old.places }
-        ensures { (more : List Label) → expects self.new more ≡ expects self.old (label_of node.entry ∷ more) }
+        ensures { (more : List Label)
+            → expects self.new more ≡ expects self.old (label_of node.entry ∷ more) }
     {
         let fits = fill_place(&mut self.places, node);
         self.fits = self.fits && fits;

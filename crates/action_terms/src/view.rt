@@ -283,7 +283,9 @@ fn part(node: Node<'_>, place: usize) -> u32
 
 fn both<'a>(join: Join, node: Node<'_>) -> NodeView<'a>
     requires { 1 < length node.children.now }
-    ensures { result ≡ NodeView.Both join (part_at (listed_node node.entry) 0) (part_at (listed_node node.entry) 1) }
+    ensures { result
+        ≡ NodeView.Both join
+        (part_at (listed_node node.entry) 0) (part_at (listed_node node.entry) 1) }
 {
     let left = part(node, 0);
     let right = part(node, 1);
@@ -292,7 +294,9 @@ fn both<'a>(join: Join, node: Node<'_>) -> NodeView<'a>
 
 fn phases<'a>(chain: Chain, node: Node<'_>) -> NodeView<'a>
     requires { 1 < length node.children.now }
-    ensures { result ≡ NodeView.Phases chain (part_at (listed_node node.entry) 0) (part_at (listed_node node.entry) 1) }
+    ensures { result
+        ≡ NodeView.Phases chain
+        (part_at (listed_node node.entry) 0) (part_at (listed_node node.entry) 1) }
 {
     let left = part(node, 0);
     let right = part(node, 1);
@@ -301,7 +305,9 @@ fn phases<'a>(chain: Chain, node: Node<'_>) -> NodeView<'a>
 
 fn either<'a>(node: Node<'_>) -> NodeView<'a>
     requires { 1 < length node.children.now }
-    ensures { result ≡ NodeView.Either (part_at (listed_node node.entry) 0) (part_at (listed_node node.entry) 1) }
+    ensures { result
+        ≡ NodeView.Either
+        (part_at (listed_node node.entry) 0) (part_at (listed_node node.entry) 1) }
 {
     let left = part(node, 0);
     let right = part(node, 1);
@@ -310,7 +316,9 @@ fn either<'a>(node: Node<'_>) -> NodeView<'a>
 
 fn trapping<'a>(node: Node<'_>) -> NodeView<'a>
     requires { 1 < length node.children.now }
-    ensures { result ≡ NodeView.Trapping (part_at (listed_node node.entry) 0) (part_at (listed_node node.entry) 1) }
+    ensures { result
+        ≡ NodeView.Trapping
+        (part_at (listed_node node.entry) 0) (part_at (listed_node node.entry) 1) }
 {
     let left = part(node, 0);
     let right = part(node, 1);
@@ -320,7 +328,9 @@ fn trapping<'a>(node: Node<'_>) -> NodeView<'a>
 fn branch<'a>(node: Node<'_>) -> NodeView<'a>
     requires parts { 1 < length node.children.now }
     requires operand { HasOne (listed_node node) 0 }
-    ensures { result ≡ NodeView.Branch (number_at (listed_node node.entry) 0) (part_at (listed_node node.entry) 0) (part_at (listed_node node.entry) 1) }
+    ensures { result
+        ≡ NodeView.Branch (number_at (listed_node node.entry) 0)
+        (part_at (listed_node node.entry) 0) (part_at (listed_node node.entry) 1) }
 {
     let left = part(node, 0);
     let right = part(node, 1);
@@ -448,7 +458,9 @@ fn argument(node: YNode<'_>, place: usize) -> u32
 
 fn on_two<'a>(operation: Two, node: YNode<'_>) -> YielderView<'a>
     requires { 1 < length node.children.now }
-    ensures { result ≡ YielderView.OnTwo operation (argument_at (listed_yielder node.entry) 0) (argument_at (listed_yielder node.entry) 1) }
+    ensures { result
+        ≡ YielderView.OnTwo operation
+        (argument_at (listed_yielder node.entry) 0) (argument_at (listed_yielder node.entry) 1) }
 {
     let first = argument(node, 0);
     let second = argument(node, 1);
@@ -461,7 +473,8 @@ fn on_two<'a>(operation: Two, node: YNode<'_>) -> YielderView<'a>
 
 fn on_one<'a>(operation: One, node: YNode<'_>) -> YielderView<'a>
     requires { 0 < length node.children.now }
-    ensures { result ≡ YielderView.OnOne operation (argument_at (listed_yielder node.entry) 0) }
+    ensures { result
+        ≡ YielderView.OnOne operation (argument_at (listed_yielder node.entry) 0) }
 {
     let argument = argument(node, 0);
     YielderView::OnOne {
@@ -471,7 +484,8 @@ fn on_one<'a>(operation: One, node: YNode<'_>) -> YielderView<'a>
 }
 
 fn given<'a>(sort: Sort, place: u32) -> YielderView<'a>
-    ensures { (g : Listed) → (y : ℕ) → (l : ListedYielder) → IsYielderRead g y (YKind.Given sort place) l → IsYielderView g y result }
+    ensures { (g : Listed) → (y : ℕ) → (l : ListedYielder)
+        → IsYielderRead g y (YKind.Given sort place) l → IsYielderView g y result }
 {
     if place == 0 {
         YielderView::Given { sort }

@@ -1,7 +1,8 @@
 use Rattle.std.proofs.Common.{◌≡◌, ◌≤◌, ◌∙◌, List, [], ◌∷◌, length, map, sym, ap, subst}
 use Rattle.std.specs.Prelude.{None, slice_get, Result, Ok, Err, IsErrAnd, IsErrOf}
+use Rattle.std.proofs.lemmas.List.Elements.{All-same}
 use Rattle.action_terms.specs.Labels.{Label}
-use Rattle.action_terms.specs.Numbering.{Listed, IsGraphOf}
+use Rattle.action_terms.specs.Numbering.{Listed, KindFits, IsGraphOf}
 use Rattle.action_terms.specs.Nodes.{listed_node, listed_yielder}
 use Rattle.action_terms.specs.Pushed.{label_of}
 use Rattle.action_terms.specs.Entries.{entry_of, entries, strays_in, nodes_in, yielders_in}
@@ -22,8 +23,12 @@ returns-in_err-entered-clause-stray c node is t action pushed =
     let error = same_error c.from_residual.result (StrayUnfold node) c.in_err-entered.field-0.0 c.from_residual.ensures.1 is in
     ap (λ l. slice_get l 0) (sym (strays_in-action t action) ∙ ap (strays_in (None ∷ []) 0) (pushed ∙ sym labels)) ∙ c.in_err-entered.ensures.stray node error
 
-pub of_lists-requires : goal.of_lists-requires
-of_lists-requires c =
+pub of_lists-requires-clause-numbers : goal.of_lists-requires-clause-numbers
+of_lists-requires-clause-numbers c =
+    All-same (λ y. KindFits y.kind) _ _ (ap (map listed_yielder) c.in_ok-nodes.ensures.yielders) c.in_ok-linker.ensures.numbers
+
+pub of_lists-requires-clause-of_an_action : goal.of_lists-requires-clause-of_an_action
+of_lists-requires-clause-of_an_action c =
     let P : List Label → Type 0 = λ l. length l ≤ 65536 in
     let labels = ap (map label_of) c.as_slice.ensures.value ∙ c.self.view_is in
     let listed = ap (map entry_of) c.as_slice-2.ensures.value ∙ c.in_ok-entered.ensures.entered ∙ ap (entries (None ∷ []) 0 0) labels in
