@@ -5,7 +5,7 @@ ghost use Rattle.std.specs.Prelude.{◌≡◌, drop, IfOk};
 ghost use Rattle.std.specs.Vec.Iter.{into_iter_items};
 ghost use Rattle.acg.specs.Arguments.{words_of};
 
-use acg_base::{FolderStore, OutSink, Status, Words, WorkingFolder};
+use acg_base::{CountingWriter, FolderStore, OutSink, Status, Words, WorkingFolder};
 use acg_driver::serve;
 use std::alloc::{AllocError, Global};
 use std::env::Args;
@@ -45,6 +45,6 @@ fn main(rt: HostRuntime) -> ExitCode {
         return ExitCode::from(Status::Memory.code());
     };
     let mut store = FolderStore::new(WorkingFolder::new(&rt));
-    let mut out = OutSink::new(io::writer(&rt));
+    let mut out = OutSink::new(CountingWriter::new(io::writer(&rt)));
     ExitCode::from(serve(rt.alloc(), &words, &mut store, &mut out).code())
 }

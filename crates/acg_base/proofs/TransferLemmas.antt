@@ -4,7 +4,6 @@ use Rattle.std.specs.Option.{is_some, unwrap_or}
 use Rattle.std.specs.Io.{StartsWith}
 use Rattle.std.specs.Io.KnownBytes.{Appends, Consumes, IsAtEnd}
 use Rattle.std.proofs.KnownBytes.{Appends-trans, starts_with_rest}
-use Rattle.std.proofs.Transfers.{starts_with_length}
 use Rattle.std.proofs.lemmas.List.{take_at, take_all, take_rest}
 use Rattle.std.proofs.Math.Seq.{take-add}
 use Rattle.acg_base.specs.Outside.{GainsFrontOf, front}

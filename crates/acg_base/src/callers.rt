@@ -50,10 +50,11 @@ pub fn copy<S: Store, K: Sink>(
     ensures print_grew { Grew (K.faults out.old) (K.faults out.new) →
         IsErrOf result CopyError.Print }
 
-    // One file is read, once, and one line is written, once: nothing follows a failed write.
+    // One file is read, once, whatever comes of it, and one line is written, once: nothing follows a failed write.
     ensures one_reading { OnOk result (IsTrue (S.logs store.old) → IfSome (S.contents store.old from.now)
         (λ bytes. IsTrue (S.tells store.old) → S.readings store.new ≡ S.readings store.old
         ++ record { name = from.now; limit = limit; given = front limit bytes } ∷ [])) }
+    ensures one_read { S.reads store.new ≡ counted (S.reads store.old) }
     ensures one_line { OnOk result (K.writes out.new ≡ counted (K.writes out.old)) }
     ensures last { IsErrOf result CopyError.Print → IsTrue (K.last_failed out.new) }
 

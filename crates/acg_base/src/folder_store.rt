@@ -1,37 +1,50 @@
 //! The files of a folder.
 
-ghost use Rattle.std.specs.Prelude.{◌≡◌, ◌+◌, ◌++◌, [], Bool, Some, IsTrue, IfOk, IfSome, OnOk, OnErr};
+ghost use Rattle.std.specs.Prelude.{◌≡◌, ℕ, ◌+◌, ◌++◌, ◌⊎◌, List, [], Bool, false, Some, IsTrue, IsNone, IsErrOf, IfOk, IfSome, OnOk, OnErr};
+ghost use Rattle.std.specs.Option.{is_none};
+ghost use Rattle.std.specs.Result.{is_err, is_ok};
 ghost use Rattle.acg_base.specs.Outside.{Contents, GainsAtMost, front};
 
+use crate::counting::{CountingRead, CountingReader, CountingWrite, CountingWriter};
 use crate::name::Name;
 use crate::store::{Store, StoreError};
 use crate::transfer::{append_front, hand_on};
-use std::io::{Read, Write};
 use std::rt::Files;
 use std::{fs, io};
 
 /// Files that are opened by name.
 pub trait Folder {
     /// Reads an opened file.
-    type Reader: Read + Drop;
+    type Reader: CountingRead + Drop;
     /// Writes a created file.
-    type Writer: Write + Drop;
+    type Writer: CountingWrite + Drop;
 
-    // The bytes that a reader of each name gives, where the folder tells them.
+    // The bytes that a reader of each name gives, or nothing where the name isn't there, where the folder
+    // tells it.
     ghost contents: { Self → Contents };
 
-    // Whether the folder tells its bytes.
+    // Whether a file of each name can be made, where the folder tells it.
+    ghost makes: { Self → List ℕ → Bool };
+
+    // Whether the folder tells what it has and what it can make.
     ghost tells: { Self → Bool };
 
     /// Opens the file of that name. Answers an error where it isn't there or can't be opened.
     fn open(&self, name: &str) -> io::Result<Self::Reader>
-        ensures { IfOk result (λ reader. IsTrue (tells self.now) →
-            Self.Reader.remaining reader ≡ contents self.now name.now) };
+        ensures gives { IfOk result (λ reader. IsTrue (tells self.now) →
+            Self.Reader.remaining reader ≡ contents self.now name.now) }
+        ensures source { IfOk result (λ reader. IsTrue (tells self.now) →
+            Self.Reader.source reader ≡ Some name.now) }
+        ensures absent { IsTrue (tells self.now) → is_err result ≡ is_none (contents self.now name.now) };
 
     /// Makes an empty file of that name, in the place of one that is there. Answers an error where it
     /// can't be made.
     fn create(&self, name: &str) -> io::Result<Self::Writer>
-        ensures { IfOk result (λ writer. IsTrue (tells self.now) → Self.Writer.contents writer ≡ Some []) };
+        ensures empty { IfOk result (λ writer. IsTrue (tells self.now) →
+            Self.Writer.contents writer ≡ Some []) }
+        ensures target { IfOk result (λ writer. IsTrue (tells self.now) →
+            Self.Writer.target writer ≡ Some name.now) }
+        ensures makes { IsTrue (tells self.now) → is_ok result ≡ makes self.now name.now };
 }
 
 /// The files that a runtime reaches, by paths from the working folder. It doesn't tell their bytes.
@@ -50,20 +63,22 @@ impl<R: Files + Drop> WorkingFolder<R> {
 impl<R: Files + Drop> Folder for WorkingFolder<R> {
     ghost use Rattle.std.specs.Prelude.{None, false};
 
-    type Reader = R::File;
+    type Reader = CountingReader<R::File>;
 
-    type Writer = R::File;
+    type Writer = CountingWriter<R::File>;
 
     ghost contents = { λ _ _. None };
 
+    ghost makes = { λ _ _. false };
+
     ghost tells = { λ _. false };
 
-    fn open(&self, name: &str) -> io::Result<R::File> {
-        fs::open(&self.rt, name)
+    fn open(&self, name: &str) -> io::Result<CountingReader<R::File>> {
+        Ok(CountingReader::new(fs::open(&self.rt, name)?))
     }
 
-    fn create(&self, name: &str) -> io::Result<R::File> {
-        fs::create(&self.rt, name)
+    fn create(&self, name: &str) -> io::Result<CountingWriter<R::File>> {
+        Ok(CountingWriter::new(fs::create(&self.rt, name)?))
     }
 }
 
@@ -72,6 +87,7 @@ impl<R: Files + Drop> Folder for WorkingFolder<R> {
 pub struct FolderStore<F: Folder + Drop> {
     /// Where the files are.
     pub folder: F,
+    reads: u64,
     failed_reads: u64,
     failed_writes: u64,
 }
@@ -85,6 +101,7 @@ impl<F: Folder + Drop> FolderStore<F> {
     {
         FolderStore {
             folder,
+            reads: 0,
             failed_reads: 0,
             failed_writes: 0,
         }
@@ -102,6 +119,12 @@ fn append_file<F: Folder>(
         (λ bytes. into.new.items ≡ into.old.items ++ front limit bytes)) }
     ensures bound { OnOk result (GainsAtMost (limit + 1) into.old.items into.new.items) }
     ensures err { OnErr result (into.new.items ≡ into.old.items) }
+    ensures absent { IsTrue (F.tells folder.now) → IsNone (F.contents folder.now name.now) →
+        IsErrOf result StoreError.Failed }
+    ensures fault { IsErrOf result StoreError.Failed → IsTrue (F.tells folder.now) →
+        IsNone (F.contents folder.now name.now)
+        ⊎ ((reader : F.Reader) × (F.Reader.source reader ≡ Some name.now)
+        × IsTrue (F.Reader.last_failed reader)) }
 {
     match folder.open(name) {
         Ok(mut reader) => append_front(&mut reader, limit, into),
@@ -109,19 +132,27 @@ fn append_file<F: Folder>(
     }
 }
 
-// The writer of a new file of that name that was handed the bytes, or `None` where it failed.
+// Hands the bytes to a writer of a new file of that name.
 #[tactic(auto, using(crate::proofs::TransferLemmas::held))]
-fn write_file<F: Folder>(folder: &F, name: &str, bytes: &[u8]) -> Option<F::Writer>
-    ensures { IfSome result (λ writer. IsTrue (F.tells folder.now) →
-        F.Writer.contents writer ≡ Some bytes.now) }
+fn write_file<F: Folder>(folder: &F, name: &str, bytes: &[u8]) -> Result<(), StoreError>
+    ensures handed { OnOk result (IsTrue (F.tells folder.now) → (writer : F.Writer) ×
+        (F.Writer.target writer ≡ Some name.now) × (F.Writer.contents writer ≡ Some bytes.now)) }
+    ensures fault { OnErr result (IsTrue (F.tells folder.now) → (F.makes folder.now name.now ≡ false)
+        ⊎ ((writer : F.Writer) × (F.Writer.target writer ≡ Some name.now)
+        × IsTrue (F.Writer.last_failed writer))) }
+    ensures failed { OnErr result (IsErrOf result StoreError.Failed) }
 {
-    let mut writer = folder.create(name).ok()?;
-    hand_on(&mut writer, bytes).ok()?;
-    Some(writer)
+    let Ok(mut writer) = folder.create(name) else {
+        return Err(StoreError::Failed);
+    };
+    if hand_on(&mut writer, bytes).is_err() {
+        return Err(StoreError::Failed);
+    }
+    Ok(())
 }
 
 impl<F: Folder + Drop> Store for FolderStore<F> {
-    ghost use Rattle.std.specs.Prelude.{◌≡◌, ◌+◌, ◌≤◌, ◌++◌, [], None, false, IsTrue, IsErrOf, IfSome, OnOk, OnErr};
+    ghost use Rattle.std.specs.Prelude.{◌≡◌, ◌+◌, ◌≤◌, ◌⊎◌, ◌++◌, [], Some, None, false, IsTrue, IsNone, IsErrOf, IfSome, OnOk, OnErr};
     ghost use Rattle.acg_base.specs.Outside.{GainsAtMost, counted, front};
 
     ghost contents = { λ _ _. None };
@@ -132,19 +163,28 @@ impl<F: Folder + Drop> Store for FolderStore<F> {
 
     ghost logs = { λ _. false };
 
+    ghost reads = { λ store. store.reads };
+
     ghost failed_reads = { λ store. store.failed_reads };
 
     ghost failed_writes = { λ store. store.failed_writes };
 
     ghost sure = { λ _. false };
 
-    /// Gives what a reader of that name gives.
+    /// Gives what a reader of that name gives, and fails only where the name isn't there or a reader of it
+    /// failed.
     fn read(&mut self, name: &Name, limit: u32, into: &mut Vec<u8>) -> Result<(), StoreError>
         ensures given { OnOk result (IsTrue (F.tells self.old.folder) →
             IfSome (F.contents self.old.folder name.now) (λ bytes.
             into.new.items ≡ into.old.items ++ front limit bytes)) }
         ensures bound { OnOk result (GainsAtMost (limit + 1) into.old.items into.new.items) }
         ensures err { OnErr result (into.new.items ≡ into.old.items) }
+        ensures absent { IsTrue (F.tells self.old.folder) →
+            IsNone (F.contents self.old.folder name.now) → IsErrOf result StoreError.Failed }
+        ensures fault { IsErrOf result StoreError.Failed → IsTrue (F.tells self.old.folder) →
+            IsNone (F.contents self.old.folder name.now) ⊎ ((reader : F.Reader) ×
+            (F.Reader.source reader ≡ Some name.now) × IsTrue (F.Reader.last_failed reader)) }
+        ensures once { self.new.reads ≡ counted self.old.reads }
         ensures failed { IsErrOf result StoreError.Failed →
             self.new.failed_reads ≡ counted self.old.failed_reads }
         ensures passed { ¬ (IsErrOf result StoreError.Failed) →
@@ -154,20 +194,34 @@ impl<F: Folder + Drop> Store for FolderStore<F> {
         ensures folder { self.new.folder ≡ self.old.folder }
     {
         let outcome = append_file(&self.folder, name.text(), limit, into);
+        self.reads = self.reads.saturating_add(1);
         if outcome == Err(StoreError::Failed) {
             self.failed_reads = self.failed_reads.saturating_add(1);
         }
         outcome
     }
 
-    fn write(&mut self, name: &Name, bytes: &[u8]) -> Result<(), StoreError> {
-        match write_file(&self.folder, name.text(), bytes) {
-            Some(_) => Ok(()),
-            None => {
-                self.failed_writes = self.failed_writes.saturating_add(1);
-                Err(StoreError::Failed)
-            }
+    /// Hands the bytes to a writer that the folder creates for the name, and fails only where the folder
+    /// can't make it or the writer failed.
+    fn write(&mut self, name: &Name, bytes: &[u8]) -> Result<(), StoreError>
+        ensures handed { OnOk result (IsTrue (F.tells self.old.folder) → (writer : F.Writer) ×
+            (F.Writer.target writer ≡ Some name.now) × (F.Writer.contents writer ≡ Some bytes.now)) }
+        ensures fault { OnErr result (IsTrue (F.tells self.old.folder) →
+            (F.makes self.old.folder name.now ≡ false) ⊎ ((writer : F.Writer) ×
+            (F.Writer.target writer ≡ Some name.now) × IsTrue (F.Writer.last_failed writer))) }
+        ensures failed { OnErr result (self.new.failed_writes ≡ counted self.old.failed_writes) }
+        ensures passed { OnOk result (self.new.failed_writes ≡ self.old.failed_writes) }
+        ensures error { OnErr result (IsErrOf result StoreError.Failed) }
+        ensures counts { self.old.failed_writes ≤ self.new.failed_writes }
+        ensures reads { self.new.failed_reads ≡ self.old.failed_reads }
+        ensures unread { self.new.reads ≡ self.old.reads }
+        ensures folder { self.new.folder ≡ self.old.folder }
+    {
+        let outcome = write_file(&self.folder, name.text(), bytes);
+        if outcome.is_err() {
+            self.failed_writes = self.failed_writes.saturating_add(1);
         }
+        outcome
     }
 
     ghost sure_tells = { λ _ sure. sure };

@@ -3,6 +3,7 @@
 
 mod call_numbers;
 mod capacity;
+mod counting;
 mod decimal;
 mod folder_store;
 mod limits;
@@ -18,6 +19,7 @@ mod transfer;
 mod words;
 
 pub use capacity::{Capacity, DEFAULT_BUDGET, DEFAULT_STACK, DEFAULT_UNITS};
+pub use counting::{CountingRead, CountingReader, CountingWrite, CountingWriter};
 pub use decimal::{decimal_into, read_decimal, unsigned_into};
 pub use folder_store::{Folder, FolderStore, WorkingFolder};
 pub use limits::{

@@ -164,6 +164,8 @@ impl Store for MapStore {
 
     ghost logs = { λ _. true };
 
+    ghost reads = { λ store. store.reads };
+
     ghost failed_reads = { λ store. store.failed_reads };
 
     ghost failed_writes = { λ store. store.failed_writes };

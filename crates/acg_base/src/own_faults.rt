@@ -10,6 +10,7 @@ struct WornStore {
     name: Name,
     content: Vec<u8>,
     reads_left: u32,
+    reads: u64,
     failed_reads: u64,
     failed_writes: u64,
 }
@@ -28,6 +29,8 @@ impl Store for WornStore {
 
     ghost logs = { λ _. false };
 
+    ghost reads = { λ store. store.reads };
+
     ghost failed_reads = { λ store. store.failed_reads };
 
     ghost failed_writes = { λ store. store.failed_writes };
@@ -35,6 +38,7 @@ impl Store for WornStore {
     ghost sure = { λ _. false };
 
     fn read(&mut self, name: &Name, limit: u32, into: &mut Vec<u8>) -> Result<(), StoreError> {
+        self.reads = self.reads.saturating_add(1);
         if name.bytes() == self.name.bytes() && self.reads_left > 0 {
             let end = self.content.len().min(limit as usize + 1);
             into.extend_from_slice(&self.content.as_slice()[..end])?;
@@ -105,6 +109,7 @@ fn a_copy_answers_the_faults_of_others(rt: HostRuntime) -> Result<(), Fail> {
         name: Name::new(rt.alloc(), "a").ok().ok_or("memory")?,
         content: Vec::from_slice(rt.alloc(), b"one")?,
         reads_left: 1,
+        reads: 0,
         failed_reads: 0,
         failed_writes: 0,
     };
@@ -140,6 +145,7 @@ fn a_copy_answers_the_faults_of_others(rt: HostRuntime) -> Result<(), Fail> {
         ),
         Err(CopyError::Read)
     );
+    assert_eq!(rt; store.reads, 2);
     assert_eq!(rt; store.failed_reads, 1);
     assert_eq!(rt; out.write(b"copied\n"), Err(SinkError::Failed));
     assert_eq!(rt; out.write(b"end"), Ok(()));

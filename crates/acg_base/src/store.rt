@@ -46,9 +46,10 @@ impl From<Memory> for StoreError {
 
 /// Files by name.
 ///
-/// A store may tell what it has under each name, and may log its reads. It counts its failed reads and
-/// its failed writes: each count grows by one in a call of its kind that answers `Failed`, and in no
-/// other. No call changes whether the store tells its contents, whether it logs, or whether it is sure.
+/// A store may tell what it has under each name, and may log its reads. It counts its reads, those that
+/// failed or found no memory among them, and its failed reads and its failed writes: these counts grow by
+/// one in a call of their kind that answers `Failed`, and in no other. No call changes whether the store
+/// tells its contents, whether it logs, or whether it is sure.
 pub trait Store {
     // What each name has, where the store tells it.
     ghost contents: { Self → Contents };
@@ -61,6 +62,9 @@ pub trait Store {
 
     // Whether the store logs its reads.
     ghost logs: { Self → Bool };
+
+    // How many calls of `read` there were.
+    ghost reads: { Self → ℕ };
 
     // How many reads failed.
     ghost failed_reads: { Self → ℕ };
@@ -91,6 +95,7 @@ pub trait Store {
         ensures logged { OnOk result (IsTrue (logs self.old) → readings self.new ≡
             readings self.old ++ reading_of name.now limit into.old.items into.new.items ∷ []) }
         ensures unlogged { OnErr result (readings self.new ≡ readings self.old) }
+        ensures once { reads self.new ≡ counted (reads self.old) }
 
         // A fault is counted, and nothing else is.
         ensures failed { IsErrOf result StoreError.Failed →
@@ -128,6 +133,7 @@ pub trait Store {
         ensures counts { failed_writes self.old ≤ failed_writes self.new }
         ensures reads { failed_reads self.new ≡ failed_reads self.old }
         ensures unlogged { readings self.new ≡ readings self.old }
+        ensures unread { reads self.new ≡ reads self.old }
 
         ensures tells_still { tells self.new ≡ tells self.old }
         ensures logs_still { logs self.new ≡ logs self.old }

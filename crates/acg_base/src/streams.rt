@@ -3,37 +3,113 @@
 ghost use Rattle.std.specs.Prelude.{◌≡◌};
 
 use crate::{
-    Folder, FolderStore, Name, OutSink, Sink, SinkError, Store, StoreError, append_front, hand_on,
+    CountingRead, CountingReader, CountingWrite, CountingWriter, Folder, FolderStore, Name,
+    OutSink, Sink, SinkError, Store, StoreError, append_front, hand_on,
 };
 use std::alloc::Global;
 use std::io;
 use std::io::{ErrorKind, Read, Write};
 use std::test::Fail;
 
-// A folder that has the same bytes under every name, and tells them.
+// A reader in memory of a file of this name, that gives two bytes at a time and never fails.
+#[derive(Drop)]
+struct Leaf<'a> {
+    name: &'a [u8],
+    rest: &'a [u8],
+}
+
+impl CountingRead for Leaf<'_> {
+    ghost use Rattle.std.specs.Prelude.{Some, false};
+
+    ghost remaining = { λ leaf. Some leaf.rest.now };
+
+    ghost source = { λ leaf. Some leaf.name.now };
+
+    ghost faults = { λ _. 0 };
+
+    ghost last_failed = { λ _. false };
+
+    fn give(&mut self, buffer: &mut [u8]) -> Result<usize, StoreError> {
+        let count = buffer.len().min(self.rest.len()).min(2);
+        buffer[..count].copy_from_slice(&self.rest[..count]);
+        self.rest = &self.rest[count..];
+        Ok(count)
+    }
+}
+
+// A writer in memory of a file of this name, that takes two bytes at a time.
+#[derive(Drop)]
+struct Sheet<'a> {
+    name: &'a [u8],
+    bytes: Vec<u8>,
+    faults: u64,
+    last_failed: bool,
+}
+
+impl CountingWrite for Sheet<'_> {
+    ghost use Rattle.std.specs.Prelude.{Some};
+
+    ghost contents = { λ sheet. Some sheet.bytes.items };
+
+    ghost target = { λ sheet. Some sheet.name.now };
+
+    ghost faults = { λ sheet. sheet.faults };
+
+    ghost last_failed = { λ sheet. sheet.last_failed };
+
+    fn take(&mut self, bytes: &[u8]) -> Result<usize, SinkError> {
+        let count = bytes.len().min(2);
+        self.last_failed = self.bytes.extend_from_slice(&bytes[..count]).is_err();
+        if self.last_failed {
+            self.faults = self.faults.saturating_add(1);
+            return Err(SinkError::Failed);
+        }
+        Ok(count)
+    }
+}
+
+// A folder of one file, which tells its bytes.
 #[derive(Drop)]
 struct Page<'a> {
     alloc: Global,
+    name: &'a [u8],
     bytes: &'a [u8],
 }
 
 impl<'a> Folder for Page<'a> {
-    ghost use Rattle.std.specs.Prelude.{Some, true};
+    ghost use Rattle.std.specs.Prelude.{Some, None, true, if◌then◌else◌};
+    ghost use Rattle.std.specs.Str.{bytes_eq};
 
-    type Reader = &'a [u8];
+    type Reader = Leaf<'a>;
 
-    type Writer = Vec<u8>;
+    type Writer = Sheet<'a>;
 
-    ghost contents = { λ page _. Some page.bytes.now };
+    ghost contents = { λ page name. if bytes_eq name page.name.now then Some page.bytes.now else None };
+
+    ghost makes = { λ page name. bytes_eq name page.name.now };
 
     ghost tells = { λ _. true };
 
-    fn open(&self, _name: &str) -> io::Result<&'a [u8]> {
-        Ok(self.bytes)
+    fn open(&self, name: &str) -> io::Result<Leaf<'a>> {
+        if name.as_bytes() != self.name {
+            return Err(io::Error::from(ErrorKind::NotFound));
+        }
+        Ok(Leaf {
+            name: self.name,
+            rest: self.bytes,
+        })
     }
 
-    fn create(&self, _name: &str) -> io::Result<Vec<u8>> {
-        Ok(Vec::new(self.alloc))
+    fn create(&self, name: &str) -> io::Result<Sheet<'a>> {
+        if name.as_bytes() != self.name {
+            return Err(io::Error::from(ErrorKind::PermissionDenied));
+        }
+        Ok(Sheet {
+            name: self.name,
+            bytes: Vec::new(self.alloc),
+            faults: 0,
+            last_failed: false,
+        })
     }
 }
 
@@ -85,13 +161,14 @@ impl Write for Narrow {
 #[test]
 fn reads_in_pieces_give_the_front(rt: HostRuntime) -> Result<(), Fail> {
     for failing in 0..6 {
-        let mut reader = Drip {
+        let mut reader = CountingReader::new(Drip {
             rest: b"several",
             failing,
             reads: 0,
-        };
+        });
         let mut into = Vec::from_slice(rt.alloc(), b"to ")?;
         let answer = append_front(&mut reader, 4, &mut into);
+        assert_eq!(rt; reader.reader.reads, 3.min(failing.saturating_add(1)));
         if failing < 3 {
             assert_eq!(rt; answer, Err(StoreError::Failed));
             assert_eq!(rt; into.as_slice(), b"to ".as_slice());
@@ -106,14 +183,15 @@ fn reads_in_pieces_give_the_front(rt: HostRuntime) -> Result<(), Fail> {
 #[test]
 fn writes_in_pieces_take_a_front_before_a_fault(rt: HostRuntime) -> Result<(), Fail> {
     for failing in 0..6 {
-        let mut writer = Narrow {
+        let mut writer = CountingWriter::new(Narrow {
             taken: Vec::new(rt.alloc()),
             failing,
             writes: 0,
-        };
+        });
         let answer = hand_on(&mut writer, b"several");
         let taken = 7.min(2 * failing as usize);
-        assert_eq!(rt; writer.taken.as_slice(), &b"several"[..taken]);
+        assert_eq!(rt; writer.writer.taken.as_slice(), &b"several"[..taken]);
+        assert_eq!(rt; writer.writer.writes, 4.min(failing.saturating_add(1)));
         if failing < 4 {
             assert_eq!(rt; answer, Err(SinkError::Failed));
         } else {
@@ -127,19 +205,23 @@ fn writes_in_pieces_take_a_front_before_a_fault(rt: HostRuntime) -> Result<(), F
 fn a_folder_that_tells_is_read_and_written(rt: HostRuntime) -> Result<(), Fail> {
     let mut store = FolderStore::new(Page {
         alloc: rt.alloc(),
+        name: b"any",
         bytes: b"page",
     });
     let name = Name::new(rt.alloc(), "any").ok().ok_or("memory")?;
+    let other = Name::new(rt.alloc(), "other").ok().ok_or("memory")?;
     let mut into = Vec::from_slice(rt.alloc(), b"to ")?;
     store.read(&name, 2, &mut into)?;
     assert_eq!(rt; into.as_slice(), b"to pag".as_slice());
     store.write(&name, b"bytes")?;
+    assert_eq!(rt; store.read(&other, 2, &mut into), Err(StoreError::Failed));
+    assert_eq!(rt; store.write(&other, b"bytes"), Err(StoreError::Failed));
     Ok(())
 }
 
 #[test]
 fn a_vector_takes_each_piece(rt: HostRuntime) -> Result<(), Fail> {
-    let mut out = OutSink::new(Vec::new(rt.alloc()));
+    let mut out = OutSink::new(CountingWriter::new(Vec::new(rt.alloc())));
     assert_eq!(rt; out.write(b"one "), Ok(()));
     assert_eq!(rt; out.write(b"two"), Ok(()));
     Ok(())

@@ -2,8 +2,8 @@
 
 use crate::callers::{CopyError, copy};
 use crate::{
-    FolderStore, ListSink, MapStore, Name, OutSink, Sink, SinkError, Status, Store, StoreError,
-    Words, WorkingFolder, decimal_into, read_decimal, unsigned_into,
+    CountingWriter, FolderStore, ListSink, MapStore, Name, OutSink, Sink, SinkError, Status, Store,
+    StoreError, Words, WorkingFolder, decimal_into, read_decimal, unsigned_into,
 };
 use std::alloc::Global;
 use std::test::Fail;
@@ -229,7 +229,7 @@ fn a_folder_keeps_what_is_written(rt: HostRuntime) -> Result<(), Fail> {
 
 #[test]
 fn standard_output_takes_a_piece(rt: HostRuntime) -> Result<(), Fail> {
-    let mut out = OutSink::new(io::writer(&rt));
+    let mut out = OutSink::new(CountingWriter::new(io::writer(&rt)));
     assert_eq!(rt; out.write(b"a line\n"), Ok(()));
     assert_eq!(rt; out.write(b""), Ok(()));
     Ok(())

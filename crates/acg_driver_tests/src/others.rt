@@ -61,6 +61,8 @@ impl Store for Single {
 
     ghost logs = { λ _. false };
 
+    ghost reads = { λ store. store.reads };
+
     ghost failed_reads = { λ _. 0 };
 
     ghost failed_writes = { λ _. 0 };

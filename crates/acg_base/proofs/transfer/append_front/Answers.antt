@@ -1,7 +1,5 @@
 -- What the reads so far gave stands behind the old bytes.
-use Rattle.std.proofs.Common.{arith, ◌≡◌, length, ◌+◌, ◌≤◌, drop}
-use Rattle.std.specs.Io.{StartsWith}
-use Rattle.std.specs.Io.KnownBytes.{Consumes}
+use Rattle.std.proofs.Common.{arith, ◌∙◌}
 use Rattle.std.proofs.Transfers.{starts_with_trans}
 use Rattle.std.proofs.KnownBytes.{Consumes-more}
 use Rattle.acg_base.proofs.TransferLemmas.{front-full, front-ended}
@@ -18,6 +16,8 @@ loop-left-preserved g c =
       stays = starts_with_trans new mid old c.append_some.ensures.stays kept.stays;
       room = omega (arith, kept.room, grew.0, grew.1);
       gave = Consumes-more _ _ _ old mid new kept.stays c.append_some.ensures.stays kept.gave c.in-Ok.ensures.gives;
+      passed = c.append_some.ensures.passed (rw c.in-Ok.is (λ fault. cc)) ∙ kept.passed;
+      source = c.append_some.ensures.source_still ∙ kept.source;
     }
 
 pub returns-after-loop-left-clause-done : goal.returns-after-loop-left-clause-done
