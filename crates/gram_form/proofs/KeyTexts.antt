@@ -22,7 +22,7 @@ texts-insert keys k =
     (elim (list_any (λ x. bytes_eq k.now x.now) keys) as (λ t. texts (cond t keys (keys ++ k ∷ [])) ≡ cond t (texts keys) (texts keys ++ k.now ∷ [])) [ true ↦ refl | false ↦ map-append (λ (n : Bor (List ℕ)). n.now) keys (k ∷ []) ])
 
 -- of distinct names none is seen before its place
-seen-distinct : (names : List (List ℕ)) (i : ℕ) → AllPairs (λ x y. x ≢ y) names → i < length names → seen_with (take i names) (get_or names i []) ≡ take (i + 1) names
+pub seen-distinct : (names : List (List ℕ)) (i : ℕ) → AllPairs (λ x y. x ≢ y) names → i < length names → seen_with (take i names) (get_or names i []) ≡ take (i + 1) names
 seen-distinct names i distinct h = pick (list_any (bytes_eq (get_or names i [])) (take i names)) refl
   where
     pick : (b : Bool) → list_any (bytes_eq (get_or names i [])) (take i names) ≡ b → cond b (take i names) (take i names ++ get_or names i [] ∷ []) ≡ take (i + 1) names

@@ -1,0 +1,6 @@
+pub mod DistinctLiterals
+pub mod Words
+pub mod Search
+pub mod Choices
+pub mod Steps
+pub mod OneScan

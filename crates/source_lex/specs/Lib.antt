@@ -1,0 +1,6 @@
+pub mod Forms
+pub mod Lexemes
+pub mod Literals
+pub mod ScanErrors
+pub mod Numbered
+pub mod Trees

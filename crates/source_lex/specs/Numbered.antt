@@ -1,0 +1,43 @@
+-- A grammar with numbers in the place of names and literals.
+use Rattle.std.specs.Prelude.{ℕ, zero, suc, List, [], ◌∷◌, map, slice_get, Option, if◌then◌else◌}
+use Rattle.std.specs.Option.{option_and_then}
+use Rattle.std.specs.Str.{bytes_eq}
+use Rattle.gram_form.specs.Plain.{PlainPart, PlainLiteral, PlainNonterm, PlainIdentifier, PlainNumeral, PlainProduction, PlainGrammar}
+use Rattle.gram_form.specs.Grammars.{names_of}
+use Rattle.source_lex.specs.declared.lexeme.LexKind.{LexKind}
+use Rattle.source_lex.specs.declared.lexeme.LexKind.TheVariants.{Literal, Identifier, Numeral}
+
+-- a part of an alternative: a lexeme of that kind, or a phrase of the nonterminal with that number
+pub data Symbol : Type 0 where
+  Word : (kind : LexKind) → Symbol
+  Phrase : (nonterminal : ℕ) → Symbol
+
+-- the parts of an alternative
+abbrev pub Alternative : Type 0
+Alternative = List Symbol
+
+-- the alternatives of each nonterminal, by its number
+abbrev pub Numbered : Type 0
+Numbered = List (List Alternative)
+
+-- the place of the first text that is the same, or the count of all where there is none
+abbrev pub place_of : List (List ℕ) → List ℕ → ℕ
+place_of [] bytes = zero
+place_of (text ∷ texts) bytes = if bytes_eq text bytes then zero else suc (place_of texts bytes)
+
+abbrev pub symbol_of : (names literals : List (List ℕ)) → PlainPart → Symbol
+symbol_of names literals (PlainLiteral bytes) = Word (Literal (place_of literals bytes))
+symbol_of names literals (PlainNonterm name) = Phrase (place_of names name)
+symbol_of names literals PlainIdentifier = Word Identifier
+symbol_of names literals PlainNumeral = Word Numeral
+
+abbrev pub alternatives_of : (names literals : List (List ℕ)) → PlainProduction → List Alternative
+alternatives_of names literals production = map (map (symbol_of names literals)) production.alternatives
+
+-- a nonterminal's number is the place of its production, and a literal's the place among the literals
+abbrev pub numbered : PlainGrammar → Numbered
+numbered g = map (alternatives_of (names_of g.productions) g.literals) g.productions
+
+-- an alternative of a nonterminal, by its number
+abbrev pub alternative_of : Numbered → (nonterminal alternative : ℕ) → Option Alternative
+alternative_of g n a = option_and_then (λ alternatives. slice_get alternatives a) (slice_get g n)
