@@ -1,13 +1,10 @@
 -- Where nodes go on: the first part of a node at the front of the second, and the second where the node does.
 use Rattle.std.proofs.Common.{◌≡◌, ◌≢◌, ℕ, zero, suc, ◌+◌, ◌*◌, ◌<◌, ◌≤◌, List, [], ◌∷◌, length, get_or, set, replicate, Some, refl, sym, ap, ◌∙◌, arith, inl, inr, length-set, get_or-set_same, add-zero, add-one, drop}
-use Rattle.std.proofs.lemmas.List.{get_or-set_other, get_or-replicate, length-replicate, drop_more, get_or_default, length-map}
+use Rattle.std.proofs.lemmas.List.{get_or-set_other, get_or-replicate, length-replicate, drop_more, get_or_default}
+use Rattle.std.proofs.lemmas.Option.{slice_get-get_or}
 use Rattle.std.specs.Prelude.{slice_get, All}
-use Rattle.std.proofs.lemmas.List.Elements.{All-head, All-tail}
-use Rattle.action_terms.specs.Actions.{Join, Chain, Node, Both, Phases, Action}
+use Rattle.action_terms.specs.Actions.{Join, Chain, Node, Both, Phases, Stray, Action, node_or_stray, node_at}
 use Rattle.rv_codegen.specs.Blocks.{first_label, front_of, with_exits, exits_from, exits_of}
-use Rattle.rv_codegen.specs.Works.{node_of_work, action_of_works, HasPartsBelow}
-use Rattle.rv_codegen.specs.declared.work.Work.{Work}
-use Rattle.rv_codegen.specs.declared.work.Work.TheVariants as work
 use Rattle.rv_codegen.proofs.NodeParts.{IsPartOf}
 
 -- the parts of an action's nodes make a tree: each is a node behind its own, and of one node alone
@@ -113,9 +110,12 @@ module _ (a : Action) (tree : HasTree a) where
   root-exit some =
       exits_from-other a 0 0 at_first (λ j n e p. let z = tree.after j 0 n e p in omega arith) ∙ get_or-replicate (length a) 0 (front_of (length a)) 0 some
 
--- the exits of one node more, of works from number k on
-pub exits_from-next : (works : List Work) (k : ℕ) (d : Work) (exits : List ℕ) → k < length works → exits_from (k + 1) (action_of_works (drop (k + 1) works)) (with_exits (node_of_work (get_or works k d)) k exits) ≡ exits_from k (action_of_works (drop k works)) exits
-exits_from-next works k d exits lt = let e = drop_more works k d lt in rw (e, add-one) refl
+-- the exits of one node more, from number k on
+pub exits_from-next : (a : Action) (k : ℕ) (exits : List ℕ) → k < length a → exits_from (k + 1) (drop (k + 1) a) (with_exits (node_at a k) k exits) ≡ exits_from k (drop k a) exits
+exits_from-next a k exits lt =
+    let node : node_at a k ≡ get_or a k Stray = ap node_or_stray (slice_get-get_or a k Stray lt) in
+    let e = drop_more a k Stray lt in
+    rw (node, e, add-one) refl
 
 -- ---- exits are labels of nodes, or that of the entries
 
@@ -133,17 +133,15 @@ set-below bound (suc i) v (x ∷ exits) lt h (suc j) = set-below bound i v exits
 two-below : (bound l r v w : ℕ) (exits : List ℕ) → v < bound → w < bound → AreBelow bound exits → AreBelow bound (set (set exits l v) r w)
 two-below bound l r v w exits lv lw h = set-below bound r w (set exits l v) lw (set-below bound l v exits lv h)
 
-with_exits-below : (w : Work) (n bound k : ℕ) (exits : List ℕ) → first_label + 1 + 4 * n ≤ bound → HasPartsBelow n w → AreBelow bound exits → AreBelow bound (with_exits (node_of_work w) k exits)
-with_exits-below work.Complete n bound k exits le parts h = h
-with_exits-below work.Fail n bound k exits le parts h = h
-with_exits-below (work.Send z) n bound k exits le parts h = h
-with_exits-below (work.And l r) n bound k exits le parts h = two-below bound l r (front_of r) (get_or exits k 0) exits (omega (arith, parts.1)) (h k) h
-with_exits-below (work.AndThen l r) n bound k exits le parts h = two-below bound l r (front_of r) (get_or exits k 0) exits (omega (arith, parts.1)) (h k) h
+with_exits-below : (n : Node) (count bound k : ℕ) (exits : List ℕ) → first_label + 1 + 4 * count ≤ bound → ((c : ℕ) → IsPartOf n c → c < count) → AreBelow bound exits → AreBelow bound (with_exits n k exits)
+with_exits-below (Both j l r) count bound k exits le parts h = two-below bound l r (front_of r) (get_or exits k 0) exits (omega (arith, parts r (inr refl))) (h k) h
+with_exits-below (Phases q l r) count bound k exits le parts h = two-below bound l r (front_of r) (get_or exits k 0) exits (omega (arith, parts r (inr refl))) (h k) h
+with_exits-below _ count bound k exits le parts h = h
 
-exits_from-below : (works : List Work) (n bound k : ℕ) (exits : List ℕ) → first_label + 1 + 4 * n ≤ bound → All (HasPartsBelow n) works → AreBelow bound exits → AreBelow bound (exits_from k (action_of_works works) exits)
-exits_from-below [] n bound k exits le parts h = h
-exits_from-below (w ∷ works) n bound k exits le parts h =
-    exits_from-below works n bound (suc k) (with_exits (node_of_work w) k exits) le (All-tail (HasPartsBelow n) w works parts) (with_exits-below w n bound k exits le (All-head (HasPartsBelow n) w works parts) h)
+exits_from-below : (a : Action) (count bound k : ℕ) (exits : List ℕ) → first_label + 1 + 4 * count ≤ bound → ((j c : ℕ) (n : Node) → slice_get a j ≡ Some n → IsPartOf n c → c < count) → AreBelow bound exits → AreBelow bound (exits_from k a exits)
+exits_from-below [] count bound k exits le parts h = h
+exits_from-below (n ∷ a) count bound k exits le parts h =
+    exits_from-below a count bound (suc k) (with_exits n k exits) le (λ j c m e p. parts (suc j) c m e p) (with_exits-below n count bound k exits le (λ c p. parts 0 c n refl p) h)
 
 all-below : (bound n v : ℕ) → v < bound → AreBelow bound (replicate n v)
 all-below bound zero v lt i = omega arith
@@ -151,11 +149,9 @@ all-below bound (suc n) v lt zero = lt
 all-below bound (suc n) v lt (suc i) = all-below bound n v lt i
 
 -- the exits are among the labels that are made
-pub exits-made : (works : List Work) (exits : List ℕ) (labels : ℕ) → All (HasPartsBelow (length works)) works → exits ≡ exits_of (action_of_works works) → first_label + (4 * length works + 4) ≤ labels → All (λ l. l < labels) exits
-exits-made works exits labels parts e many i d within =
-    let a = action_of_works works in
-    let n : length a ≡ length works = length-map works node_of_work in
-    let first = all-below labels (length a) (front_of (length a)) (omega (arith, n)) in
-    let below = exits_from-below works (length works) labels 0 (replicate (length a) (front_of (length a))) (omega arith) parts first i in
+pub exits-made : (a : Action) → HasTree a → (exits : List ℕ) (labels : ℕ) → exits ≡ exits_of a → first_label + (4 * length a + 4) ≤ labels → All (λ l. l < labels) exits
+exits-made a tree exits labels e many i d within =
+    let first = all-below labels (length a) (front_of (length a)) (omega arith) in
+    let below = exits_from-below a (length a) labels 0 (replicate (length a) (front_of (length a))) (omega arith) (λ j c n f p. tree.within j c n f p) first i in
     let here : get_or exits i d ≡ get_or (exits_of a) i 0 = get_or_default exits i d 0 within ∙ ap (λ l. get_or l i 0) e in
     rw here below

@@ -1,9 +1,9 @@
 -- The image of the code that is generated for a graph is right.
-use Rattle.std.proofs.Common.{◌≡◌, ℕ, zero, suc, ◌^◌, ◌+◌, ◌*◌, ◌<◌, ◌≤◌, ℤ, List, [], ◌∷◌, length, map, get_or, Option, Some, None, Result, Ok, Err, IfOk, OnOk, refl, sym, ap, ◌∙◌, subst, arith}
-use Rattle.std.specs.Prelude.{slice_get, option_map, All}
+use Rattle.std.proofs.Common.{◌≡◌, ℕ, zero, suc, ◌^◌, ◌+◌, ◌*◌, ◌<◌, ◌≤◌, ℤ, List, [], ◌∷◌, length, map, Option, Some, Result, Ok, Err, IfOk, OnOk, sym, ap, ◌∙◌, subst, arith}
+use Rattle.std.specs.Prelude.{slice_get, IfSome}
+use Rattle.std.specs.Int.{w64}
+use Rattle.std.proofs.Math.Facts.{Fits-of_z}
 use Rattle.std.proofs.Math.Nat.{mul-le-mul_left}
-use Rattle.std.proofs.lemmas.Option.{slice_get-map, slice_get_within, get_or_from_slice_get}
-use Rattle.std.proofs.lemmas.List.{length-map}
 use Rattle.rv_code.specs.Encode.{encode}
 use Rattle.rv_asm.specs.Arrivals.{LabelsStand}
 use Rattle.rv_asm.specs.Assembly.{code_of, spot, total}
@@ -12,41 +12,25 @@ use Rattle.rv_asm.proofs.Encodings.{words-encoded}
 use Rattle.rv_asm.proofs.Labels.{length-code}
 use Rattle.rv_asm.proofs.Places.{length-code_bytes}
 use Rattle.action_terms.specs.Actions.{NumberLiteral, Send, Simple, Node, Action, node_at}
+use Rattle.action_terms.specs.Literals.{NodeFits, NumbersFit}
 use Rattle.action_terms.specs.Meaning.{action_of}
 use Rattle.action_terms.specs.Need.{node_yielder_count, most_yielders, factor}
 use Rattle.action_terms.specs.Numbering.{Listed, IsGraph}
+use Rattle.action_terms.proofs.AllLaws.{All-at}
 use Rattle.action_terms.proofs.GraphLaws.{length-nodes_some, length-nodes_few}
 use Rattle.rv_codegen.specs.Blocks.{action_items}
 use Rattle.rv_codegen.specs.Measures.{subject_of, node_count}
 use Rattle.rv_codegen.specs.RightImage.{compiled_image, IsRight}
-use Rattle.rv_codegen.specs.Works.{node_of_work, action_of_works, FitsWord, unbuilt}
-use Rattle.rv_codegen.specs.declared.work.Work.{Work}
-use Rattle.rv_codegen.specs.declared.work.Work.TheVariants as work
+use Rattle.rv_codegen.specs.Works.{unbuilt}
 use Rattle.rv_codegen.proofs.Compiling.{IsCompilable}
 use Rattle.rv_codegen.proofs.Loading.{code_bytes-small, compiled-loads}
 use Rattle.rv_codegen.proofs.Right.{image-shows}
-use Rattle.rv_codegen.proofs.WorkLaws.{tree-of-graph, built-of-graph, length-action_of}
+use Rattle.rv_codegen.proofs.GraphNodes.{tree-of-graph, built-of-graph, length-action_of}
 
 -- what holds of the value of an `Ok`, with what an `Ok` tells
 pub IfOk-on : {T E : Type 0} (r : Result T E) (A : Type 0) (P Q : T → Type 0) → (A → (x : T) → P x → Q x) → OnOk r A → IfOk r P → IfOk r Q
 IfOk-on (Ok x) A P Q f a p = f a x p
 IfOk-on (Err e) A P Q f a p = tt
-
--- the work of a node of works
-work-at : (works : List Work) (k : ℕ) (n : Node) → slice_get (action_of_works works) k ≡ Some n → (w : Work) × (slice_get works k ≡ Some w) × (node_of_work w ≡ n)
-work-at works k n e = found (slice_get works k) refl (sym (slice_get-map node_of_work works k) ∙ e)
-  where
-    found : (o : Option Work) → slice_get works k ≡ o → option_map node_of_work o ≡ Some n → (w : Work) × (slice_get works k ≡ Some w) × (node_of_work w ≡ n)
-    found None at e' = absurd (cc)
-    found (Some w) at e' = (w, at, cc)
-
--- an integer that is sent fits a word
-fits-sent : (w : Work) (z : ℤ) → FitsWord w → node_of_work w ≡ Simple (Send (NumberLiteral z)) → integer_word z < 2 ^ 64
-fits-sent work.Complete z h e = absurd (cc)
-fits-sent work.Fail z h e = absurd (cc)
-fits-sent (work.Send y) z h e = let same : y ≡ z = cc in subst (λ v. integer_word v < 2 ^ 64) same h
-fits-sent (work.And l r) z h e = absurd (cc)
-fits-sent (work.AndThen l r) z h e = absurd (cc)
 
 -- ---- the factor covers the code of each node
 
@@ -63,41 +47,34 @@ factor-covers w z n y a b =
     let second : (z + 1) * (24 * (n + 1)) ≤ (z + 1) * (24 * (w + 1)) = mul-le-mul_left (z + 1) (mul-le-mul_left 24 p) in
     omega (arith, first, second)
 
-module _ (g : Listed) (graph : IsGraph g) (works : List Work) (same : action_of_works works ≡ action_of g) where
-  size : length works ≡ length g.nodes
-  size = sym (length-map works node_of_work) ∙ ap length same ∙ length-action_of g
+module _ (g : Listed) (graph : IsGraph g) (numbers : NumbersFit (action_of g)) (none : unbuilt (action_of g) ≡ []) where
+  -- an integer that is sent is one of 64 bits
+  sent-fits : (k : ℕ) (z : ℤ) → slice_get (action_of g) k ≡ Some (Simple (Send (NumberLiteral z))) → integer_word z < 2 ^ 64
+  sent-fits k z e =
+      let P : Option Node → Type 0 = λ o. IfSome o NodeFits in
+      (Fits-of_z {w = w64} {z = z} (subst P e (All-at NodeFits (action_of g) k numbers))).fits
 
-  pub few : length works ≤ 65536
-  few = omega (arith, size, length-nodes_few g graph)
+  compilable : IsCompilable (action_of g)
+  compilable = record {
+    tree = tree-of-graph g graph;
+    built = λ k n e. built-of-graph (action_of g) none k n e;
+    fits = sent-fits;
+    some = omega (arith, length-action_of g, length-nodes_some g graph);
+  }
 
-  module _ (fit : All FitsWord works) (none : unbuilt (action_of g) ≡ []) where
-    compilable : IsCompilable (action_of g)
-    compilable = record {
-      tree = tree-of-graph g graph;
-      built = λ k n e. built-of-graph (action_of g) none k n e;
-      fits = λ k z e.
-          let w = work-at works k (Simple (Send (NumberLiteral z))) (ap (λ a. slice_get a k) same ∙ e) in
-          let lt = slice_get_within works k w.0 w.1 in
-          let here : get_or works k w.0 ≡ w.0 = get_or_from_slice_get works k w.0 w.0 w.1 in
-          fits-sent w.0 z (subst FitsWord here (fit k w.0 lt)) w.2;
-      some = omega (arith, length-action_of g, length-nodes_some g graph);
-    }
-
-    -- the image of the words is right
-    pub generated-right : (words : List ℕ) → LabelsStand (action_items (action_of_works works)) → total (action_items (action_of_works works)) ≤ 25 + 14 * length works → map Some words ≡ map encode (code_of (action_items (action_of_works works))) → (stack units : ℕ) → 1 ≤ stack → stack ≤ 16777216 → 1 ≤ units → units ≤ 4194304 → IsRight (compiled_image (instruction_bytes words) stack units) (node_count g) (subject_of g stack units)
-    generated-right words labels short encoded stack units s_low s u_low u =
-        let a = action_of g in
-        let items = action_items a in
-        let code = code_of items in
-        let same_items : action_items (action_of_works works) ≡ items = ap action_items same in
-        let stand : LabelsStand items = subst LabelsStand same_items labels in
-        let few_items : total items ≤ 25 + 14 * length works = subst (λ z. total z ≤ 25 + 14 * length works) same_items short in
-        let known = words-encoded words code (subst (λ z. map Some words ≡ map encode (code_of z)) same_items encoded) in
-        let x = subject_of g stack units in
-        let size_is : length (code_bytes code) ≡ 4 * total items = length-code_bytes code ∙ ap (λ n. 4 * n) (length-code (spot items) 0 items) in
-        let paid = λ (k n : ℕ) (le : n ≤ 0). factor-covers 0 (most_yielders a) n (node_yielder_count (node_at a k)) le (most-yielders a k) in
-        subst (λ b. IsRight (compiled_image b stack units) (node_count g) x) (sym known.bytes)
-        (record {
-          loads = compiled-loads (code_bytes code) stack units (node_count g) (code_bytes-small code) (length-nodes_few g graph) s u (omega (arith, size_is, few_items, size));
-          shows = λ input is_bytes m. image-shows x compilable stand (omega (arith, few_items, few)) (omega arith) paid s_low s u input is_bytes known.encodable m;
-        })
+  -- the image of the words is right
+  pub generated-right : (words : List ℕ) → LabelsStand (action_items (action_of g)) → total (action_items (action_of g)) ≤ 25 + 14 * length g.nodes → map Some words ≡ map encode (code_of (action_items (action_of g))) → (stack units : ℕ) → 1 ≤ stack → stack ≤ 16777216 → 1 ≤ units → units ≤ 4194304 → IsRight (compiled_image (instruction_bytes words) stack units) (node_count g) (subject_of g stack units)
+  generated-right words labels short encoded stack units s_low s u_low u =
+      let a = action_of g in
+      let items = action_items a in
+      let code = code_of items in
+      let few : length g.nodes ≤ 65536 = omega (arith, length-nodes_few g graph) in
+      let known = words-encoded words code encoded in
+      let x = subject_of g stack units in
+      let size_is : length (code_bytes code) ≡ 4 * total items = length-code_bytes code ∙ ap (λ n. 4 * n) (length-code (spot items) 0 items) in
+      let paid = λ (k n : ℕ) (le : n ≤ 0). factor-covers 0 (most_yielders a) n (node_yielder_count (node_at a k)) le (most-yielders a k) in
+      subst (λ b. IsRight (compiled_image b stack units) (node_count g) x) (sym known.bytes)
+      (record {
+        loads = compiled-loads (code_bytes code) stack units (node_count g) (code_bytes-small code) (length-nodes_few g graph) s u (omega (arith, size_is, short));
+        shows = λ input is_bytes m. image-shows x compilable labels (omega (arith, short, few)) (omega arith) paid s_low s u input is_bytes known.encodable m;
+      })

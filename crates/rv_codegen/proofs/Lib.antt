@@ -4,8 +4,8 @@ pub mod ExitLaws
 pub mod NodesLaws
 pub mod Loading
 pub mod ListedParts
-pub mod WorkLaws
-pub mod WorkTurns
+pub mod GraphNodes
+pub mod Unbuilt
 pub mod Yielders
 pub mod Jumps
 pub mod Messages

@@ -138,7 +138,8 @@ fn append_exit(asm: &mut Asm, label: Label, code: u8) -> Result<(), Memory>
     requires made { label < asm.old.labels }
     requires entry { label < first_label }
     requires fresh { EntriesFresh label asm.old.items }
-    ensures items { OnOk result (asm.new ≡ extended asm.old (Mark label ∷ map Plain (exit_with code))) }
+    ensures items { OnOk result
+        (asm.new ≡ extended asm.old (Mark label ∷ map Plain (exit_with code))) }
     ensures fresh { OnOk result (EntriesFresh (label + 1) asm.new.items) }
 {
     asm.place(label);

@@ -1,21 +1,24 @@
 //! How many instructions a step takes.
 
-ghost use Rattle.std.specs.Prelude.{◌≡◌, [], ◌≤◌};
+ghost use Rattle.std.specs.Prelude.{◌≡◌, [], ◌<◌, ◌≤◌, true, length};
+ghost use Rattle.action_terms.specs.Actions.{Simple, node_at};
+ghost use Rattle.action_terms.specs.Forms.{primitive_viewed};
 ghost use Rattle.action_terms.specs.Need.{node_yielder_count};
 ghost use Rattle.action_terms.specs.Meaning.{action_of};
 ghost use Rattle.rv_codegen.specs.Measures.{factor_of};
-ghost use Rattle.rv_codegen.specs.Works.{node_of_work, unbuilt};
+ghost use Rattle.rv_codegen.specs.Works.{is_built_node, unbuilt};
 
-use crate::work::{Work, work_of};
-use action_terms::Graph;
+use action_terms::{Graph, NodeView, PrimitiveView};
 
-// How many yielders the node has.
-fn yielder_count(work: Work) -> u64
-    ensures count { result ≡ node_yielder_count (node_of_work work) }
+// how many yielders node k has
+fn yielder_count(graph: &Graph<'_>, k: usize) -> u64
+    requires node { k < length graph.now.nodes }
+    requires built { is_built_node (node_at (action_of graph.now) k) ≡ true }
+    ensures count { result ≡ node_yielder_count (node_at (action_of graph.now) k) }
     ensures bound { result ≤ 1 }
 {
-    match work {
-        Work::Send(_) => 1,
+    match graph.view(k) {
+        NodeView::Simple(PrimitiveView::Send { yielder: _ }) => 1,
         _ => 0,
     }
 }
@@ -28,10 +31,7 @@ pub fn instructions_per_step(graph: &Graph<'_>) -> u64
 {
     let mut most: u64 = 0;
     for k in 0..graph.nodes().len() {
-        let Some(work) = work_of(graph, k) else {
-            unreachable!()
-        };
-        let count = yielder_count(work);
+        let count = yielder_count(graph, k);
         if count > most {
             most = count;
         }

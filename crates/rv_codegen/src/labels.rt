@@ -51,7 +51,8 @@ impl NodeLabels<'_> {
 /// So many new labels, with numbers that follow one another.
 pub(crate) fn make_labels(alloc: Global, asm: &mut Asm, count: usize) -> Result<Vec<Label>, Memory>
     ensures len { IfOk result (λ labels. vec_len labels ≡ count) }
-    ensures numbers { IfOk result (λ labels. (i : ℕ) → i < count → slice_index labels.items i ≡ asm.old.labels + i) }
+    ensures numbers { IfOk result (λ labels. (i : ℕ) → i < count
+        → slice_index labels.items i ≡ asm.old.labels + i) }
     ensures asm { OnOk result (asm.new ≡ record asm.old { labels = asm.old.labels + count }) }
 {
     let mut labels = Vec::with_capacity(alloc, count)?;

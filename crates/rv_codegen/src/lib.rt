@@ -2,14 +2,15 @@
 //! image is right.
 #![tactic(auto)]
 
+mod built;
 mod entries;
 mod exits;
 mod factor;
 mod generation;
 mod labels;
 mod node;
-pub mod work;
+mod plan;
 
+pub use built::first_unbuilt;
 pub use factor::instructions_per_step;
 pub use generation::generate;
-pub use work::first_unbuilt;

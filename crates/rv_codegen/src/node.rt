@@ -1,15 +1,18 @@
 //! The code of one node.
 
-ghost use Rattle.std.specs.Prelude.{◌≡◌, ℕ, ◌+◌, ◌*◌, ◌/◌, ◌-◌, ◌<◌, ◌≤◌, ◌++◌, OnOk, false, length};
+ghost use Rattle.std.specs.Prelude.{◌≡◌, ℕ, ◌+◌, ◌*◌, ◌<◌, ◌≤◌, ◌++◌, OnOk, false, length};
 ghost use Rattle.rv_asm.specs.Assembly.{total, is_placed};
+ghost use Rattle.action_terms.specs.Actions.{Simple, Both, Phases, node_at};
+ghost use Rattle.action_terms.specs.Forms.{HasPrimitiveOperands, primitive_viewed, join_viewed, chain_viewed};
+ghost use Rattle.action_terms.specs.Meaning.{action_of};
 ghost use Rattle.rv_codegen.specs.Blocks.{first_label, stop_of, goes, leaves, sends, body, block};
 ghost use Rattle.rv_codegen.specs.Marks.{extended, AreFresh, PlacesStop};
-ghost use Rattle.rv_codegen.specs.Works.{node_of_work, HasPartsBelow, FitsWord};
 
-use crate::entries::{ARGUMENT, Entries, RETURN, append_opening};
-use crate::labels::NodeLabels;
-use crate::work::Work;
+use crate::built::integer_of;
+use crate::entries::{ARGUMENT, RETURN, append_opening};
+use crate::plan::Plan;
 use acg_base::Memory;
+use action_terms::{Chain, Join, NodeView, PrimitiveView};
 use rv_asm::pieces::load_constant;
 use rv_asm::{Asm, Label};
 
@@ -29,24 +32,18 @@ fn append_way(asm: &mut Asm, next: Label, label: Label) -> Result<(), Memory>
 
 /// Appends what sends the integer with a word, by the entry that sends.
 #[tactic(auto, using(crate::proofs::Fresh::freshness))]
-fn append_sends(
-    asm: &mut Asm,
-    labels: NodeLabels<'_>,
-    k: usize,
-    entries: &Entries,
-    word: u64,
-) -> Result<(), Memory>
-    requires within { 4 * k + 3 < length labels.row.now }
-    requires made { first_label + length labels.row.now ≤ asm.old.labels }
+fn append_sends(asm: &mut Asm, plan: Plan<'_, '_>, k: usize, word: u64) -> Result<(), Memory>
+    requires node { k < length plan.graph.now.nodes }
+    requires made { first_label + length plan.labels.row.now ≤ asm.old.labels }
     requires stop { is_placed asm.old.items (stop_of k) ≡ false }
     ensures items { OnOk result (asm.new ≡ extended asm.old (sends k word)) }
     ensures marks { OnOk result (PlacesStop k asm.old.items asm.new.items) }
     ensures short { OnOk result (total asm.new.items ≤ total asm.old.items + 12) }
 {
-    let stop = labels.stop(k);
+    let stop = plan.labels.stop(k);
     load_constant(asm, ARGUMENT, word)?;
     asm.address(RETURN, stop)?;
-    asm.jump(entries.send)?;
+    asm.jump(plan.entries.send)?;
     asm.place(stop);
     Ok(())
 }
@@ -54,77 +51,155 @@ fn append_sends(
 /// Appends the code of node k where it sends the integer with a word and goes on at a label.
 fn append_sending(
     asm: &mut Asm,
-    labels: NodeLabels<'_>,
+    plan: Plan<'_, '_>,
     k: usize,
-    entries: &Entries,
     exit: Label,
     word: u64,
 ) -> Result<(), Memory>
-    requires within { 4 * k + 7 < length labels.row.now }
-    requires made { first_label + length labels.row.now ≤ asm.old.labels }
+    requires node { k < length plan.graph.now.nodes }
+    requires made { first_label + length plan.labels.row.now ≤ asm.old.labels }
     requires exit { exit < asm.old.labels }
     requires stop { is_placed asm.old.items (stop_of k) ≡ false }
     ensures items { OnOk result (asm.new ≡ extended asm.old (sends k word ++ leaves k exit)) }
     ensures marks { OnOk result (PlacesStop k asm.old.items asm.new.items) }
     ensures short { OnOk result (total asm.new.items ≤ total asm.old.items + 14) }
 {
-    let next = labels.front(k + 1);
-    append_sends(asm, labels, k, entries, word)?;
+    let next = plan.labels.front(k + 1);
+    append_sends(asm, plan, k, word)?;
     append_way(asm, next, exit)
 }
 
-/// Appends the code of node k behind its start, where the node goes on at a label.
+/// Appends the code of node k behind its start where it is done in one step and goes on at a
+/// label.
 #[tactic(auto, using(crate::proofs::Fresh::freshness))]
-fn append_body(
+fn append_primitive(
     asm: &mut Asm,
-    labels: NodeLabels<'_>,
+    plan: Plan<'_, '_>,
     k: usize,
-    work: Work,
     exit: Label,
-    entries: &Entries,
+    primitive: PrimitiveView<'_>,
 ) -> Result<(), Memory>
-    requires within { 4 * k + 7 < length labels.row.now }
-    requires made { first_label + length labels.row.now ≤ asm.old.labels }
-    requires parts { HasPartsBelow (length labels.row.now / 4 - 1) work }
+    requires node { k < length plan.graph.now.nodes }
+    requires made { first_label + length plan.labels.row.now ≤ asm.old.labels }
+    requires operands { HasPrimitiveOperands plan.graph.now.yielders primitive }
     requires exit { exit < asm.old.labels }
     requires stop { is_placed asm.old.items (stop_of k) ≡ false }
-    ensures items { OnOk result (asm.new ≡ extended asm.old (body k exit (node_of_work work))) }
+    ensures items { OnOk result (asm.new ≡ extended asm.old
+        (body k exit (Simple (primitive_viewed plan.entry.graph.now.yielders primitive.entry)))) }
     ensures marks { OnOk result (PlacesStop k asm.old.items asm.new.items) }
     ensures short { OnOk result (total asm.new.items ≤ total asm.old.items + 14) }
-    ensures fits { OnOk result (FitsWord work) }
 {
-    let next = k + 1;
-    match work {
-        Work::Complete => append_way(asm, labels.front(next), exit),
-        Work::Fail => asm.jump(entries.fail),
-        Work::Send(integer) => {
-            append_sending(asm, labels, k, entries, exit, integer.cast_unsigned())
+    match primitive {
+        PrimitiveView::Complete => append_way(asm, plan.labels.front(k + 1), exit),
+        PrimitiveView::Failing => asm.jump(plan.entries.fail),
+        PrimitiveView::Send { yielder } => match integer_of(plan.graph, yielder) {
+            Some(integer) => append_sending(asm, plan, k, exit, integer.cast_unsigned()),
+            None => Ok(()),
+        },
+        _ => Ok(()),
+    }
+}
+
+/// Appends the code of node k behind its start where it has two parts in either order.
+fn append_both(
+    asm: &mut Asm,
+    plan: Plan<'_, '_>,
+    k: usize,
+    join: Join,
+    first: u32,
+) -> Result<(), Memory>
+    requires node { k < length plan.graph.now.nodes }
+    requires part { first < length plan.graph.now.nodes }
+    requires made { first_label + length plan.labels.row.now ≤ asm.old.labels }
+    ensures items { (exit : ℕ) → (second : ℕ) → OnOk result (asm.new
+        ≡ extended asm.old (body k exit (Both (join_viewed join) first second))) }
+    ensures marks { OnOk result (PlacesStop k asm.old.items asm.new.items) }
+    ensures short { OnOk result (total asm.new.items ≤ total asm.old.items + 14) }
+{
+    match join {
+        Join::And => {
+            append_way(
+                asm,
+                plan.labels.start(k + 1),
+                plan.labels.start(first as usize),
+            )
         }
-        Work::And(first, _) | Work::AndThen(first, _) => {
-            append_way(asm, labels.start(next), labels.start(first as usize))
+        Join::Moreover => Ok(()),
+    }
+}
+
+/// Appends the code of node k behind its start where it has two parts in order.
+fn append_phases(
+    asm: &mut Asm,
+    plan: Plan<'_, '_>,
+    k: usize,
+    chain: Chain,
+    first: u32,
+) -> Result<(), Memory>
+    requires node { k < length plan.graph.now.nodes }
+    requires part { first < length plan.graph.now.nodes }
+    requires made { first_label + length plan.labels.row.now ≤ asm.old.labels }
+    ensures items { (exit : ℕ) → (second : ℕ) → OnOk result (asm.new
+        ≡ extended asm.old (body k exit (Phases (chain_viewed chain) first second))) }
+    ensures marks { OnOk result (PlacesStop k asm.old.items asm.new.items) }
+    ensures short { OnOk result (total asm.new.items ≤ total asm.old.items + 14) }
+{
+    match chain {
+        Chain::AndThen => {
+            append_way(
+                asm,
+                plan.labels.start(k + 1),
+                plan.labels.start(first as usize),
+            )
         }
+        Chain::Then | Chain::Hence | Chain::Before => Ok(()),
+    }
+}
+
+/// Appends the code of node k behind its start, where the node goes on at a label. A node that isn't
+/// built has none.
+fn append_body(asm: &mut Asm, plan: Plan<'_, '_>, k: usize, exit: Label) -> Result<(), Memory>
+    requires node { k < length plan.graph.now.nodes }
+    requires made { first_label + length plan.labels.row.now ≤ asm.old.labels }
+    requires exit { exit < asm.old.labels }
+    requires stop { is_placed asm.old.items (stop_of k) ≡ false }
+    ensures items { OnOk result (asm.new
+        ≡ extended asm.old (body k exit (node_at (action_of plan.entry.graph.now) k))) }
+    ensures marks { OnOk result (PlacesStop k asm.old.items asm.new.items) }
+    ensures short { OnOk result (total asm.new.items ≤ total asm.old.items + 14) }
+{
+    match plan.graph.view(k) {
+        NodeView::Simple(primitive) => append_primitive(asm, plan, k, exit, primitive),
+        NodeView::Both {
+            join,
+            left,
+            right: _,
+        } => append_both(asm, plan, k, join, left),
+        NodeView::Phases {
+            chain,
+            left,
+            right: _,
+        } => append_phases(asm, plan, k, chain, left),
+        _ => Ok(()),
     }
 }
 
 /// Appends the code of node k, which goes on at a label.
 pub(crate) fn append_node(
     asm: &mut Asm,
-    labels: NodeLabels<'_>,
+    plan: Plan<'_, '_>,
     k: usize,
-    work: Work,
     exit: Label,
-    entries: &Entries,
 ) -> Result<(), Memory>
-    requires within { 4 * k + 7 < length labels.row.now }
-    requires made { first_label + length labels.row.now ≤ asm.old.labels }
-    requires parts { HasPartsBelow (length labels.row.now / 4 - 1) work }
+    requires node { k < length plan.graph.now.nodes }
+    requires made { first_label + length plan.labels.row.now ≤ asm.old.labels }
     requires exit { exit < asm.old.labels }
     requires fresh { AreFresh k asm.old.items }
-    ensures items { OnOk result (asm.new ≡ extended asm.old (block k exit (node_of_work work))) }
+    ensures items { OnOk result (asm.new
+        ≡ extended asm.old (block k exit (node_at (action_of plan.entry.graph.now) k))) }
     ensures fresh { OnOk result (AreFresh (k + 1) asm.new.items) }
     ensures short { OnOk result (total asm.new.items ≤ total asm.old.items + 14) }
-    ensures fits { OnOk result (FitsWord work) }
 {
-    append_opening(asm, labels, k);
-    append_body(asm, labels, k, work, exit, entries)
+    append_opening(asm, plan.labels, k);
+    append_body(asm, plan, k, exit)
 }

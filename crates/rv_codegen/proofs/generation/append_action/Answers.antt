@@ -1,13 +1,12 @@
-use Rattle.std.proofs.Common.{length, ap, arith}
+use Rattle.std.proofs.Common.{◌≡◌, length, ap, sym, ◌∙◌, arith}
+use Rattle.std.proofs.lemmas.List.{length-map}
+use Rattle.action_terms.specs.Nodes.{listed_node}
 use Rattle.rv_codegen.proofs.Emitting.{OnOk-then, total-whole}
-use Rattle.rv_codegen.proofs.ExitLaws.{exits-made}
 use Rattle.rv_codegen.proofs.generation.append_action.Goals as goal
-
-pub append_nodes-requires-clause-exits_made : goal.append_nodes-requires-clause-exits_made
-append_nodes-requires-clause-exits_made c =
-    let labels = ap (λ a. a.labels) c.in_ok-append_prelude.ensures in
-    exits-made c.args.works.now c.args.exits.now c.append_prelude.new.asm.labels c.requires.parts c.requires.exits (omega (arith, labels, c.requires.made, c.requires.labels))
 
 pub returns-clause-short : goal.returns-clause-short
 returns-clause-short c =
-    OnOk-then c.append_entries.result (total-whole c.args.asm.now c.append_prelude.new.asm c.append_nodes.new.asm c.append_entries.new.asm (length c.args.works.now) c.in_ok-append_prelude.ensures c.in_ok-append_nodes.ensures.short) c.append_entries.ensures
+    let count = length c.nodes.result.now in
+    let same : count ≡ length c.args.plan.graph.now.nodes = sym (length-map c.nodes.result.now listed_node) ∙ ap length c.nodes.ensures.nodes in
+    let whole = total-whole c.args.asm.now c.append_prelude.new.asm c.append_nodes.new.asm c.append_entries.new.asm count c.in_ok-append_prelude.ensures (omega (arith, c.in_ok-append_nodes.ensures.short, same)) in
+    OnOk-then c.append_entries.result (λ last. omega (arith, whole last, same)) c.append_entries.ensures

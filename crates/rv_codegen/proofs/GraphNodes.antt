@@ -6,9 +6,7 @@ use Rattle.action_terms.specs.Actions.{Node, Furthermore, Both, Phases, Either, 
 use Rattle.action_terms.specs.Meaning.{picked, items_from, node_with, action_of}
 use Rattle.action_terms.specs.Numbering.{ListedNode, Listed, IsGraph}
 use Rattle.action_terms.proofs.GraphLaws.{child_after, child_within, children_ascend, one_parent}
-use Rattle.rv_codegen.specs.declared.work.Work.{Work}
-use Rattle.rv_codegen.specs.declared.work.Work.TheVariants as work
-use Rattle.rv_codegen.specs.Works.{node_of_work, is_built_node, unbuilt_from, unbuilt}
+use Rattle.rv_codegen.specs.Works.{is_built_node, unbuilt_from, unbuilt}
 use Rattle.rv_codegen.proofs.NodeParts.{IsPartOf}
 use Rattle.rv_codegen.proofs.ExitLaws.{HasTree}
 use Rattle.rv_codegen.proofs.ListedParts.{HasParts, listed-parts}
@@ -90,10 +88,3 @@ built_from j (m ∷ a) none (suc k) n at = built_from (suc j) a (empty_test (is_
 
 pub built-of-graph : (a : Action) → unbuilt a ≡ [] → (k : ℕ) (n : Node) → slice_get a k ≡ Some n → is_built_node n ≡ true
 built-of-graph a none k n at = built_from 0 a none k n at
-
-pub is_built_node-work : (w : Work) → is_built_node (node_of_work w) ≡ true
-is_built_node-work work.Complete = refl
-is_built_node-work work.Fail = refl
-is_built_node-work (work.Send z) = refl
-is_built_node-work (work.And l r) = refl
-is_built_node-work (work.AndThen l r) = refl

@@ -1,7 +1,7 @@
 use Rattle.std.proofs.Common.{◌≡◌, drop}
 use Rattle.action_terms.specs.Meaning.{action_of}
 use Rattle.rv_codegen.specs.Works.{unbuilt_from, unbuilt}
-use Rattle.rv_codegen.proofs.work.first_unbuilt.Given as goal
+use Rattle.rv_codegen.proofs.built.first_unbuilt.Given as goal
 
 -- each node so far is built
 abbrev pub invariant-loop-k : goal.invariant-loop-k
