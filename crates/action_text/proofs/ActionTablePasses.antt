@@ -1,6 +1,8 @@
 -- The table of action text passes the tests: one token chooses, and each name can be read to its end.
-use Rattle.std.proofs.Common.{◌≡◌, ℕ, Bool, true, false, List, [], ◌∷◌, ◌++◌, refl, get_or, codes, nat_eq, eqb-true}
-use Rattle.action_text.specs.declared.classes.TheConstants as class
+use Rattle.std.proofs.Common.{◌≡◌, ℕ, Bool, true, false, List, [], ◌∷◌, ◌++◌, refl, get_or, map, codes, nat_eq, eqb-true}
+use Rattle.action_text.specs.declared.classes.Class.{Class}
+use Rattle.action_text.specs.declared.classes.Class.TheVariants as class
+use Rattle.action_text.specs.Numbers.{class_number}
 use Rattle.action_text.specs.Tables.{other_of}
 use Rattle.action_text.specs.ActionTable.{table_in, class_in, lines_in, template_lines, action_lines, parameter_lines, action_others}
 use Rattle.meta_terms.specs.Words.{words}
@@ -8,95 +10,95 @@ use Rattle.action_text.proofs.Starts.{Known, Starting, Choosing}
 use Rattle.action_text.proofs.Checked.{each, starts_of, right_is_safe, line_is_good, other_is_good, lines_are_good, others_are_good, starting, choosing, can_end, below, below_each, Ending, ending, Sampled}
 
 -- the classes with which each name can begin
-abbrev firsts : List (List ℕ)
+abbrev firsts : List (List Class)
 firsts =
-    (class.COMPLETE ∷ class.FAIL ∷ class.COMMIT ∷ class.REGIVE ∷ class.REBIND ∷ class.UNFOLD ∷ class.OPEN_PAREN ∷ class.UNFOLDING ∷ class.FURTHERMORE ∷ class.ESCAPE ∷ class.GIVE ∷ class.CHECK ∷ class.BIND ∷ class.RECURSIVELY ∷ class.STORE ∷ class.ALLOCATE ∷ class.SEND ∷ class.RECEIVE ∷ class.ENACT ∷ [])
-    ∷ (class.OR ∷ class.THEN ∷ class.TRAP ∷ class.HENCE ∷ class.MOREOVER ∷ class.BEFORE ∷ class.AND ∷ [])
-    ∷ (class.THEN ∷ class.COMPLETE ∷ class.FAIL ∷ class.COMMIT ∷ class.REGIVE ∷ class.REBIND ∷ class.UNFOLD ∷ class.OPEN_PAREN ∷ class.UNFOLDING ∷ class.FURTHERMORE ∷ class.ESCAPE ∷ class.GIVE ∷ class.CHECK ∷ class.BIND ∷ class.RECURSIVELY ∷ class.STORE ∷ class.ALLOCATE ∷ class.SEND ∷ class.RECEIVE ∷ class.ENACT ∷ [])
-    ∷ (class.OR ∷ [])
-    ∷ (class.AND ∷ [])
-    ∷ (class.AND ∷ [])
-    ∷ (class.THEN ∷ [])
-    ∷ (class.TRAP ∷ [])
-    ∷ (class.HENCE ∷ [])
-    ∷ (class.MOREOVER ∷ [])
-    ∷ (class.BEFORE ∷ [])
-    ∷ (class.COMPLETE ∷ class.FAIL ∷ class.COMMIT ∷ class.REGIVE ∷ class.REBIND ∷ class.UNFOLD ∷ class.OPEN_PAREN ∷ class.UNFOLDING ∷ class.FURTHERMORE ∷ class.ESCAPE ∷ class.GIVE ∷ class.CHECK ∷ class.BIND ∷ class.RECURSIVELY ∷ class.STORE ∷ class.ALLOCATE ∷ class.SEND ∷ class.RECEIVE ∷ class.ENACT ∷ [])
-    ∷ (class.APPLICATION ∷ class.NUMBER ∷ class.PLACE ∷ class.TRUE ∷ class.FALSE ∷ class.THE ∷ class.SUM ∷ class.DIFFERENCE ∷ class.PRODUCT ∷ class.INTEGER_QUOTIENT ∷ class.INTEGER_REMAINDER ∷ class.BOTH ∷ class.EITHER ∷ class.IS ∷ class.NEGATION ∷ class.NOT ∷ class.CLOSURE ∷ [])
-    ∷ (class.WITH ∷ [])
-    ∷ (class.THEM ∷ class.OPEN_PAREN ∷ class.NUMBER ∷ class.PLACE ∷ class.TRUE ∷ class.FALSE ∷ class.THE ∷ class.SUM ∷ class.DIFFERENCE ∷ class.PRODUCT ∷ class.INTEGER_QUOTIENT ∷ class.INTEGER_REMAINDER ∷ class.BOTH ∷ class.EITHER ∷ class.IS ∷ class.NEGATION ∷ class.NOT ∷ class.CLOSURE ∷ [])
-    ∷ (class.CLOSE_PAREN ∷ class.THEM ∷ class.NUMBER ∷ class.PLACE ∷ class.TRUE ∷ class.FALSE ∷ class.THE ∷ class.SUM ∷ class.DIFFERENCE ∷ class.PRODUCT ∷ class.INTEGER_QUOTIENT ∷ class.INTEGER_REMAINDER ∷ class.BOTH ∷ class.EITHER ∷ class.IS ∷ class.NEGATION ∷ class.NOT ∷ class.CLOSURE ∷ [])
-    ∷ (class.CLOSE_PAREN ∷ class.COMMA ∷ [])
-    ∷ (class.THEM ∷ class.NUMBER ∷ class.PLACE ∷ class.TRUE ∷ class.FALSE ∷ class.THE ∷ class.SUM ∷ class.DIFFERENCE ∷ class.PRODUCT ∷ class.INTEGER_QUOTIENT ∷ class.INTEGER_REMAINDER ∷ class.BOTH ∷ class.EITHER ∷ class.IS ∷ class.NEGATION ∷ class.NOT ∷ class.CLOSURE ∷ [])
-    ∷ (class.NUMBER ∷ class.PLACE ∷ class.TRUE ∷ class.FALSE ∷ class.THE ∷ class.SUM ∷ class.DIFFERENCE ∷ class.PRODUCT ∷ class.INTEGER_QUOTIENT ∷ class.INTEGER_REMAINDER ∷ class.BOTH ∷ class.EITHER ∷ class.IS ∷ class.NEGATION ∷ class.NOT ∷ class.CLOSURE ∷ [])
-    ∷ (class.LESS ∷ class.OPEN_PAREN ∷ [])
-    ∷ (class.GIVEN ∷ class.INTEGER ∷ class.TRUTH_VALUE ∷ class.CELL ∷ class.ABSTRACTION ∷ [])
-    ∷ (class.BOUND ∷ class.STORED ∷ [])
-    ∷ (class.HASH ∷ [])
-    ∷ (class.INTEGER ∷ class.TRUTH_VALUE ∷ class.CELL ∷ class.ABSTRACTION ∷ [])
-    ∷ (class.CLOSURE ∷ [])
-    ∷ (class.QUOTED ∷ [])
+    (class.Complete ∷ class.Fail ∷ class.Commit ∷ class.Regive ∷ class.Rebind ∷ class.Unfold ∷ class.OpenParen ∷ class.Unfolding ∷ class.Furthermore ∷ class.Escape ∷ class.Give ∷ class.Check ∷ class.Bind ∷ class.Recursively ∷ class.Store ∷ class.Allocate ∷ class.Send ∷ class.Receive ∷ class.Enact ∷ [])
+    ∷ (class.Or ∷ class.Then ∷ class.Trap ∷ class.Hence ∷ class.Moreover ∷ class.Before ∷ class.And ∷ [])
+    ∷ (class.Then ∷ class.Complete ∷ class.Fail ∷ class.Commit ∷ class.Regive ∷ class.Rebind ∷ class.Unfold ∷ class.OpenParen ∷ class.Unfolding ∷ class.Furthermore ∷ class.Escape ∷ class.Give ∷ class.Check ∷ class.Bind ∷ class.Recursively ∷ class.Store ∷ class.Allocate ∷ class.Send ∷ class.Receive ∷ class.Enact ∷ [])
+    ∷ (class.Or ∷ [])
+    ∷ (class.And ∷ [])
+    ∷ (class.And ∷ [])
+    ∷ (class.Then ∷ [])
+    ∷ (class.Trap ∷ [])
+    ∷ (class.Hence ∷ [])
+    ∷ (class.Moreover ∷ [])
+    ∷ (class.Before ∷ [])
+    ∷ (class.Complete ∷ class.Fail ∷ class.Commit ∷ class.Regive ∷ class.Rebind ∷ class.Unfold ∷ class.OpenParen ∷ class.Unfolding ∷ class.Furthermore ∷ class.Escape ∷ class.Give ∷ class.Check ∷ class.Bind ∷ class.Recursively ∷ class.Store ∷ class.Allocate ∷ class.Send ∷ class.Receive ∷ class.Enact ∷ [])
+    ∷ (class.Application ∷ class.Number ∷ class.Place ∷ class.True ∷ class.False ∷ class.The ∷ class.Sum ∷ class.Difference ∷ class.Product ∷ class.IntegerQuotient ∷ class.IntegerRemainder ∷ class.Both ∷ class.Either ∷ class.Is ∷ class.Negation ∷ class.Not ∷ class.Closure ∷ [])
+    ∷ (class.With ∷ [])
+    ∷ (class.Them ∷ class.OpenParen ∷ class.Number ∷ class.Place ∷ class.True ∷ class.False ∷ class.The ∷ class.Sum ∷ class.Difference ∷ class.Product ∷ class.IntegerQuotient ∷ class.IntegerRemainder ∷ class.Both ∷ class.Either ∷ class.Is ∷ class.Negation ∷ class.Not ∷ class.Closure ∷ [])
+    ∷ (class.CloseParen ∷ class.Them ∷ class.Number ∷ class.Place ∷ class.True ∷ class.False ∷ class.The ∷ class.Sum ∷ class.Difference ∷ class.Product ∷ class.IntegerQuotient ∷ class.IntegerRemainder ∷ class.Both ∷ class.Either ∷ class.Is ∷ class.Negation ∷ class.Not ∷ class.Closure ∷ [])
+    ∷ (class.CloseParen ∷ class.Comma ∷ [])
+    ∷ (class.Them ∷ class.Number ∷ class.Place ∷ class.True ∷ class.False ∷ class.The ∷ class.Sum ∷ class.Difference ∷ class.Product ∷ class.IntegerQuotient ∷ class.IntegerRemainder ∷ class.Both ∷ class.Either ∷ class.Is ∷ class.Negation ∷ class.Not ∷ class.Closure ∷ [])
+    ∷ (class.Number ∷ class.Place ∷ class.True ∷ class.False ∷ class.The ∷ class.Sum ∷ class.Difference ∷ class.Product ∷ class.IntegerQuotient ∷ class.IntegerRemainder ∷ class.Both ∷ class.Either ∷ class.Is ∷ class.Negation ∷ class.Not ∷ class.Closure ∷ [])
+    ∷ (class.Less ∷ class.OpenParen ∷ [])
+    ∷ (class.Given ∷ class.Integer ∷ class.TruthValue ∷ class.Cell ∷ class.Abstraction ∷ [])
+    ∷ (class.Bound ∷ class.Stored ∷ [])
+    ∷ (class.Hash ∷ [])
+    ∷ (class.Integer ∷ class.TruthValue ∷ class.Cell ∷ class.Abstraction ∷ [])
+    ∷ (class.Closure ∷ [])
+    ∷ (class.Quoted ∷ [])
     ∷ []
 
 -- the same for templates
-abbrev template_firsts : List (List ℕ)
+abbrev template_firsts : List (List Class)
 template_firsts =
-    (class.COMPLETE ∷ class.FAIL ∷ class.COMMIT ∷ class.REGIVE ∷ class.REBIND ∷ class.UNFOLD ∷ class.OPEN_PAREN ∷ class.UNFOLDING ∷ class.FURTHERMORE ∷ class.ESCAPE ∷ class.GIVE ∷ class.CHECK ∷ class.BIND ∷ class.RECURSIVELY ∷ class.STORE ∷ class.ALLOCATE ∷ class.SEND ∷ class.RECEIVE ∷ class.ENACT ∷ class.FUNCTION ∷ [])
-    ∷ (class.OR ∷ class.THEN ∷ class.TRAP ∷ class.HENCE ∷ class.MOREOVER ∷ class.BEFORE ∷ class.AND ∷ [])
-    ∷ (class.THEN ∷ class.COMPLETE ∷ class.FAIL ∷ class.COMMIT ∷ class.REGIVE ∷ class.REBIND ∷ class.UNFOLD ∷ class.OPEN_PAREN ∷ class.UNFOLDING ∷ class.FURTHERMORE ∷ class.ESCAPE ∷ class.GIVE ∷ class.CHECK ∷ class.BIND ∷ class.RECURSIVELY ∷ class.STORE ∷ class.ALLOCATE ∷ class.SEND ∷ class.RECEIVE ∷ class.ENACT ∷ class.FUNCTION ∷ [])
-    ∷ (class.OR ∷ [])
-    ∷ (class.AND ∷ [])
-    ∷ (class.AND ∷ [])
-    ∷ (class.THEN ∷ [])
-    ∷ (class.TRAP ∷ [])
-    ∷ (class.HENCE ∷ [])
-    ∷ (class.MOREOVER ∷ [])
-    ∷ (class.BEFORE ∷ [])
-    ∷ (class.COMPLETE ∷ class.FAIL ∷ class.COMMIT ∷ class.REGIVE ∷ class.REBIND ∷ class.UNFOLD ∷ class.OPEN_PAREN ∷ class.UNFOLDING ∷ class.FURTHERMORE ∷ class.ESCAPE ∷ class.GIVE ∷ class.CHECK ∷ class.BIND ∷ class.RECURSIVELY ∷ class.STORE ∷ class.ALLOCATE ∷ class.SEND ∷ class.RECEIVE ∷ class.ENACT ∷ class.FUNCTION ∷ [])
-    ∷ (class.APPLICATION ∷ class.NUMBER ∷ class.PLACE ∷ class.TRUE ∷ class.FALSE ∷ class.THE ∷ class.SUM ∷ class.DIFFERENCE ∷ class.PRODUCT ∷ class.INTEGER_QUOTIENT ∷ class.INTEGER_REMAINDER ∷ class.BOTH ∷ class.EITHER ∷ class.IS ∷ class.NEGATION ∷ class.NOT ∷ class.CLOSURE ∷ class.VALUE ∷ [])
-    ∷ (class.WITH ∷ [])
-    ∷ (class.THEM ∷ class.OPEN_PAREN ∷ class.NUMBER ∷ class.PLACE ∷ class.TRUE ∷ class.FALSE ∷ class.THE ∷ class.SUM ∷ class.DIFFERENCE ∷ class.PRODUCT ∷ class.INTEGER_QUOTIENT ∷ class.INTEGER_REMAINDER ∷ class.BOTH ∷ class.EITHER ∷ class.IS ∷ class.NEGATION ∷ class.NOT ∷ class.CLOSURE ∷ class.VALUE ∷ [])
-    ∷ (class.CLOSE_PAREN ∷ class.THEM ∷ class.NUMBER ∷ class.PLACE ∷ class.TRUE ∷ class.FALSE ∷ class.THE ∷ class.SUM ∷ class.DIFFERENCE ∷ class.PRODUCT ∷ class.INTEGER_QUOTIENT ∷ class.INTEGER_REMAINDER ∷ class.BOTH ∷ class.EITHER ∷ class.IS ∷ class.NEGATION ∷ class.NOT ∷ class.CLOSURE ∷ class.VALUE ∷ [])
-    ∷ (class.CLOSE_PAREN ∷ class.COMMA ∷ [])
-    ∷ (class.THEM ∷ class.NUMBER ∷ class.PLACE ∷ class.TRUE ∷ class.FALSE ∷ class.THE ∷ class.SUM ∷ class.DIFFERENCE ∷ class.PRODUCT ∷ class.INTEGER_QUOTIENT ∷ class.INTEGER_REMAINDER ∷ class.BOTH ∷ class.EITHER ∷ class.IS ∷ class.NEGATION ∷ class.NOT ∷ class.CLOSURE ∷ class.VALUE ∷ [])
-    ∷ (class.NUMBER ∷ class.PLACE ∷ class.TRUE ∷ class.FALSE ∷ class.THE ∷ class.SUM ∷ class.DIFFERENCE ∷ class.PRODUCT ∷ class.INTEGER_QUOTIENT ∷ class.INTEGER_REMAINDER ∷ class.BOTH ∷ class.EITHER ∷ class.IS ∷ class.NEGATION ∷ class.NOT ∷ class.CLOSURE ∷ class.VALUE ∷ [])
-    ∷ (class.LESS ∷ class.OPEN_PAREN ∷ [])
-    ∷ (class.GIVEN ∷ class.INTEGER ∷ class.TRUTH_VALUE ∷ class.CELL ∷ class.ABSTRACTION ∷ [])
-    ∷ (class.BOUND ∷ class.STORED ∷ [])
-    ∷ (class.HASH ∷ [])
-    ∷ (class.INTEGER ∷ class.TRUTH_VALUE ∷ class.CELL ∷ class.ABSTRACTION ∷ [])
-    ∷ (class.CLOSURE ∷ [])
-    ∷ (class.QUOTED ∷ class.TOKEN ∷ [])
+    (class.Complete ∷ class.Fail ∷ class.Commit ∷ class.Regive ∷ class.Rebind ∷ class.Unfold ∷ class.OpenParen ∷ class.Unfolding ∷ class.Furthermore ∷ class.Escape ∷ class.Give ∷ class.Check ∷ class.Bind ∷ class.Recursively ∷ class.Store ∷ class.Allocate ∷ class.Send ∷ class.Receive ∷ class.Enact ∷ class.Function ∷ [])
+    ∷ (class.Or ∷ class.Then ∷ class.Trap ∷ class.Hence ∷ class.Moreover ∷ class.Before ∷ class.And ∷ [])
+    ∷ (class.Then ∷ class.Complete ∷ class.Fail ∷ class.Commit ∷ class.Regive ∷ class.Rebind ∷ class.Unfold ∷ class.OpenParen ∷ class.Unfolding ∷ class.Furthermore ∷ class.Escape ∷ class.Give ∷ class.Check ∷ class.Bind ∷ class.Recursively ∷ class.Store ∷ class.Allocate ∷ class.Send ∷ class.Receive ∷ class.Enact ∷ class.Function ∷ [])
+    ∷ (class.Or ∷ [])
+    ∷ (class.And ∷ [])
+    ∷ (class.And ∷ [])
+    ∷ (class.Then ∷ [])
+    ∷ (class.Trap ∷ [])
+    ∷ (class.Hence ∷ [])
+    ∷ (class.Moreover ∷ [])
+    ∷ (class.Before ∷ [])
+    ∷ (class.Complete ∷ class.Fail ∷ class.Commit ∷ class.Regive ∷ class.Rebind ∷ class.Unfold ∷ class.OpenParen ∷ class.Unfolding ∷ class.Furthermore ∷ class.Escape ∷ class.Give ∷ class.Check ∷ class.Bind ∷ class.Recursively ∷ class.Store ∷ class.Allocate ∷ class.Send ∷ class.Receive ∷ class.Enact ∷ class.Function ∷ [])
+    ∷ (class.Application ∷ class.Number ∷ class.Place ∷ class.True ∷ class.False ∷ class.The ∷ class.Sum ∷ class.Difference ∷ class.Product ∷ class.IntegerQuotient ∷ class.IntegerRemainder ∷ class.Both ∷ class.Either ∷ class.Is ∷ class.Negation ∷ class.Not ∷ class.Closure ∷ class.Value ∷ [])
+    ∷ (class.With ∷ [])
+    ∷ (class.Them ∷ class.OpenParen ∷ class.Number ∷ class.Place ∷ class.True ∷ class.False ∷ class.The ∷ class.Sum ∷ class.Difference ∷ class.Product ∷ class.IntegerQuotient ∷ class.IntegerRemainder ∷ class.Both ∷ class.Either ∷ class.Is ∷ class.Negation ∷ class.Not ∷ class.Closure ∷ class.Value ∷ [])
+    ∷ (class.CloseParen ∷ class.Them ∷ class.Number ∷ class.Place ∷ class.True ∷ class.False ∷ class.The ∷ class.Sum ∷ class.Difference ∷ class.Product ∷ class.IntegerQuotient ∷ class.IntegerRemainder ∷ class.Both ∷ class.Either ∷ class.Is ∷ class.Negation ∷ class.Not ∷ class.Closure ∷ class.Value ∷ [])
+    ∷ (class.CloseParen ∷ class.Comma ∷ [])
+    ∷ (class.Them ∷ class.Number ∷ class.Place ∷ class.True ∷ class.False ∷ class.The ∷ class.Sum ∷ class.Difference ∷ class.Product ∷ class.IntegerQuotient ∷ class.IntegerRemainder ∷ class.Both ∷ class.Either ∷ class.Is ∷ class.Negation ∷ class.Not ∷ class.Closure ∷ class.Value ∷ [])
+    ∷ (class.Number ∷ class.Place ∷ class.True ∷ class.False ∷ class.The ∷ class.Sum ∷ class.Difference ∷ class.Product ∷ class.IntegerQuotient ∷ class.IntegerRemainder ∷ class.Both ∷ class.Either ∷ class.Is ∷ class.Negation ∷ class.Not ∷ class.Closure ∷ class.Value ∷ [])
+    ∷ (class.Less ∷ class.OpenParen ∷ [])
+    ∷ (class.Given ∷ class.Integer ∷ class.TruthValue ∷ class.Cell ∷ class.Abstraction ∷ [])
+    ∷ (class.Bound ∷ class.Stored ∷ [])
+    ∷ (class.Hash ∷ [])
+    ∷ (class.Integer ∷ class.TruthValue ∷ class.Cell ∷ class.Abstraction ∷ [])
+    ∷ (class.Closure ∷ [])
+    ∷ (class.Quoted ∷ class.Token ∷ [])
     ∷ []
 
 -- the classes that never follow each name
-abbrev nevers : List (List ℕ)
+abbrev nevers : List (List Class)
 nevers =
-    (class.WITH ∷ class.OR ∷ class.THEN ∷ class.TRAP ∷ class.HENCE ∷ class.MOREOVER ∷ class.BEFORE ∷ class.AND ∷ class.HASH ∷ [])
-    ∷ (class.OR ∷ class.THEN ∷ class.TRAP ∷ class.HENCE ∷ class.MOREOVER ∷ class.BEFORE ∷ class.AND ∷ class.WITH ∷ class.HASH ∷ [])
-    ∷ (class.AND ∷ class.WITH ∷ class.HASH ∷ [])
-    ∷ (class.OR ∷ class.WITH ∷ class.HASH ∷ [])
-    ∷ (class.AND ∷ class.WITH ∷ class.HASH ∷ [])
-    ∷ (class.AND ∷ class.WITH ∷ class.HASH ∷ [])
-    ∷ (class.THEN ∷ class.WITH ∷ class.HASH ∷ [])
-    ∷ (class.TRAP ∷ class.WITH ∷ class.HASH ∷ [])
-    ∷ (class.HENCE ∷ class.WITH ∷ class.HASH ∷ [])
-    ∷ (class.MOREOVER ∷ class.WITH ∷ class.HASH ∷ [])
-    ∷ (class.BEFORE ∷ class.WITH ∷ class.HASH ∷ [])
-    ∷ (class.WITH ∷ class.HASH ∷ [])
-    ∷ (class.WITH ∷ class.HASH ∷ [])
-    ∷ (class.WITH ∷ class.HASH ∷ [])
-    ∷ (class.WITH ∷ class.HASH ∷ [])
+    (class.With ∷ class.Or ∷ class.Then ∷ class.Trap ∷ class.Hence ∷ class.Moreover ∷ class.Before ∷ class.And ∷ class.Hash ∷ [])
+    ∷ (class.Or ∷ class.Then ∷ class.Trap ∷ class.Hence ∷ class.Moreover ∷ class.Before ∷ class.And ∷ class.With ∷ class.Hash ∷ [])
+    ∷ (class.And ∷ class.With ∷ class.Hash ∷ [])
+    ∷ (class.Or ∷ class.With ∷ class.Hash ∷ [])
+    ∷ (class.And ∷ class.With ∷ class.Hash ∷ [])
+    ∷ (class.And ∷ class.With ∷ class.Hash ∷ [])
+    ∷ (class.Then ∷ class.With ∷ class.Hash ∷ [])
+    ∷ (class.Trap ∷ class.With ∷ class.Hash ∷ [])
+    ∷ (class.Hence ∷ class.With ∷ class.Hash ∷ [])
+    ∷ (class.Moreover ∷ class.With ∷ class.Hash ∷ [])
+    ∷ (class.Before ∷ class.With ∷ class.Hash ∷ [])
+    ∷ (class.With ∷ class.Hash ∷ [])
+    ∷ (class.With ∷ class.Hash ∷ [])
+    ∷ (class.With ∷ class.Hash ∷ [])
+    ∷ (class.With ∷ class.Hash ∷ [])
     ∷ ([])
     ∷ ([])
-    ∷ (class.WITH ∷ class.HASH ∷ [])
-    ∷ (class.WITH ∷ class.HASH ∷ [])
+    ∷ (class.With ∷ class.Hash ∷ [])
+    ∷ (class.With ∷ class.Hash ∷ [])
     ∷ ([])
-    ∷ (class.HASH ∷ class.WITH ∷ [])
-    ∷ (class.WITH ∷ class.HASH ∷ [])
-    ∷ (class.HASH ∷ [])
+    ∷ (class.Hash ∷ class.With ∷ [])
+    ∷ (class.With ∷ class.Hash ∷ [])
+    ∷ (class.Hash ∷ [])
     ∷ ([])
-    ∷ (class.WITH ∷ class.HASH ∷ [])
+    ∷ (class.With ∷ class.Hash ∷ [])
     ∷ ([])
     ∷ []
 
@@ -113,19 +115,19 @@ template_samples = samples ++ codes "|" ∷ codes "value" ∷ codes "token" ∷ 
 
 abbrev pub known : Bool → Known
 known false = record {
-  firsts = λ n. get_or firsts n [];
+  firsts = λ n. map class_number (get_or firsts n []);
   empty = λ n. get_or empties n false;
-  never = λ n. get_or nevers n [];
+  never = λ n. map class_number (get_or nevers n []);
   count = 26;
-  classes = class.COUNT;
+  classes = class_number class.Other;
   sample = λ c. get_or samples c [];
 }
 known true = record {
-  firsts = λ n. get_or template_firsts n [];
+  firsts = λ n. map class_number (get_or template_firsts n []);
   empty = λ n. get_or empties n false;
-  never = λ n. get_or nevers n [];
+  never = λ n. map class_number (get_or nevers n []);
   count = 26;
-  classes = class.ALL;
+  classes = 68;
   sample = λ c. get_or template_samples c [];
 }
 

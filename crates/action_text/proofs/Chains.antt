@@ -4,7 +4,7 @@ use Rattle.action_terms.specs.Labels.{AnAction}
 use Rattle.meta_terms.specs.Templates.{Label, ActionNode, under, serves, Tree, IsAction}
 use Rattle.action_terms.specs.Trees.{tree, none, more}
 use Rattle.action_terms.specs.declared.kinds.Kind.{Kind}
-use Rattle.action_text.specs.declared.table.Symbol.TheVariants.{Name}
+use Rattle.action_text.specs.Tables.{Name}
 use Rattle.action_text.specs.declared.table.Mark.TheVariants as mark
 use Rattle.action_text.specs.Shapes.{operator}
 use Rattle.action_text.specs.ActionText.{IsOperand, label_of}

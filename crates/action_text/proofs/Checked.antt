@@ -1,9 +1,7 @@
 -- The facts of a table, from a test that computes; and each name reads something.
 use Rattle.std.proofs.Common.{◌≡◌, ◌≢◌, ◌⊎◌, inl, inr, ℕ, zero, suc, ◌<◌, Bool, true, false, List, [], ◌∷◌, ◌++◌, Option, Some, None, refl, sym, ap, ◌∙◌, arith, nat_eq, nat_lt, if◌then◌else◌, ◌&&◌, ◌||◌, not, eqb-true, eq-eqb, ltb-true}
 use Rattle.std.proofs.lemmas.Bool.Decides.{eqb_tells}
-use Rattle.action_text.specs.declared.table.Symbol.{Symbol}
-use Rattle.action_text.specs.declared.table.Symbol.TheVariants.{Read, Keep, Emit, Name}
-use Rattle.action_text.specs.Tables.{Written, Token, Line, Other, Table, line_of, other_of, with_token, Reads, Noted}
+use Rattle.action_text.specs.Tables.{Symbol, Read, Keep, Emit, Name, Written, Token, Line, Other, Table, line_of, other_of, with_token, Reads, Noted}
 use Rattle.action_text.proofs.Starts.{member, Known, can_start, can_be_empty, Starting, Choosing, Safe, SafeRight}
 use Rattle.action_text.proofs.Moves.{reads_both}
 

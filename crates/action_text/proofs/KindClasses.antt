@@ -11,7 +11,8 @@ use Rattle.meta_lex.specs.Forms.{has_form, is_quoted, kind_of}
 use Rattle.meta_lex.specs.declared.token.TokenKind.{TokenKind}
 use Rattle.meta_lex.specs.declared.token.TokenKind.TheVariants.{Number, Quoted}
 use Rattle.meta_lex.proofs.FirstBytes.{kind_of_front, no_form}
-use Rattle.action_text.specs.declared.classes.TheConstants as class
+use Rattle.action_text.specs.declared.classes.Class.TheVariants as class
+use Rattle.action_text.specs.Numbers.{class_number}
 use Rattle.meta_terms.specs.Words.{words}
 use Rattle.action_text.specs.Classes.{word_class, number_class, class_of}
 
@@ -51,7 +52,7 @@ plain_class kind [] h q n = absurd (no_form kind h)
 plain_class kind (b ∷ rest) h q n = go (is_quoted (b ∷ rest)) (spelled_i64 (b ∷ rest)) refl refl
   where
     go : (x : Bool) (o : Option ℤ) → is_quoted (b ∷ rest) ≡ x → spelled_i64 (b ∷ rest) ≡ o
-        → (if x then class.QUOTED else number_class o (b ∷ rest)) ≡ word_class 0 words (b ∷ rest)
+        → (if x then (class_number class.Quoted) else number_class o (b ∷ rest)) ≡ word_class 0 words (b ∷ rest)
     go true o e f = absurd (q (sym (first_kind kind b rest h) ∙ first_kind Quoted b rest e))
     go false (Some z) e f = absurd (n (sym (first_kind kind b rest h) ∙ number_begins b rest z f))
     go false None e f = refl
@@ -61,6 +62,6 @@ pub number_class_is : (t : List ℕ) → has_form Number t ≡ true → class_of
 number_class_is [] h = absurd (no_form Number h)
 number_class_is (b ∷ rest) h = go (is_quoted (b ∷ rest)) refl
   where
-    go : (x : Bool) → is_quoted (b ∷ rest) ≡ x → (if x then class.QUOTED else number_class (spelled_i64 (b ∷ rest)) (b ∷ rest)) ≡ number_class (spelled_i64 (b ∷ rest)) (b ∷ rest)
+    go : (x : Bool) → is_quoted (b ∷ rest) ≡ x → (if x then (class_number class.Quoted) else number_class (spelled_i64 (b ∷ rest)) (b ∷ rest)) ≡ number_class (spelled_i64 (b ∷ rest)) (b ∷ rest)
     go true e = let same : Number ≡ Quoted = sym (first_kind Number b rest h) ∙ first_kind Quoted b rest e in absurd (cc)
     go false e = refl

@@ -3,6 +3,7 @@ pub mod Moves
 pub mod Checked
 pub mod ActionTablePasses
 pub mod Meanings
+mod WordLookups
 pub mod Words
 pub mod TemplateWords
 pub mod Means
@@ -26,7 +27,6 @@ pub mod OneWriting
 pub mod OneTree
 pub mod ActionTemplates
 pub mod RowLookups
-pub mod WordCuts
 pub mod KindClasses
 pub mod Weights
 pub mod ReadingMoves

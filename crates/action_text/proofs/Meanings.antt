@@ -1,9 +1,7 @@
 -- What names mean, and what symbols mean then: from moves to meanings, and from parts to moves.
 use Rattle.std.proofs.Common.{◌≡◌, inl, inr, ℕ, zero, suc, Bool, true, false, List, [], ◌∷◌, ◌++◌, Some, refl, sym, ap, ◌∙◌, append_assoc, append-nil, nat_eq, if◌then◌else◌, eqb-true}
-use Rattle.action_text.specs.declared.table.Symbol.{Symbol}
-use Rattle.action_text.specs.declared.table.Symbol.TheVariants.{Read, Keep, Emit, Name}
 use Rattle.action_text.specs.declared.table.Mark.{Mark}
-use Rattle.action_text.specs.Tables.{Written, Token, Noted, Line, Other, Table, line_of, other_of, with_token, Writes, Reads}
+use Rattle.action_text.specs.Tables.{Symbol, Read, Keep, Emit, Name, Written, Token, Noted, Line, Other, Table, line_of, other_of, with_token, Writes, Reads}
 use Rattle.action_text.specs.Notes.{Noting, note, noted}
 use Rattle.action_text.proofs.Moves.{reads_both}
 

@@ -1,9 +1,7 @@
 -- The machine with a stack of symbols: what each move keeps, and what it knows where it stops.
 use Rattle.std.proofs.Common.{◌≡◌, ◌≢◌, inl, inr, ℕ, zero, suc, ◌<◌, Bool, true, false, List, [], ◌∷◌, ◌++◌, Some, None, refl, sym, ap, ◌∙◌, append_assoc, append-nil}
-use Rattle.action_text.specs.declared.table.Symbol.{Symbol}
-use Rattle.action_text.specs.declared.table.Symbol.TheVariants.{Read, Keep, Emit, Name}
 use Rattle.action_text.specs.declared.table.Mark.{Mark}
-use Rattle.action_text.specs.Tables.{Written, Token, Line, Table, line_of, other_of, with_token, Writes, Reads, Noted}
+use Rattle.action_text.specs.Tables.{Symbol, Read, Keep, Emit, Name, Written, Token, Line, Table, line_of, other_of, with_token, Writes, Reads, Noted}
 use Rattle.action_text.proofs.Starts.{Known, Starting, Choosing, Safe, safe_append, by_line, by_other}
 
 pub token_append : (b : Bool) (x : List ℕ) (o p : List Written) → with_token b x o ++ p ≡ with_token b x (o ++ p)

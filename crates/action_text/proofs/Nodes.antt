@@ -3,10 +3,10 @@ use Rattle.std.proofs.Common.{◌≡◌, ℕ, Bool, true, false, ◌&&◌, List,
 use Rattle.action_terms.specs.Labels.{Wanted, AnAction, AYielder, AnItem, AClosure}
 use Rattle.meta_terms.specs.Templates.{Label, under, serves, Tree, Trees, Is, Are}
 use Rattle.action_terms.specs.Trees.{tree, none, more}
-use Rattle.action_text.specs.declared.table.Symbol.{Symbol}
-use Rattle.action_text.specs.declared.table.Symbol.TheVariants.{Read, Emit, Name}
+use Rattle.action_text.specs.Tables.{Symbol, Read, Emit, Name}
 use Rattle.action_text.specs.declared.table.Mark.{Mark}
-use Rattle.action_text.specs.declared.names.TheConstants as name
+use Rattle.action_text.specs.declared.names.Name.TheVariants as name
+use Rattle.action_text.specs.Numbers.{name_number}
 use Rattle.action_text.specs.Shapes.{Piece, Fixed, Numeral, Quoted, Part}
 use Rattle.action_text.specs.TemplateText.{shape, IsPlain, IsChain, ArePartsOf}
 use Rattle.action_text.specs.ActionText.{IsPart, Weaves}
@@ -20,10 +20,10 @@ use Rattle.action_text.proofs.TemplateWords.{word_count, is_word_of}
 
 -- the name of what stands in a place
 abbrev pub name_of : Wanted → ℕ
-name_of AnAction = name.OPERAND
-name_of AYielder = name.YIELDER
-name_of AnItem = name.ITEM
-name_of AClosure = name.CLOSURE
+name_of AnAction = (name_number name.Operand)
+name_of AYielder = (name_number name.Yielder)
+name_of AnItem = (name_number name.Item)
+name_of AClosure = (name_number name.Closure)
 
 -- the symbols of words and parts
 abbrev pub symbols : List Piece → List Wanted → List Symbol

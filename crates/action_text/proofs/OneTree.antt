@@ -3,9 +3,9 @@ use Rattle.std.proofs.Common.{◌≡◌, Bool, true, false, ℕ, zero, suc, ◌+
 use Rattle.action_terms.specs.Labels.{Wanted, AnAction}
 use Rattle.meta_terms.specs.Templates.{Label, under, Tree, Trees, Is, Are, IsAction}
 use Rattle.action_terms.specs.Trees.{tree, none, more}
-use Rattle.action_text.specs.declared.table.Symbol.TheVariants.{Name}
-use Rattle.action_text.specs.declared.names.TheConstants as name
-use Rattle.action_text.specs.Tables.{Written, Reads}
+use Rattle.action_text.specs.declared.names.Name.TheVariants as name
+use Rattle.action_text.specs.Numbers.{name_number}
+use Rattle.action_text.specs.Tables.{Name, Written, Reads}
 use Rattle.action_text.specs.TemplateText.{SpellsIn}
 use Rattle.action_text.specs.Posts.{postorder, postorders}
 use Rattle.action_text.specs.Notes.{Noting, noted}
@@ -103,10 +103,10 @@ abbrev pub nothing_noted : Noting
 nothing_noted = record { notes = []; labels = [] }
 
 -- the tokens are read in one way
-pub one_reading : (p : Bool) (ts : List (List ℕ)) (o q : List Written) → Reads (table_in p) (Name name.ACTION ∷ []) ts o → Reads (table_in p) (Name name.ACTION ∷ []) ts q → o ≡ q
-one_reading p ts o q h e = one_writing (table_in p) (known p) (table_starting p) (table_choosing p) h.0 e.0 (Name name.ACTION ∷ []) ts o q (start p) h.1 e.1
+pub one_reading : (p : Bool) (ts : List (List ℕ)) (o q : List Written) → Reads (table_in p) (Name (name_number name.Action) ∷ []) ts o → Reads (table_in p) (Name (name_number name.Action) ∷ []) ts q → o ≡ q
+one_reading p ts o q h e = one_writing (table_in p) (known p) (table_starting p) (table_choosing p) h.0 e.0 (Name (name_number name.Action) ∷ []) ts o q (start p) h.1 e.1
   where
-    start : (p : Bool) → Safe (known p) (Name name.ACTION ∷ [])
+    start : (p : Bool) → Safe (known p) (Name (name_number name.Action) ∷ [])
     start true = (omega arith, (λ c h. refl), tt)
     start false = (omega arith, (λ c h. refl), tt)
 

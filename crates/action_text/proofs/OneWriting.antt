@@ -1,8 +1,6 @@
 -- Tokens are read in one way.
 use Rattle.std.proofs.Common.{◌≡◌, inl, inr, ℕ, zero, suc, List, [], ◌∷◌, ◌++◌, Some, sym, ap, subst, ◌∙◌}
-use Rattle.action_text.specs.declared.table.Symbol.{Symbol}
-use Rattle.action_text.specs.declared.table.Symbol.TheVariants.{Read, Keep, Emit, Name}
-use Rattle.action_text.specs.Tables.{Written, Token, Noted, Table, other_of, with_token, Writes}
+use Rattle.action_text.specs.Tables.{Symbol, Read, Keep, Emit, Name, Written, Token, Noted, Table, other_of, with_token, Writes}
 use Rattle.action_text.proofs.Starts.{Known, Starting, Choosing, Safe, safe_append, by_line}
 
 same_other : (r s : List Symbol) (a : Rattle.std.specs.Prelude.Option (List Symbol)) → a ≡ Some r → a ≡ Some s → r ≡ s

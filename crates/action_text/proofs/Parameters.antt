@@ -8,12 +8,11 @@ use Rattle.action_terms.specs.Labels.{Wanted, AnAction, AYielder, AnItem, AClosu
 use Rattle.action_terms.specs.Trees.{tree, none, more}
 use Rattle.action_terms.specs.declared.kinds.Kind.TheVariants as kind
 use Rattle.action_terms.specs.declared.kinds.YKind.TheVariants as ykind
-use Rattle.action_text.specs.declared.table.Symbol.{Symbol}
-use Rattle.action_text.specs.declared.table.Symbol.TheVariants.{Read, Keep, Emit, Name}
 use Rattle.action_text.specs.declared.table.Mark.TheVariants as mark
-use Rattle.action_text.specs.declared.classes.TheConstants as class
-use Rattle.action_text.specs.declared.names.TheConstants as name
-use Rattle.action_text.specs.Tables.{Written, Line, line_of, Writes, Reads}
+use Rattle.action_text.specs.declared.classes.Class.TheVariants as class
+use Rattle.action_text.specs.Numbers.{class_number, name_number}
+use Rattle.action_text.specs.declared.names.Name.TheVariants as name
+use Rattle.action_text.specs.Tables.{Symbol, Read, Keep, Emit, Name, Written, Line, line_of, Writes, Reads, line}
 use Rattle.meta_terms.specs.Words.{words}
 use Rattle.action_text.specs.Classes.{class_of, word_class, number_class, is_place, or_parameter, template_class}
 use Rattle.action_text.specs.Shapes.{Piece, Fixed, Numeral, Quoted, Part}
@@ -23,7 +22,7 @@ use Rattle.meta_terms.specs.Templates.{Label, Tree, Trees, ActionNode, YielderNo
 use Rattle.action_text.specs.TemplateText.{IsPlain, IsChain, ArePartsOf, Spells, SpellsIn, IsBare, AreBare, shape, is_plain_label}
 use Rattle.action_text.specs.Posts.{postorder}
 use Rattle.action_text.specs.Notes.{Noting, noted}
-use Rattle.action_text.specs.ActionTable.{line, table_in, class_in, lines_in, template_lines, action_lines, parameter_lines}
+use Rattle.action_text.specs.ActionTable.{table_in, class_in, lines_in, template_lines, action_lines, parameter_lines}
 use Rattle.action_text.proofs.Starts.{Safe, safe_append}
 use Rattle.action_text.proofs.ActionTablePasses.{known, table_choosing}
 use Rattle.action_text.proofs.Meanings.{Does}
@@ -48,19 +47,19 @@ word_low n (w ∷ ws) t h = pick (Rattle.meta_terms.specs.Words.same_bytes w t) 
 class_low : (t : List ℕ) → class_of t ≤ 63
 class_low t = pick (is_quoted t) (spelled_i64 t)
   where
-    pick : (b : Bool) (n : Option ℤ) → (if b then class.QUOTED else number_class n t) ≤ 63
+    pick : (b : Bool) (n : Option ℤ) → (if b then (class_number class.Quoted) else number_class n t) ≤ 63
     pick true n = omega arith
     pick false None = word_low 0 words t (omega arith)
     pick false (Some z) = place (is_place z)
       where
-        place : (b : Bool) → (if b then class.PLACE else class.NUMBER) ≤ 63
+        place : (b : Bool) → (if b then (class_number class.Place) else (class_number class.Number)) ≤ 63
         place true = omega arith
         place false = omega arith
 
 -- the lines of templates alone are for other classes
 no_parameter_line : (ls : List Line) (n c : ℕ) → c ≤ 63 → line_of (ls ++ parameter_lines) n c ≡ line_of ls n c
 unfolding line_of parameter_lines
-no_parameter_line [] n c h = pick (apart c class.FUNCTION (omega arith)) (apart c class.VALUE (omega arith)) (apart c class.TOKEN (omega arith))
+no_parameter_line [] n c h = pick (apart c (class_number class.Function) (omega arith)) (apart c (class_number class.Value) (omega arith)) (apart c (class_number class.Token) (omega arith))
   where
     apart : (c d : ℕ) → c < d → nat_eq d c ≡ false
     apart c d h = elim (eqb_tells d c) [ inl e ↦ absurd (let x : d ≡ c = e.1 in omega arith) | inr e ↦ e.0 ]
@@ -72,11 +71,11 @@ no_parameter_line [] n c h = pick (apart c class.FUNCTION (omega arith)) (apart 
         same true x = refl
         same false x = refl
 
-    pick : nat_eq class.FUNCTION c ≡ false → nat_eq class.VALUE c ≡ false → nat_eq class.TOKEN c ≡ false → line_of parameter_lines n c ≡ None
+    pick : nat_eq (class_number class.Function) c ≡ false → nat_eq (class_number class.Value) c ≡ false → nat_eq (class_number class.Token) c ≡ false → line_of parameter_lines n c ≡ None
     pick a b d =
-        skip (line name.OPERAND class.FUNCTION true (Keep class.VARIABLE ∷ Emit mark.Applied ∷ [])) (line name.YIELDER class.VALUE false (Read class.OF ∷ Keep class.VARIABLE ∷ Emit mark.ValueOf ∷ []) ∷ line name.TOKEN class.TOKEN false (Read class.OF ∷ Keep class.VARIABLE ∷ []) ∷ []) a
-        ∙ (skip (line name.YIELDER class.VALUE false (Read class.OF ∷ Keep class.VARIABLE ∷ Emit mark.ValueOf ∷ [])) (line name.TOKEN class.TOKEN false (Read class.OF ∷ Keep class.VARIABLE ∷ []) ∷ []) b
-        ∙ skip (line name.TOKEN class.TOKEN false (Read class.OF ∷ Keep class.VARIABLE ∷ [])) [] d)
+        skip (line (name_number name.Operand) (class_number class.Function) true (Keep (class_number class.Variable) ∷ Emit mark.Applied ∷ [])) (line (name_number name.Yielder) (class_number class.Value) false (Read (class_number class.Of) ∷ Keep (class_number class.Variable) ∷ Emit mark.ValueOf ∷ []) ∷ line (name_number name.Token) (class_number class.Token) false (Read (class_number class.Of) ∷ Keep (class_number class.Variable) ∷ []) ∷ []) a
+        ∙ (skip (line (name_number name.Yielder) (class_number class.Value) false (Read (class_number class.Of) ∷ Keep (class_number class.Variable) ∷ Emit mark.ValueOf ∷ [])) (line (name_number name.Token) (class_number class.Token) false (Read (class_number class.Of) ∷ Keep (class_number class.Variable) ∷ []) ∷ []) b
+        ∙ skip (line (name_number name.Token) (class_number class.Token) false (Read (class_number class.Of) ∷ Keep (class_number class.Variable) ∷ [])) [] d)
 no_parameter_line (l ∷ ls) n c h = pick (nat_eq l.name n) (nat_eq l.class c) (no_parameter_line ls n c h)
   where
     pick : (a b : Bool) → line_of (ls ++ parameter_lines) n c ≡ line_of ls n c
@@ -92,7 +91,7 @@ line_in true n t = refl
 line_in false n t = no_parameter_line action_lines n (class_of t) (class_low t)
 
 same_class : (t : List ℕ) → class_of t < 63 → template_class t ≡ class_of t
-same_class t h = pick (nat_lt (class_of t) class.COUNT) (below (class_of t) h)
+same_class t h = pick (nat_lt (class_of t) (class_number class.Other)) (below (class_of t) h)
   where
     below : (c : ℕ) → c < 63 → nat_lt c 63 ≡ true
     below c h = grind (arith, nat_tests)
@@ -281,20 +280,20 @@ spelled_bare : (t : Tree) (ts : List (List ℕ)) → AllLow ts → Spells t ts �
 spelled_bare t ts low (is, inl o) = enclosed_bare t (tree_bare t) is o.0 ts low o.1
 spelled_bare t ts low (is, inr c) = (tree_bare t).1 is ts low c
 
-start_safe : Safe (known false) (Name name.ACTION ∷ [])
+start_safe : Safe (known false) (Name (name_number name.Action) ∷ [])
 start_safe = (omega arith, (λ c h. refl), tt)
 
-pub read_is_spelled_in : (p : Bool) (st : Noting) (ts : List (List ℕ)) (o : List Written) → Reads (table_in p) (Name name.ACTION ∷ []) ts o → (t : Tree) × SpellsIn p t ts × (noted o st ≡ wrote (postorder t) st)
+pub read_is_spelled_in : (p : Bool) (st : Noting) (ts : List (List ℕ)) (o : List Written) → Reads (table_in p) (Name (name_number name.Action) ∷ []) ts o → (t : Tree) × SpellsIn p t ts × (noted o st ≡ wrote (postorder t) st)
 read_is_spelled_in true st ts o r = read_is_spelled st ts o r
 read_is_spelled_in false st ts o r =
-    let x = reads_up r.0 (Name name.ACTION ∷ []) ts o start_safe r.1 in
+    let x = reads_up r.0 (Name (name_number name.Action) ∷ []) ts o start_safe r.1 in
     let y = read_is_spelled st ts o (r.0, x.0) in
     (y.0, (spelled_bare y.0 ts x.1 y.1, y.1), y.2)
 
-pub spelled_is_read_in : (p : Bool) (t : Tree) (ts : List (List ℕ)) → SpellsIn p t ts → (st : Noting) → Does (table_in p) (Name name.ACTION ∷ []) st ts (wrote (postorder t) st)
+pub spelled_is_read_in : (p : Bool) (t : Tree) (ts : List (List ℕ)) → SpellsIn p t ts → (st : Noting) → Does (table_in p) (Name (name_number name.Action) ∷ []) st ts (wrote (postorder t) st)
 spelled_is_read_in true t ts h st = spelled_is_read t ts h st
 spelled_is_read_in false t ts h st =
     let a = spelled_as t ts h in
     let low : AllLow ts = spelled_low a.0 ts a.2 in
     let d = spelled_is_read t ts h.1 st in
-    record { written = d.written; reads = (d.reads.0, reads_down d.reads.0 (Name name.ACTION ∷ []) ts d.written low d.reads.1); ends = d.ends }
+    record { written = d.written; reads = (d.reads.0, reads_down d.reads.0 (Name (name_number name.Action) ∷ []) ts d.written low d.reads.1); ends = d.ends }

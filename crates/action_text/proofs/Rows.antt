@@ -6,7 +6,8 @@ use Rattle.action_terms.specs.declared.kinds.Kind.TheVariants as kind
 use Rattle.action_terms.specs.declared.kinds.YKind.TheVariants as ykind
 use Rattle.action_terms.specs.declared.kinds.Sort.TheVariants as sort
 use Rattle.action_text.specs.declared.table.Mark.TheVariants as mark
-use Rattle.action_text.specs.declared.names.TheConstants as name
+use Rattle.action_text.specs.declared.names.Name.TheVariants as name
+use Rattle.action_text.specs.Numbers.{name_number}
 use Rattle.action_text.specs.Shapes.{Fixed, Part, open_paren, close_paren, comma, one_argument, two_arguments}
 use Rattle.action_text.specs.ActionTable.{template_table, template_lines, action_lines, parameter_lines, action_others}
 use Rattle.action_text.proofs.Meanings.{LinesMean, OthersMean}
@@ -21,35 +22,35 @@ use Rattle.action_text.proofs.YielderRows.{yielder_number, yielder_the, yielder_
 pub lines_mean : LinesMean template_table means template_table.lines
 unfolding template_lines action_lines parameter_lines
 lines_mean = (
-  (λ t st end ts e h. chain_row kind.Or (codes "or") name.MORE_OR op_Or (λ z u v m. m) refl t st end ts e h),
+  (λ t st end ts e h. chain_row kind.Or (codes "or") (name_number name.MoreOr) op_Or (λ z u v m. m) refl t st end ts e h),
   (
-    (λ t st end ts e h. chain_row kind.Then (codes "then") name.MORE_THEN op_Then (λ z u v m. m) refl t st end ts e h),
+    (λ t st end ts e h. chain_row kind.Then (codes "then") (name_number name.MoreThen) op_Then (λ z u v m. m) refl t st end ts e h),
     (
-      (λ t st end ts e h. chain_row kind.Trap (codes "trap") name.MORE_TRAP op_Trap (λ z u v m. m) refl t st end ts e h),
+      (λ t st end ts e h. chain_row kind.Trap (codes "trap") (name_number name.MoreTrap) op_Trap (λ z u v m. m) refl t st end ts e h),
       (
-        (λ t st end ts e h. chain_row kind.Hence (codes "hence") name.MORE_HENCE op_Hence (λ z u v m. m) refl t st end ts e h),
+        (λ t st end ts e h. chain_row kind.Hence (codes "hence") (name_number name.MoreHence) op_Hence (λ z u v m. m) refl t st end ts e h),
         (
-          (λ t st end ts e h. chain_row kind.Moreover (codes "moreover") name.MORE_MOREOVER op_Moreover (λ z u v m. m) refl t st end ts e h),
+          (λ t st end ts e h. chain_row kind.Moreover (codes "moreover") (name_number name.MoreMoreover) op_Moreover (λ z u v m. m) refl t st end ts e h),
           (
-            (λ t st end ts e h. chain_row kind.Before (codes "before") name.MORE_BEFORE op_Before (λ z u v m. m) refl t st end ts e h),
+            (λ t st end ts e h. chain_row kind.Before (codes "before") (name_number name.MoreBefore) op_Before (λ z u v m. m) refl t st end ts e h),
             (
               chain_and,
               (
                 and_next_then,
                 (
-                  (λ t st end ts e h. more_row kind.Or (codes "or") name.MORE_OR op_Or (λ z u v m. m) refl t st end ts e h),
+                  (λ t st end ts e h. more_row kind.Or (codes "or") (name_number name.MoreOr) op_Or (λ z u v m. m) refl t st end ts e h),
                   (
-                    (λ t st end ts e h. more_row kind.Then (codes "then") name.MORE_THEN op_Then (λ z u v m. m) refl t st end ts e h),
+                    (λ t st end ts e h. more_row kind.Then (codes "then") (name_number name.MoreThen) op_Then (λ z u v m. m) refl t st end ts e h),
                     (
-                      (λ t st end ts e h. more_row kind.Trap (codes "trap") name.MORE_TRAP op_Trap (λ z u v m. m) refl t st end ts e h),
+                      (λ t st end ts e h. more_row kind.Trap (codes "trap") (name_number name.MoreTrap) op_Trap (λ z u v m. m) refl t st end ts e h),
                       (
-                        (λ t st end ts e h. more_row kind.Hence (codes "hence") name.MORE_HENCE op_Hence (λ z u v m. m) refl t st end ts e h),
+                        (λ t st end ts e h. more_row kind.Hence (codes "hence") (name_number name.MoreHence) op_Hence (λ z u v m. m) refl t st end ts e h),
                         (
-                          (λ t st end ts e h. more_row kind.Moreover (codes "moreover") name.MORE_MOREOVER op_Moreover (λ z u v m. m) refl t st end ts e h),
+                          (λ t st end ts e h. more_row kind.Moreover (codes "moreover") (name_number name.MoreMoreover) op_Moreover (λ z u v m. m) refl t st end ts e h),
                           (
-                            (λ t st end ts e h. more_row kind.Before (codes "before") name.MORE_BEFORE op_Before (λ z u v m. m) refl t st end ts e h),
+                            (λ t st end ts e h. more_row kind.Before (codes "before") (name_number name.MoreBefore) op_Before (λ z u v m. m) refl t st end ts e h),
                             (
-                              (λ t st end ts e h. more_row kind.And (codes "and") name.MORE_AND op_And (λ z u v m. m) refl t st end ts e h),
+                              (λ t st end ts e h. more_row kind.And (codes "and") (name_number name.MoreAnd) op_And (λ z u v m. m) refl t st end ts e h),
                               (
                                 more_and_then,
                                 (

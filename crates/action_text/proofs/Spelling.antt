@@ -5,18 +5,17 @@ use Rattle.meta_terms.specs.Templates.{ActionTokenOf, YielderTokenOf, Applied, V
 use Rattle.action_terms.specs.Trees.{tree, none, more}
 use Rattle.action_terms.specs.declared.kinds.Kind.{Kind}
 use Rattle.action_terms.specs.declared.kinds.Kind.TheVariants as kind
-use Rattle.action_text.specs.declared.table.Symbol.{Symbol}
-use Rattle.action_text.specs.declared.table.Symbol.TheVariants.{Read, Name}
-use Rattle.action_text.specs.declared.classes.TheConstants as class
-use Rattle.action_text.specs.declared.names.TheConstants as name
-use Rattle.action_text.specs.Tables.{line_of, other_of}
+use Rattle.action_text.specs.declared.classes.Class.TheVariants as class
+use Rattle.action_text.specs.Numbers.{class_number, name_number}
+use Rattle.action_text.specs.declared.names.Name.TheVariants as name
+use Rattle.action_text.specs.Tables.{Symbol, Read, Name, line_of, other_of, line, other}
 use Rattle.action_text.specs.Shapes.{Piece, Fixed, Numeral, Quoted, Part, operator, open_paren, close_paren}
 use Rattle.action_text.specs.ActionText.{IsPart, IsEnclosed, Weaves, label_of}
 use Rattle.action_text.specs.TemplateText.{IsPlain, IsChain, ArePartsOf}
 use Rattle.action_text.specs.Posts.{postorder, postorders}
 use Rattle.action_text.specs.Notes.{Noting}
 use Rattle.action_text.specs.Classes.{template_class}
-use Rattle.action_text.specs.ActionTable.{template_table, template_lines, action_lines, parameter_lines, action_others, line, other}
+use Rattle.action_text.specs.ActionTable.{template_table, template_lines, action_lines, parameter_lines, action_others}
 use Rattle.action_text.proofs.Meanings.{Does, does_nothing, does_read, does_both, does_line, does_other}
 use Rattle.action_text.proofs.Means.{wrote}
 use Rattle.action_text.proofs.Nodes.{name_of, symbols, is_named, fits, and_left, and_right, wrote_both, wrote_nothing}
@@ -28,15 +27,15 @@ Goes s st ts end = Does template_table s st ts end
 
 -- the name of what may follow an operand in a chain of the operator
 abbrev pub more_of : Kind → ℕ
-more_of kind.Or = name.MORE_OR
-more_of kind.And = name.MORE_AND
-more_of kind.AndThen = name.MORE_AND_THEN
-more_of kind.Then = name.MORE_THEN
-more_of kind.Trap = name.MORE_TRAP
-more_of kind.Hence = name.MORE_HENCE
-more_of kind.Moreover = name.MORE_MOREOVER
-more_of kind.Before = name.MORE_BEFORE
-more_of _ = name.OPERAND
+more_of kind.Or = (name_number name.MoreOr)
+more_of kind.And = (name_number name.MoreAnd)
+more_of kind.AndThen = (name_number name.MoreAndThen)
+more_of kind.Then = (name_number name.MoreThen)
+more_of kind.Trap = (name_number name.MoreTrap)
+more_of kind.Hence = (name_number name.MoreHence)
+more_of kind.Moreover = (name_number name.MoreMoreover)
+more_of kind.Before = (name_number name.MoreBefore)
+more_of _ = (name_number name.Operand)
 
 -- the node is read in each place where it may stand
 abbrev pub PlainGoes : Tree → Type 0
@@ -45,7 +44,7 @@ PlainGoes t = (x : Wanted) → Is x t → (ts : List (List ℕ)) → IsPlain t t
 -- the chain is read, and what goes it on
 abbrev pub ChainGoes : Tree → Type 0
 ChainGoes t = IsAction t → (k : Kind) → label_of t ≡ ActionNode k 0 [] → (ts : List (List ℕ)) → IsChain t ts → (st end : Noting) (us : List (List ℕ))
-    → Goes (Name (more_of k) ∷ []) (wrote (postorder t) st) us end → Goes (Name name.ACTION ∷ []) st (ts ++ us) end
+    → Goes (Name (more_of k) ∷ []) (wrote (postorder t) st) us end → Goes (Name (name_number name.Action) ∷ []) st (ts ++ us) end
 
 abbrev pub AllGo : Trees → Type 0
 AllGo none = Unit {0}
@@ -72,14 +71,14 @@ on_tokens s st end ts us e d = subst (λ y. Goes s st y end) e d
 -- an operator may be followed by no other one
 pub more_ends : (k : Kind) (st : Noting) (w : List ℕ) (ws : List (List ℕ)) → operator k ≡ w ∷ ws → Goes (Name (more_of k) ∷ []) st [] st
 unfolding other_of action_others
-more_ends kind.Or st w ws e = does_other template_table name.MORE_OR [] st st [] refl (does_nothing template_table st)
-more_ends kind.And st w ws e = does_other template_table name.MORE_AND [] st st [] refl (does_nothing template_table st)
-more_ends kind.AndThen st w ws e = does_other template_table name.MORE_AND_THEN [] st st [] refl (does_nothing template_table st)
-more_ends kind.Then st w ws e = does_other template_table name.MORE_THEN [] st st [] refl (does_nothing template_table st)
-more_ends kind.Trap st w ws e = does_other template_table name.MORE_TRAP [] st st [] refl (does_nothing template_table st)
-more_ends kind.Hence st w ws e = does_other template_table name.MORE_HENCE [] st st [] refl (does_nothing template_table st)
-more_ends kind.Moreover st w ws e = does_other template_table name.MORE_MOREOVER [] st st [] refl (does_nothing template_table st)
-more_ends kind.Before st w ws e = does_other template_table name.MORE_BEFORE [] st st [] refl (does_nothing template_table st)
+more_ends kind.Or st w ws e = does_other template_table (name_number name.MoreOr) [] st st [] refl (does_nothing template_table st)
+more_ends kind.And st w ws e = does_other template_table (name_number name.MoreAnd) [] st st [] refl (does_nothing template_table st)
+more_ends kind.AndThen st w ws e = does_other template_table (name_number name.MoreAndThen) [] st st [] refl (does_nothing template_table st)
+more_ends kind.Then st w ws e = does_other template_table (name_number name.MoreThen) [] st st [] refl (does_nothing template_table st)
+more_ends kind.Trap st w ws e = does_other template_table (name_number name.MoreTrap) [] st st [] refl (does_nothing template_table st)
+more_ends kind.Hence st w ws e = does_other template_table (name_number name.MoreHence) [] st st [] refl (does_nothing template_table st)
+more_ends kind.Moreover st w ws e = does_other template_table (name_number name.MoreMoreover) [] st st [] refl (does_nothing template_table st)
+more_ends kind.Before st w ws e = does_other template_table (name_number name.MoreBefore) [] st st [] refl (does_nothing template_table st)
 more_ends _ st w ws e = absurd (cc)
 
 -- an action that is a chain has an operator for its label
@@ -115,33 +114,33 @@ chain_label (tree l (more a (more b (more c ts)))) us is d = absurd d
 
 -- an operand of an action is read, in any number of parentheses
 pub operand_goes : (t : Tree) → PlainGoes t → ChainGoes t → IsAction t → (pairs : ℕ) (ts : List (List ℕ)) → IsEnclosed pairs (IsPlain t) (IsChain t) ts → (st : Noting)
-    → Goes (Name name.OPERAND ∷ []) st ts (wrote (postorder t) st)
+    → Goes (Name (name_number name.Operand) ∷ []) st ts (wrote (postorder t) st)
 unfolding line_of template_lines action_lines parameter_lines other_of action_others
 operand_goes t p c is zero ts h st = p AnAction is ts h st
 operand_goes t p c is (suc pairs) ts (inner, whole, inl h) st =
     let o = operand_goes t p c is pairs inner h st in
-    let alone : Goes (Name name.CHAIN ∷ []) (wrote (postorder t) st) [] (wrote (postorder t) st) =
-    does_other template_table name.CHAIN [] (wrote (postorder t) st) (wrote (postorder t) st) [] refl (does_nothing template_table (wrote (postorder t) st)) in
-    let action : Goes (Name name.ACTION ∷ []) st (inner ++ []) (wrote (postorder t) st) =
-    does_other template_table name.ACTION (Name name.OPERAND ∷ Name name.CHAIN ∷ []) st (wrote (postorder t) st) (inner ++ []) refl
-    (name_then name.OPERAND (Name name.CHAIN ∷ []) st (wrote (postorder t) st) (wrote (postorder t) st) inner [] o alone) in
-    in_parens t inner ts st whole (on_tokens (Name name.ACTION ∷ []) st (wrote (postorder t) st) (inner ++ []) inner (append-nil inner) action)
+    let alone : Goes (Name (name_number name.Chain) ∷ []) (wrote (postorder t) st) [] (wrote (postorder t) st) =
+    does_other template_table (name_number name.Chain) [] (wrote (postorder t) st) (wrote (postorder t) st) [] refl (does_nothing template_table (wrote (postorder t) st)) in
+    let action : Goes (Name (name_number name.Action) ∷ []) st (inner ++ []) (wrote (postorder t) st) =
+    does_other template_table (name_number name.Action) (Name (name_number name.Operand) ∷ Name (name_number name.Chain) ∷ []) st (wrote (postorder t) st) (inner ++ []) refl
+    (name_then (name_number name.Operand) (Name (name_number name.Chain) ∷ []) st (wrote (postorder t) st) (wrote (postorder t) st) inner [] o alone) in
+    in_parens t inner ts st whole (on_tokens (Name (name_number name.Action) ∷ []) st (wrote (postorder t) st) (inner ++ []) inner (append-nil inner) action)
   where
-    in_parens : (t : Tree) (inner ts : List (List ℕ)) (st : Noting) → ts ≡ open_paren ∷ (inner ++ close_paren ∷ []) → Goes (Name name.ACTION ∷ []) st inner (wrote (postorder t) st)
-        → Goes (Name name.OPERAND ∷ []) st ts (wrote (postorder t) st)
+    in_parens : (t : Tree) (inner ts : List (List ℕ)) (st : Noting) → ts ≡ open_paren ∷ (inner ++ close_paren ∷ []) → Goes (Name (name_number name.Action) ∷ []) st inner (wrote (postorder t) st)
+        → Goes (Name (name_number name.Operand) ∷ []) st ts (wrote (postorder t) st)
     in_parens t inner ts st whole d =
-        on_tokens (Name name.OPERAND ∷ []) st (wrote (postorder t) st) (open_paren ∷ (inner ++ close_paren ∷ [])) ts (sym whole)
-        (word_line name.OPERAND open_paren open_paren (Name name.ACTION ∷ Read class.CLOSE_PAREN ∷ []) st (wrote (postorder t) st) (inner ++ close_paren ∷ []) refl refl
-        (name_then name.ACTION (Read class.CLOSE_PAREN ∷ []) st (wrote (postorder t) st) (wrote (postorder t) st) inner (close_paren ∷ []) d
+        on_tokens (Name (name_number name.Operand) ∷ []) st (wrote (postorder t) st) (open_paren ∷ (inner ++ close_paren ∷ [])) ts (sym whole)
+        (word_line (name_number name.Operand) open_paren open_paren (Name (name_number name.Action) ∷ Read (class_number class.CloseParen) ∷ []) st (wrote (postorder t) st) (inner ++ close_paren ∷ []) refl refl
+        (name_then (name_number name.Action) (Read (class_number class.CloseParen) ∷ []) st (wrote (postorder t) st) (wrote (postorder t) st) inner (close_paren ∷ []) d
         (word_read close_paren close_paren [] (wrote (postorder t) st) (wrote (postorder t) st) [] refl (does_nothing template_table (wrote (postorder t) st)))))
 operand_goes t p c is (suc pairs) ts (inner, whole, inr h) st =
     let l = chain_label t inner is h in
-    let action : Goes (Name name.ACTION ∷ []) st (inner ++ []) (wrote (postorder t) st) =
+    let action : Goes (Name (name_number name.Action) ∷ []) st (inner ++ []) (wrote (postorder t) st) =
     c is l.0 l.1 inner h st (wrote (postorder t) st) [] (more_ends l.0 (wrote (postorder t) st) l.2 l.3 l.4) in
-    on_tokens (Name name.OPERAND ∷ []) st (wrote (postorder t) st) (open_paren ∷ (inner ++ close_paren ∷ [])) ts (sym whole)
-    (word_line name.OPERAND open_paren open_paren (Name name.ACTION ∷ Read class.CLOSE_PAREN ∷ []) st (wrote (postorder t) st) (inner ++ close_paren ∷ []) refl refl
-    (name_then name.ACTION (Read class.CLOSE_PAREN ∷ []) st (wrote (postorder t) st) (wrote (postorder t) st) inner (close_paren ∷ [])
-    (on_tokens (Name name.ACTION ∷ []) st (wrote (postorder t) st) (inner ++ []) inner (append-nil inner) action)
+    on_tokens (Name (name_number name.Operand) ∷ []) st (wrote (postorder t) st) (open_paren ∷ (inner ++ close_paren ∷ [])) ts (sym whole)
+    (word_line (name_number name.Operand) open_paren open_paren (Name (name_number name.Action) ∷ Read (class_number class.CloseParen) ∷ []) st (wrote (postorder t) st) (inner ++ close_paren ∷ []) refl refl
+    (name_then (name_number name.Action) (Read (class_number class.CloseParen) ∷ []) st (wrote (postorder t) st) (wrote (postorder t) st) inner (close_paren ∷ [])
+    (on_tokens (Name (name_number name.Action) ∷ []) st (wrote (postorder t) st) (inner ++ []) inner (append-nil inner) action)
     (word_read close_paren close_paren [] (wrote (postorder t) st) (wrote (postorder t) st) [] refl (does_nothing template_table (wrote (postorder t) st)))))
 
 -- a part is read in its place

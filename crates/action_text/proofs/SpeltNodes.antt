@@ -9,17 +9,17 @@ use Rattle.meta_terms.specs.Templates.{Label, ActionNode, YielderNode, under, Tr
 use Rattle.action_terms.specs.Trees.{tree, none, more}
 use Rattle.action_terms.specs.declared.kinds.Kind.{Kind}
 use Rattle.action_terms.specs.declared.kinds.YKind.{YKind}
-use Rattle.action_text.specs.declared.table.Symbol.TheVariants.{Emit, Name}
 use Rattle.action_text.specs.declared.table.Mark.{Mark}
-use Rattle.action_text.specs.declared.classes.TheConstants as class
-use Rattle.action_text.specs.Tables.{line_of, other_of}
+use Rattle.action_text.specs.declared.classes.Class.TheVariants as class
+use Rattle.action_text.specs.Numbers.{class_number}
+use Rattle.action_text.specs.Tables.{Emit, Name, line_of, other_of, line}
 use Rattle.action_text.specs.Shapes.{Piece, Fixed}
 use Rattle.action_text.specs.TemplateText.{shape, IsPlain, ArePartsOf}
 use Rattle.action_text.specs.ActionText.{Weaves}
 use Rattle.action_text.specs.Posts.{postorder, postorders}
 use Rattle.action_text.specs.Notes.{Noting, marked, writes}
 use Rattle.action_text.specs.Classes.{class_of, template_class, is_place}
-use Rattle.action_text.specs.ActionTable.{template_table, template_lines, action_others, line}
+use Rattle.action_text.specs.ActionTable.{template_table, template_lines, action_others}
 use Rattle.action_text.proofs.Meanings.{does_nothing, does_emit, does_other}
 use Rattle.action_text.proofs.Means.{wrote}
 use Rattle.action_text.proofs.Nodes.{symbols, fits, wrote_both}
@@ -105,7 +105,7 @@ pub bare_yielder : (n : ℕ) (k : YKind) (q : List ℕ) → has_no_token q ≡ t
 bare_yielder n k q bare_token h = subst (λ l. NodeGoes n l) (sym (ap (λ r. YielderNode k r) (no_token q bare_token))) h
 
 -- a token between quotes is kept
-pub quoted_class : (q t : List ℕ) → is_token q ≡ true → t ≡ 34 ∷ (q ++ 34 ∷ []) → template_class t ≡ class.QUOTED
+pub quoted_class : (q t : List ℕ) → is_token q ≡ true → t ≡ 34 ∷ (q ++ 34 ∷ []) → template_class t ≡ (class_number class.Quoted)
 quoted_class q t h e = rw (quoted_of_token q t h e) refl
 
 no_digits : (f : ℤ → Option ℤ) (x : Bool) (n : ℕ) → option_and_then f (option_map pos (if x && false then Some n else None)) ≡ None
@@ -125,16 +125,16 @@ number_unquoted (b ∷ rest) z e = by_quote (b == 34) refl
         absurd (cc)
     by_quote false h = refl
 
-pub number_class_of : (t : List ℕ) (z : ℤ) (place : Bool) → spelled_i64 t ≡ Some z → is_place z ≡ place → template_class t ≡ (if place then class.PLACE else class.NUMBER)
+pub number_class_of : (t : List ℕ) (z : ℤ) (place : Bool) → spelled_i64 t ≡ Some z → is_place z ≡ place → template_class t ≡ (if place then (class_number class.Place) else (class_number class.Number))
 number_class_of t z true e p = rw (number_unquoted t z e) (rw e (rw p refl))
 number_class_of t z false e p = rw (number_unquoted t z e) (rw e (rw p refl))
 
 pub quoted_low : (q t : List ℕ) → is_token q ≡ true → t ≡ 34 ∷ (q ++ 34 ∷ []) → class_of t < 63
-quoted_low q t h e = let c : class_of t ≡ class.QUOTED = rw (quoted_of_token q t h e) refl in omega (arith, c)
+quoted_low q t h e = let c : class_of t ≡ (class_number class.Quoted) = rw (quoted_of_token q t h e) refl in omega (arith, c)
 
 pub number_low : (t : List ℕ) (z : ℤ) → spelled_i64 t ≡ Some z → class_of t < 63
 number_low t z e = pick (is_place z) (rw (number_unquoted t z e) (rw e refl))
   where
-    pick : (b : Bool) → class_of t ≡ (if b then class.PLACE else class.NUMBER) → class_of t < 63
+    pick : (b : Bool) → class_of t ≡ (if b then (class_number class.Place) else (class_number class.Number)) → class_of t < 63
     pick true c = omega (arith, c)
     pick false c = omega (arith, c)

@@ -1,8 +1,6 @@
 -- What symbols can start with, and the choice of a line by one token.
 use Rattle.std.proofs.Common.{◌≡◌, ◌⊎◌, inl, inr, ℕ, zero, suc, ◌<◌, Bool, true, false, List, [], ◌∷◌, ◌++◌, Some, None, refl, sym, ap, ◌∙◌, nat_eq, ◌&&◌, ◌||◌, eq-eqb}
-use Rattle.action_text.specs.declared.table.Symbol.{Symbol}
-use Rattle.action_text.specs.declared.table.Symbol.TheVariants.{Read, Keep, Emit, Name}
-use Rattle.action_text.specs.Tables.{Written, Line, Table, line_of, other_of, with_token, Writes}
+use Rattle.action_text.specs.Tables.{Symbol, Read, Keep, Emit, Name, Written, Line, Table, line_of, other_of, with_token, Writes}
 
 abbrev pub member : ℕ → List ℕ → Bool
 member c [] = false

@@ -5,7 +5,8 @@ use Rattle.std.specs.Prelude.{ℤ, nat_le}
 use Rattle.acg_base.specs.Decimals.{spelled_i64}
 use Rattle.meta_lex.specs.Forms.{is_quoted, is_word}
 use Rattle.meta_lex.specs.declared.token.TokenKind.TheVariants.{Word}
-use Rattle.action_text.specs.declared.classes.TheConstants as class
+use Rattle.action_text.specs.declared.classes.Class.TheVariants as class
+use Rattle.action_text.specs.Numbers.{class_number}
 use Rattle.meta_terms.specs.Words.{words, same_bytes}
 use Rattle.action_text.specs.Classes.{word_class, is_place, class_of, parameter_class, or_parameter, template_class}
 use Rattle.meta_terms.specs.Names.{is_function, is_variable, is_among, begins_small, other_words}
@@ -20,7 +21,7 @@ word_count = 60
 parameter_high : (bytes : List ℕ) → 63 ≤ parameter_class bytes
 parameter_high bytes = pick (same_bytes (codes "value") bytes) (same_bytes (codes "token") bytes) (is_function bytes) (is_variable bytes)
   where
-    pick : (a b c d : Bool) → 63 ≤ (if a then class.VALUE else if b then class.TOKEN else if c then class.FUNCTION else if d then class.VARIABLE else class.COUNT)
+    pick : (a b c d : Bool) → 63 ≤ (if a then (class_number class.Value) else if b then (class_number class.Token) else if c then (class_number class.Function) else if d then (class_number class.Variable) else (class_number class.Other))
     pick true b c d = omega arith
     pick false true c d = omega arith
     pick false false true d = omega arith
@@ -29,7 +30,7 @@ parameter_high bytes = pick (same_bytes (codes "value") bytes) (same_bytes (code
 
 -- a class that action texts have
 lower : (c : ℕ) (bytes : List ℕ) → or_parameter c bytes < 63 → or_parameter c bytes ≡ c
-lower c bytes h = pick (nat_lt c class.COUNT) h (parameter_high bytes)
+lower c bytes h = pick (nat_lt c (class_number class.Other)) h (parameter_high bytes)
   where
     pick : (b : Bool) → (if b then c else parameter_class bytes) < 63 → 63 ≤ parameter_class bytes → (if b then c else parameter_class bytes) ≡ c
     pick true h p = refl
@@ -40,10 +41,10 @@ lower_class t c e h = sym (lower (class_of t) t (omega arith)) ∙ e
 
 -- a class that action texts don't have
 upper : (c d : ℕ) (bytes : List ℕ) → or_parameter c bytes ≡ d → 63 < d → parameter_class bytes ≡ d
-upper c d bytes e h = pick (nat_lt c class.COUNT) refl e
+upper c d bytes e h = pick (nat_lt c (class_number class.Other)) refl e
   where
-    pick : (b : Bool) → nat_lt c class.COUNT ≡ b → (if b then c else parameter_class bytes) ≡ d → parameter_class bytes ≡ d
-    pick true l e = absurd (let m = ltb-true c class.COUNT l in omega arith)
+    pick : (b : Bool) → nat_lt c (class_number class.Other) ≡ b → (if b then c else parameter_class bytes) ≡ d → parameter_class bytes ≡ d
+    pick true l e = absurd (let m = ltb-true c (class_number class.Other) l in omega arith)
     pick false l e = e
 
 -- a token of the class of a word is that word
@@ -54,17 +55,17 @@ is_word_of t w e h =
     let b : class_of t ≡ template_class w = lower_class t (template_class w) e (omega arith) in
     words_of.is_word_of t w (b ∙ sym a) (ap (λ c. nat_lt c 60) a ∙ h)
 
-pub quoted_of_class : (t : List ℕ) → template_class t ≡ class.QUOTED → is_quoted t ≡ true
-quoted_of_class t e = words_of.quoted_of_class t (lower_class t class.QUOTED e (omega arith))
+pub quoted_of_class : (t : List ℕ) → template_class t ≡ (class_number class.Quoted) → is_quoted t ≡ true
+quoted_of_class t e = words_of.quoted_of_class t (lower_class t (class_number class.Quoted) e (omega arith))
 
-pub number_of_class : (t : List ℕ) (place : Bool) → template_class t ≡ (if place then class.PLACE else class.NUMBER) → (z : ℤ) × (spelled_i64 t ≡ Some z) × (is_place z ≡ place)
-number_of_class t true e = words_of.number_of_class t true (lower_class t class.PLACE e (omega arith))
-number_of_class t false e = words_of.number_of_class t false (lower_class t class.NUMBER e (omega arith))
+pub number_of_class : (t : List ℕ) (place : Bool) → template_class t ≡ (if place then (class_number class.Place) else (class_number class.Number)) → (z : ℤ) × (spelled_i64 t ≡ Some z) × (is_place z ≡ place)
+number_of_class t true e = words_of.number_of_class t true (lower_class t (class_number class.Place) e (omega arith))
+number_of_class t false e = words_of.number_of_class t false (lower_class t (class_number class.Number) e (omega arith))
 
 -- what the classes of templates say
 parameter_says : (t : List ℕ) (a b f v : Bool) (d : ℕ) → same_bytes (codes "value") t ≡ a → same_bytes (codes "token") t ≡ b → is_function t ≡ f → is_variable t ≡ v
-    → (if a then class.VALUE else if b then class.TOKEN else if f then class.FUNCTION else if v then class.VARIABLE else class.COUNT) ≡ d
-    → (d ≡ class.VALUE → t ≡ codes "value") × (d ≡ class.TOKEN → t ≡ codes "token") × (d ≡ class.FUNCTION → is_function t ≡ true) × (d ≡ class.VARIABLE → is_variable t ≡ true)
+    → (if a then (class_number class.Value) else if b then (class_number class.Token) else if f then (class_number class.Function) else if v then (class_number class.Variable) else (class_number class.Other)) ≡ d
+    → (d ≡ (class_number class.Value) → t ≡ codes "value") × (d ≡ (class_number class.Token) → t ≡ codes "token") × (d ≡ (class_number class.Function) → is_function t ≡ true) × (d ≡ (class_number class.Variable) → is_variable t ≡ true)
 parameter_says t true b f v d p q r s e = (λ h. sym (same_is (codes "value") t p), λ h. absurd (omega arith), λ h. absurd (omega arith), λ h. absurd (omega arith))
 parameter_says t false true f v d p q r s e = (λ h. absurd (omega arith), λ h. sym (same_is (codes "token") t q), λ h. absurd (omega arith), λ h. absurd (omega arith))
 parameter_says t false false true v d p q r s e = (λ h. absurd (omega arith), λ h. absurd (omega arith), λ h. r, λ h. absurd (omega arith))
@@ -72,20 +73,20 @@ parameter_says t false false false true d p q r s e = (λ h. absurd (omega arith
 parameter_says t false false false false d p q r s e = (λ h. absurd (omega arith), λ h. absurd (omega arith), λ h. absurd (omega arith), λ h. absurd (omega arith))
 
 says : (t : List ℕ) (d : ℕ) → template_class t ≡ d → 63 < d
-    → (d ≡ class.VALUE → t ≡ codes "value") × (d ≡ class.TOKEN → t ≡ codes "token") × (d ≡ class.FUNCTION → is_function t ≡ true) × (d ≡ class.VARIABLE → is_variable t ≡ true)
+    → (d ≡ (class_number class.Value) → t ≡ codes "value") × (d ≡ (class_number class.Token) → t ≡ codes "token") × (d ≡ (class_number class.Function) → is_function t ≡ true) × (d ≡ (class_number class.Variable) → is_variable t ≡ true)
 says t d e h = parameter_says t (same_bytes (codes "value") t) (same_bytes (codes "token") t) (is_function t) (is_variable t) d refl refl refl refl (upper (class_of t) d t e h)
 
-pub value_of_class : (t : List ℕ) → template_class t ≡ class.VALUE → t ≡ codes "value"
-value_of_class t e = (says t class.VALUE e (omega arith)).0 refl
+pub value_of_class : (t : List ℕ) → template_class t ≡ (class_number class.Value) → t ≡ codes "value"
+value_of_class t e = (says t (class_number class.Value) e (omega arith)).0 refl
 
-pub token_of_class : (t : List ℕ) → template_class t ≡ class.TOKEN → t ≡ codes "token"
-token_of_class t e = (says t class.TOKEN e (omega arith)).1 refl
+pub token_of_class : (t : List ℕ) → template_class t ≡ (class_number class.Token) → t ≡ codes "token"
+token_of_class t e = (says t (class_number class.Token) e (omega arith)).1 refl
 
-pub function_of_class : (t : List ℕ) → template_class t ≡ class.FUNCTION → is_function t ≡ true
-function_of_class t e = (says t class.FUNCTION e (omega arith)).2 refl
+pub function_of_class : (t : List ℕ) → template_class t ≡ (class_number class.Function) → is_function t ≡ true
+function_of_class t e = (says t (class_number class.Function) e (omega arith)).2 refl
 
-pub variable_of_class : (t : List ℕ) → template_class t ≡ class.VARIABLE → is_variable t ≡ true
-variable_of_class t e = (says t class.VARIABLE e (omega arith)).3 refl
+pub variable_of_class : (t : List ℕ) → template_class t ≡ (class_number class.Variable) → is_variable t ≡ true
+variable_of_class t e = (says t (class_number class.Variable) e (omega arith)).3 refl
 
 and_both : (a b : Bool) → (a && b) ≡ true → (a ≡ true) × (b ≡ true)
 and_both true b h = (refl, h)
@@ -96,18 +97,18 @@ not_true true h = absurd (cc)
 not_true false h = refl
 
 -- a word that is not among the words has no class in action text
-among_none : (n : ℕ) (ws : List (List ℕ)) (t : List ℕ) → is_among ws t ≡ false → word_class n ws t ≡ class.COUNT
+among_none : (n : ℕ) (ws : List (List ℕ)) (t : List ℕ) → is_among ws t ≡ false → word_class n ws t ≡ (class_number class.Other)
 among_none n [] t h = refl
 among_none n (w ∷ ws) t h = pick (same_bytes w t) h (among_none (suc n) ws t)
   where
-    pick : (b : Bool) → (b || is_among ws t) ≡ false → (is_among ws t ≡ false → word_class (suc n) ws t ≡ class.COUNT) → (if b then n else word_class (suc n) ws t) ≡ class.COUNT
+    pick : (b : Bool) → (b || is_among ws t) ≡ false → (is_among ws t ≡ false → word_class (suc n) ws t ≡ (class_number class.Other)) → (if b then n else word_class (suc n) ws t) ≡ (class_number class.Other)
     pick true h ih = absurd (cc)
     pick false h ih = ih h
 
-pub no_class : (t : List ℕ) → is_word t ≡ true → is_among words t ≡ false → class_of t ≡ class.COUNT
+pub no_class : (t : List ℕ) → is_word t ≡ true → is_among words t ≡ false → class_of t ≡ (class_number class.Other)
 no_class t w a = plain_class Word t w (λ h. absurd (cc)) (λ h. absurd (cc)) ∙ among_none 0 words t a
 
-template_parameter : (t : List ℕ) → class_of t ≡ class.COUNT → template_class t ≡ parameter_class t
+template_parameter : (t : List ℕ) → class_of t ≡ (class_number class.Other) → template_class t ≡ parameter_class t
 template_parameter t e = ap (λ c. or_parameter c t) e
 
 or_left_false : (a b : Bool) → (a || b) ≡ false → a ≡ false
@@ -119,14 +120,14 @@ or_right_false true b h = absurd (cc)
 or_right_false false b h = h
 
 abbrev choice : Bool → Bool → Bool → Bool → ℕ
-choice a b f v = if a then class.VALUE else if b then class.TOKEN else if f then class.FUNCTION else if v then class.VARIABLE else class.COUNT
+choice a b f v = if a then (class_number class.Value) else if b then (class_number class.Token) else if f then (class_number class.Function) else if v then (class_number class.Variable) else (class_number class.Other)
 
 parameter_picks : (t : List ℕ) (f v : Bool) → same_bytes (codes "value") t ≡ false → same_bytes (codes "token") t ≡ false → is_function t ≡ f → is_variable t ≡ v
-    → parameter_class t ≡ (if f then class.FUNCTION else if v then class.VARIABLE else class.COUNT)
+    → parameter_class t ≡ (if f then (class_number class.Function) else if v then (class_number class.Variable) else (class_number class.Other))
 parameter_picks t f v a b c d =
     ap (λ x. choice x (same_bytes (codes "token") t) (is_function t) (is_variable t)) a ∙ ap (λ x. choice false x (is_function t) (is_variable t)) b ∙ ap (λ x. choice false false x (is_variable t)) c ∙ ap (λ x. choice false false f x) d
 
-pub function_class : (t : List ℕ) → is_function t ≡ true → template_class t ≡ class.FUNCTION
+pub function_class : (t : List ℕ) → is_function t ≡ true → template_class t ≡ (class_number class.Function)
 function_class t h =
     let a = and_both (is_word t) (begins_small t && (not (is_among words t) && not (is_among other_words t))) h in
     let b = and_both (begins_small t) (not (is_among words t) && not (is_among other_words t)) a.1 in
@@ -172,7 +173,7 @@ not_capitals (w ∷ ws) t n v =
     let a : same_bytes w t ≡ false = not_capital w t x.0 v in
     rw a (not_capitals ws t x.1 v)
 
-pub variable_class : (t : List ℕ) → is_variable t ≡ true → template_class t ≡ class.VARIABLE
+pub variable_class : (t : List ℕ) → is_variable t ≡ true → template_class t ≡ (class_number class.Variable)
 variable_class t h =
     let a = and_both (is_word t) (not (begins_small t)) h in
     let s : begins_small t ≡ false = not_true (begins_small t) a.1 in

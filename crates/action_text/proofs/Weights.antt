@@ -1,8 +1,6 @@
 -- Each move takes weight off the stack, or a token.
 use Rattle.std.proofs.Common.{◌≡◌, ℕ, ◌+◌, ◌<◌, Bool, true, false, List, [], ◌∷◌, ◌++◌, Some, refl, arith, get_or, nat_eq, nat_lt, if◌then◌else◌, ◌&&◌, eqb-true, ltb-true}
-use Rattle.action_text.specs.declared.table.Symbol.{Symbol}
-use Rattle.action_text.specs.declared.table.Symbol.TheVariants.{Read, Keep, Emit, Name}
-use Rattle.action_text.specs.Tables.{Line, Other, line_of, other_of}
+use Rattle.action_text.specs.Tables.{Symbol, Read, Keep, Emit, Name, Line, Other, line_of, other_of}
 use Rattle.action_text.specs.ActionTable.{template_lines, action_lines, parameter_lines, action_others}
 
 abbrev pub weigh : (ℕ → ℕ) → List Symbol → ℕ

@@ -10,16 +10,17 @@ use Rattle.action_terms.specs.declared.kinds.YKind.{YKind}
 use Rattle.action_terms.specs.declared.kinds.YKind.TheVariants as ykind
 use Rattle.meta_lex.specs.Forms.{is_quoted}
 use Rattle.action_terms.specs.declared.kinds.Sort.{Sort}
-use Rattle.action_text.specs.declared.table.Symbol.TheVariants.{Read, Keep, Emit, Name}
+use Rattle.action_text.specs.Tables.{Read, Keep, Emit, Name, line, other}
 use Rattle.action_text.specs.declared.table.Mark.TheVariants as mark
-use Rattle.action_text.specs.declared.classes.TheConstants as class
-use Rattle.action_text.specs.declared.names.TheConstants as name
+use Rattle.action_text.specs.declared.classes.Class.TheVariants as class
+use Rattle.action_text.specs.Numbers.{class_number, name_number}
+use Rattle.action_text.specs.declared.names.Name.TheVariants as name
 use Rattle.action_text.specs.Shapes.{Part, sort_word}
 use Rattle.action_text.specs.TemplateText.{IsPlain}
 use Rattle.action_text.specs.Posts.{postorder}
 use Rattle.action_text.specs.Notes.{Noting, Note, KeptToken, marked, note, unquoted, value_of, place_of, yielder_with}
 use Rattle.action_text.specs.Classes.{template_class, is_place}
-use Rattle.action_text.specs.ActionTable.{template_table, line, other}
+use Rattle.action_text.specs.ActionTable.{template_table}
 use Rattle.action_text.proofs.Meanings.{Meaning, LineMeans, OtherMeans}
 use Rattle.action_text.proofs.Means.{means, wrote, MeansPart, MeansSorted, MeansSort, IsTokenForm}
 use Rattle.action_text.proofs.OperandRows.{variable_unquoted, quoted_begins}
@@ -28,7 +29,7 @@ use Rattle.action_text.proofs.QuotedTokens.{quoted_is}
 use Rattle.action_text.proofs.Nodes.{node_row, rest_row, rest_other, under_means, noted_node, plain_part}
 use Rattle.action_text.proofs.Chains.{last_name}
 
-pub yielder_number : (place : Bool) (t : List ℕ) (st end : Noting) (ts : List (List ℕ)) → template_class t ≡ (if place then class.PLACE else class.NUMBER)
+pub yielder_number : (place : Bool) (t : List ℕ) (st end : Noting) (ts : List (List ℕ)) → template_class t ≡ (if place then (class_number class.Place) else (class_number class.Number))
     → Meaning template_table means (Emit mark.Number ∷ []) (note (Rattle.action_text.specs.Tables.Token t) st) ts end → MeansPart AYielder st (t ∷ ts) end
 yielder_number place t st end ts e h =
     let n = number_of_class t place e in
@@ -36,14 +37,14 @@ yielder_number place t st end ts e h =
     let same : spelled_i64 t ≡ Some (value_of t) = n.1 ∙ ap (λ z. Some z) (sym value) in
     (tree (YielderNode (ykind.Number (value_of t)) []) none, (refl, tt), ([], refl, (same, h.0)), h.1)
 
-pub yielder_the : LineMeans template_table means (line name.YIELDER class.THE false (Name name.THE ∷ []))
+pub yielder_the : LineMeans template_table means (line (name_number name.Yielder) (class_number class.The) false (Name (name_number name.The) ∷ []))
 yielder_the t st end ts e h =
-    let m = last_name means name.THE st end ts h in
+    let m = last_name means (name_number name.The) st end ts h in
     (m.0, m.1, subst (λ v. IsPlain m.0 (v ∷ ts)) (sym (is_word_of t (codes "the") e refl)) m.2, m.3)
 
-pub yielder_is : LineMeans template_table means (line name.YIELDER class.IS false (Name name.IS_REST ∷ []))
+pub yielder_is : LineMeans template_table means (line (name_number name.Yielder) (class_number class.Is) false (Name (name_number name.IsRest) ∷ []))
 yielder_is t st end ts e h =
-    let m = last_name means name.IS_REST st end ts h in
+    let m = last_name means (name_number name.IsRest) st end ts h in
     (m.0, m.1, subst (λ v. IsPlain m.0 (v ∷ ts)) (sym (is_word_of t (codes "is") e refl)) m.2, m.3)
 
 -- a sort, and what stands behind it
@@ -54,13 +55,13 @@ sorted before st mid end ts front back cut s rest =
     let tokens : sort_word s.0 ∷ back ≡ ts = ap (λ y. y ++ back) (sym s.1) ∙ sym cut in
     (r.0, r.1, subst (λ y. IsPlain r.0 (before ++ y)) tokens r.2, r.3 ∙ ap (λ (z : Noting). let q : Noting = record { notes = st.notes; labels = z.labels ++ postorder r.0 } in q) s.2)
 
-pub the_given : LineMeans template_table means (line name.THE class.GIVEN false (Name name.SORT ∷ Name name.AT_PLACE ∷ []))
+pub the_given : LineMeans template_table means (line (name_number name.The) (class_number class.Given) false (Name (name_number name.Sort) ∷ Name (name_number name.AtPlace) ∷ []))
 the_given t st end ts e h =
-    let r = sorted (codes "the" ∷ codes "given" ∷ []) st h.2 end ts h.0 h.1 h.3 h.4 (last_name means name.AT_PLACE h.2 end h.1 h.5) in
+    let r = sorted (codes "the" ∷ codes "given" ∷ []) st h.2 end ts h.0 h.1 h.3 h.4 (last_name means (name_number name.AtPlace) h.2 end h.1 h.5) in
     (r.0, r.1, subst (λ v. IsPlain r.0 (codes "the" ∷ v ∷ ts)) (sym (is_word_of t (codes "given") e refl)) r.2, r.3)
 
-pub the_other : OtherMeans template_table means (other name.THE (Name name.SORT ∷ Name name.THE_REST ∷ []))
-the_other st end ts h = sorted (codes "the" ∷ []) st h.2 end ts h.0 h.1 h.3 h.4 (last_name means name.THE_REST h.2 end h.1 h.5)
+pub the_other : OtherMeans template_table means (other (name_number name.The) (Name (name_number name.Sort) ∷ Name (name_number name.TheRest) ∷ []))
+the_other st end ts h = sorted (codes "the" ∷ []) st h.2 end ts h.0 h.1 h.3 h.4 (last_name means (name_number name.TheRest) h.2 end h.1 h.5)
 
 pub yielder_quoted : (k : YKind) (kept : List ℕ) → is_quoted kept ≡ true → yielder_with k kept ≡ YielderNode k (unquoted kept)
 yielder_quoted k kept q = ap (λ b. if b then YielderNode k (unquoted kept) else YielderTokenOf k [] kept) (quoted_begins kept q)
@@ -86,7 +87,7 @@ bound_row t u kept s ns st end ts a b (inr f) e = (
   e ∙ ap (λ l. let r : Noting = record { notes = ns; labels = st.labels ++ l ∷ [] } in r) (yielder_variable (ykind.Bound s) kept f.0),
 )
 
-pub the_bound : LineMeans template_table means (line name.THE_REST class.BOUND false (Read class.TO ∷ Name name.TOKEN ∷ Emit mark.Bound ∷ []))
+pub the_bound : LineMeans template_table means (line (name_number name.TheRest) (class_number class.Bound) false (Read (class_number class.To) ∷ Name (name_number name.Token) ∷ Emit mark.Bound ∷ []))
 the_bound t st end [] e h s ns notes = absurd h
 the_bound t st end (u ∷ ts) e h s ns notes =
     let m = h.1 in
@@ -96,7 +97,7 @@ the_bound t st end (u ∷ ts) e h s ns notes =
     bound_row t u kept s ns st end ts (is_word_of t (codes "bound") e refl) (is_word_of u (codes "to") h.0 refl) form
     (m.5.1 ∙ ap (marked mark.Bound) m.4.1 ∙ ap (λ x. marked mark.Bound (let r : Noting = record { notes = KeptToken kept ∷ x; labels = st.labels } in r)) notes)
 
-pub the_stored : LineMeans template_table means (line name.THE_REST class.STORED false (Read class.IN ∷ Name name.YIELDER ∷ Emit mark.Stored ∷ []))
+pub the_stored : LineMeans template_table means (line (name_number name.TheRest) (class_number class.Stored) false (Read (class_number class.In) ∷ Name (name_number name.Yielder) ∷ Emit mark.Stored ∷ []))
 the_stored t st end [] e h s ns notes = absurd h
 the_stored t st end (u ∷ ts) e h s ns notes =
     let l : Label = YielderNode (ykind.Stored s) [] in
@@ -109,7 +110,7 @@ place_is (pos zero) h = absurd (cc)
 place_is (pos (suc n)) h = (n, refl, Rattle.action_text.proofs.Nodes.and_right (nat_le 1 (suc n)) (nat_le (suc n) 64) h)
 place_is (negsuc n) h = absurd (cc)
 
-pub at_place : LineMeans template_table means (line name.AT_PLACE class.HASH false (Keep class.PLACE ∷ Emit mark.GivenAt ∷ []))
+pub at_place : LineMeans template_table means (line (name_number name.AtPlace) (class_number class.Hash) false (Keep (class_number class.Place) ∷ Emit mark.GivenAt ∷ []))
 at_place t st end [] e h s ns notes = absurd h
 at_place t st end (u ∷ ts) e h s ns notes =
     let n = number_of_class u true h.0 in
@@ -127,7 +128,7 @@ at_place t st end (u ∷ ts) e h s ns notes =
     both true h = refl
     both false h = absurd (cc)
 
-pub at_no_place : OtherMeans template_table means (other name.AT_PLACE (Emit mark.Given ∷ []))
+pub at_no_place : OtherMeans template_table means (other (name_number name.AtPlace) (Emit mark.Given ∷ []))
 at_no_place st end ts h s ns notes = (
   tree (YielderNode (ykind.Given s 0) []) none,
   (refl, tt),

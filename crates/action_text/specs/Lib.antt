@@ -2,6 +2,7 @@ pub mod Shapes
 pub mod ActionText
 pub mod TemplateText
 pub mod TemplateAnswers
+pub mod Numbers
 pub mod Tables
 pub mod Classes
 pub mod ActionTable

@@ -1,17 +1,15 @@
 -- The rows of the code as lines of the table.
-use Rattle.std.specs.Prelude.{◌≡◌, ◌⊎◌, ℕ, ◌<◌, ◌≤◌, List, length, slice_index, slice_range, Option, Some, None}
+use Rattle.std.specs.Prelude.{◌≡◌, ◌⊎◌, ℕ, ◌<◌, ◌≤◌, List, length, map, slice_index, Option, Some, None}
 use Rattle.action_text.specs.declared.table.Row.{Row}
 use Rattle.action_text.specs.declared.table.OtherRow.{OtherRow}
-use Rattle.action_text.specs.declared.table.Symbol.{Symbol}
-use Rattle.action_text.specs.declared.table.TheConstants.{SYMBOLS}
-use Rattle.action_text.specs.Tables.{Line, Other, line_of}
-use Rattle.action_text.specs.ActionTable.{template_lines}
+use Rattle.action_text.specs.Tables.{Symbol, Line, Other, line_of, numbered}
+use Rattle.action_text.specs.ActionTable.{row, other_row, template_lines}
 
 abbrev pub line_at : Row → Line
-line_at r = record { name = r.name; class = r.class; keeps = r.keeps; right = slice_range SYMBOLS r.from r.to }
+line_at r = row r.name r.class r.keeps r.right.now
 
 abbrev pub other_at : OtherRow → Other
-other_at r = record { name = r.name; right = slice_range SYMBOLS r.from r.to }
+other_at r = other_row r.name r.right.now
 
 -- the line of an answer
 abbrev pub found_line : Option Row → Option Line
@@ -21,11 +19,11 @@ found_line (Some r) = Some (line_at r)
 -- the right side of an answer
 abbrev pub found_other : Option OtherRow → Option (List Symbol)
 found_other None = None
-found_other (Some r) = Some (slice_range SYMBOLS r.from r.to)
+found_other (Some r) = Some (map numbered r.right.now)
 
--- the places lie among the symbols, in order
-abbrev pub IsInside : ℕ → ℕ → Type 0
-IsInside from to = (from ≤ to) × (to ≤ length SYMBOLS)
+-- the class stands at the place
+abbrev pub StandsAt : List ℕ → ℕ → ℕ → Type 0
+StandsAt classes at c = (at < length classes) × (slice_index classes at ≡ c)
 
 -- the row is the line of the name for the class at the place
 abbrev pub HasLineAt : List ℕ → ℕ → ℕ → Row → Type 0

@@ -1,8 +1,23 @@
 -- Grammars as tables of lines, and what they read and write.
 use Rattle.action_text.specs.declared.table.Mark.{Mark}
-use Rattle.action_text.specs.declared.table.Symbol.{Symbol}
-use Rattle.action_text.specs.declared.table.Symbol.TheVariants.{Read, Keep, Emit, Name}
+use Rattle.action_text.specs.declared.table.Symbol.{Symbol as TableSymbol}
+use Rattle.action_text.specs.declared.table.Symbol.TheVariants as symbol
+use Rattle.action_text.specs.Numbers.{class_number, name_number}
 use Rattle.std.specs.Prelude.{◌≡◌, ◌⊎◌, ℕ, zero, suc, Bool, true, false, List, [], ◌∷◌, ◌++◌, Option, Some, None, nat_eq, if◌then◌else◌}
+
+-- what may stand on the right of a line: a token of a class, read over or kept, a mark, a name
+pub data Symbol : Type 0 where
+  Read : (class : ℕ) → Symbol
+  Keep : (class : ℕ) → Symbol
+  Emit : (mark : Mark) → Symbol
+  Name : (name : ℕ) → Symbol
+
+-- a symbol of the code, with the number of its class or its name
+abbrev pub numbered : TableSymbol → Symbol
+numbered (symbol.Read c) = Read (class_number c)
+numbered (symbol.Keep c) = Keep (class_number c)
+numbered (symbol.Emit m) = Emit m
+numbered (symbol.Name n) = Name (name_number n)
 
 -- what is written: a token, or a mark
 pub data Written : Type 0 where
@@ -20,6 +35,12 @@ pub record Line : Type 0 where
 pub record Other : Type 0 where
   pub name : ℕ
   pub right : List Symbol
+
+abbrev pub line : ℕ → ℕ → Bool → List Symbol → Line
+line n c k r = record { name = n; class = c; keeps = k; right = r }
+
+abbrev pub other : ℕ → List Symbol → Other
+other n r = record { name = n; right = r }
 
 -- the class of each token, and the lines
 pub record Table : Type 0 where

@@ -1,14 +1,17 @@
 //! Reading tokens as an action text: one loop over a stack of what is still expected.
-ghost use Rattle.std.specs.Prelude.{◌≡◌, ◌<◌, ◌↔◌, length, slice_index, map, IsTrue, OnOk, OnErr, IfErr, MatchResult};
+ghost use Rattle.std.specs.Prelude.{◌≡◌, ◌↔◌, map, IsTrue, OnOk, OnErr, IfErr, MatchResult};
 ghost use Rattle.meta_terms.specs.Nodes.{label_of};
+ghost use Rattle.action_text.specs.Numbers.{class_number};
+ghost use Rattle.action_text.specs.Rows.{StandsAt};
 ghost use Rattle.action_text.specs.Reading.{AreLabelsOf, FailsAt};
 ghost use Rattle.action_text.specs.Texts.{texts};
 ghost use Rattle.action_text.specs.declared.reading.PlaceError.TheVariants.{Memory, At};
 
+use crate::classes::Class;
 use crate::lookup::{find_other, push_reversed, row_at};
-use crate::names;
+use crate::names::Name;
 use crate::notes::{Note, follow, keep_if};
-use crate::table::{SYMBOLS, Symbol};
+use crate::table::Symbol;
 use crate::token_class::classes_of;
 use meta_lex::token::Token;
 use meta_terms::TemplateNode;
@@ -41,16 +44,16 @@ impl<T: Drop> From<AllocFailed<T>> for PlaceError {
 }
 
 // Whether a token of the class stands at the place.
-fn is_at(classes: &[u32], at: usize, class: u32) -> bool
-    ensures { IsTrue result ↔ ((at < length classes.now) × (slice_index classes.now at ≡ class)) }
+fn is_at(classes: &[Class], at: usize, class: Class) -> bool
+    ensures { IsTrue result ↔ StandsAt (map class_number classes.now) at (class_number class) }
 {
-    at < classes.len() && classes[at] == class
+    at < classes.len() && classes[at].is(class)
 }
 
 // Refuses the place where no token of the class stands there.
-fn expect(classes: &[u32], at: usize, class: u32) -> Result<(), PlaceError>
-    ensures there { OnOk result ((at < length classes.now) × (slice_index classes.now at ≡ class)) }
-    ensures missing { OnErr result (¬ ((at < length classes.now) × (slice_index classes.now at ≡ class))) }
+fn expect(classes: &[Class], at: usize, class: Class) -> Result<(), PlaceError>
+    ensures there { OnOk result (StandsAt (map class_number classes.now) at (class_number class)) }
+    ensures missing { OnErr result (¬ (StandsAt (map class_number classes.now) at (class_number class))) }
     ensures place { IfErr result (λ e. e ≡ At at) }
 {
     if is_at(classes, at, class) {
@@ -66,12 +69,14 @@ pub fn read_labels<'t>(
     tokens: &[Token<'t>],
     parameters: bool,
 ) -> Result<Vec<TemplateNode<'t>>, PlaceError>
-    ensures { MatchResult result (λ labels. AreLabelsOf parameters (texts tokens.now) (map label_of labels.items)) (λ e. FailsAt parameters (texts tokens.now) e) }
+    ensures { MatchResult result
+        (λ labels. AreLabelsOf parameters (texts tokens.now) (map label_of labels.items))
+        (λ e. FailsAt parameters (texts tokens.now) e) }
 {
     let list = classes_of(alloc, tokens, parameters)?;
     let classes = list.as_slice();
     let mut stack = Vec::new(alloc);
-    stack.push(Symbol::Name(names::ACTION))?;
+    stack.push(Symbol::Name(Name::Action))?;
     let mut notes: Vec<Note<'t>> = Vec::new(alloc);
     let mut labels: Vec<TemplateNode<'t>> = Vec::new(alloc);
     let mut at = 0;
@@ -91,9 +96,9 @@ pub fn read_labels<'t>(
                 if let Some(row) = row_at(classes, at, name) {
                     keep_if(&mut notes, row.keeps, tokens[at].bytes)?;
                     at += 1;
-                    push_reversed(&mut stack, &SYMBOLS[row.from..row.to])?;
+                    push_reversed(&mut stack, row.right)?;
                 } else if let Some(other) = find_other(name) {
-                    push_reversed(&mut stack, &SYMBOLS[other.from..other.to])?;
+                    push_reversed(&mut stack, other.right)?;
                 } else {
                     return Err(PlaceError::At(at));
                 }

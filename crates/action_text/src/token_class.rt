@@ -1,44 +1,81 @@
 //! The class of a token, by its bytes.
-ghost use Rattle.std.specs.Prelude.{◌≡◌, ◌∷◌, codes, ◌<◌, ◌≤◌, ◌↔◌, [], length, slice_index_or, slice_range, IsTrue, IfOk, map};
+ghost use Rattle.std.specs.Prelude.{◌≡◌, ◌∷◌, codes, ◌↔◌, IsTrue, IfOk, map};
 ghost use Rattle.meta_terms.specs.Words.{words, same_bytes};
 ghost use Rattle.meta_lex.specs.Forms.{is_word};
-ghost use Rattle.action_text.specs.Classes.{word_class, class_of, parameter_class, template_class};
+ghost use Rattle.action_text.specs.Numbers.{class_number};
+ghost use Rattle.action_text.specs.Classes.{word_class, class_of, parameter_class, class_among, spelled_class};
 ghost use Rattle.meta_terms.specs.Names.{is_function, is_variable, is_among, other_words, begins_small};
 ghost use Rattle.action_text.specs.ActionTable.{class_in};
 ghost use Rattle.action_text.specs.Texts.{texts};
 
-use crate::classes;
+use crate::classes::Class;
 use acg_base::read_decimal;
 use meta_lex::token::{Token, TokenKind};
 use std::alloc::{AllocError, Global};
 
-/// The words and symbols of action texts, one behind the other, in the order of their classes.
-pub static WORD_BYTES: [u8; 331] =
-    *b"orandthentraphencemoreoverbefore(),#unfoldingfurthermorecompletefailescapecommitregiverebindgivewithcheckbindtorecursivelyclosureabstractionofstoreinallocateacellsendreceiveanintegerenactapplicationunfoldthemtruefalsethegivenboundstoredtruth-valuesumdifferenceproductinteger-quotientinteger-remainderislessthanbotheithernegationnot";
-
-/// Where each word begins, and where the last one ends.
-pub static WORD_STARTS: [usize; 61] = [
-    0, 2, 5, 9, 13, 18, 26, 32, 33, 34, 35, 36, 45, 56, 64, 68, 74, 80, 86, 92, 96, 100, 105, 109,
-    111, 122, 129, 140, 142, 147, 149, 157, 158, 162, 166, 173, 175, 182, 187, 198, 204, 208, 212,
-    217, 220, 225, 230, 236, 247, 250, 260, 267, 283, 300, 302, 306, 310, 314, 320, 328, 331,
+/// The words and symbols of action texts, each with its class.
+static WORDS: [(Class, &str); 60] = [
+    (Class::Or, "or"),
+    (Class::And, "and"),
+    (Class::Then, "then"),
+    (Class::Trap, "trap"),
+    (Class::Hence, "hence"),
+    (Class::Moreover, "moreover"),
+    (Class::Before, "before"),
+    (Class::OpenParen, "("),
+    (Class::CloseParen, ")"),
+    (Class::Comma, ","),
+    (Class::Hash, "#"),
+    (Class::Unfolding, "unfolding"),
+    (Class::Furthermore, "furthermore"),
+    (Class::Complete, "complete"),
+    (Class::Fail, "fail"),
+    (Class::Escape, "escape"),
+    (Class::Commit, "commit"),
+    (Class::Regive, "regive"),
+    (Class::Rebind, "rebind"),
+    (Class::Give, "give"),
+    (Class::With, "with"),
+    (Class::Check, "check"),
+    (Class::Bind, "bind"),
+    (Class::To, "to"),
+    (Class::Recursively, "recursively"),
+    (Class::Closure, "closure"),
+    (Class::Abstraction, "abstraction"),
+    (Class::Of, "of"),
+    (Class::Store, "store"),
+    (Class::In, "in"),
+    (Class::Allocate, "allocate"),
+    (Class::A, "a"),
+    (Class::Cell, "cell"),
+    (Class::Send, "send"),
+    (Class::Receive, "receive"),
+    (Class::An, "an"),
+    (Class::Integer, "integer"),
+    (Class::Enact, "enact"),
+    (Class::Application, "application"),
+    (Class::Unfold, "unfold"),
+    (Class::Them, "them"),
+    (Class::True, "true"),
+    (Class::False, "false"),
+    (Class::The, "the"),
+    (Class::Given, "given"),
+    (Class::Bound, "bound"),
+    (Class::Stored, "stored"),
+    (Class::TruthValue, "truth-value"),
+    (Class::Sum, "sum"),
+    (Class::Difference, "difference"),
+    (Class::Product, "product"),
+    (Class::IntegerQuotient, "integer-quotient"),
+    (Class::IntegerRemainder, "integer-remainder"),
+    (Class::Is, "is"),
+    (Class::Less, "less"),
+    (Class::Than, "than"),
+    (Class::Both, "both"),
+    (Class::Either, "either"),
+    (Class::Negation, "negation"),
+    (Class::Not, "not"),
 ];
-
-// The bytes between the two places.
-fn cut(bytes: &[u8], from: usize, to: usize) -> &[u8]
-    requires ordered { from ≤ to }
-    requires within { to ≤ length bytes.now }
-    ensures { result.now ≡ slice_range bytes.now from to }
-{
-    &bytes[from..to]
-}
-
-// The word or symbol of the class.
-fn word_at(class: usize) -> &'static [u8]
-    requires { class < 60 }
-    ensures { result.now ≡ slice_index_or words class [] }
-{
-    cut(&WORD_BYTES, WORD_STARTS[class], WORD_STARTS[class + 1])
-}
 
 // Tells whether two texts are the same.
 fn is_same(word: &[u8], bytes: &[u8]) -> bool
@@ -47,27 +84,34 @@ fn is_same(word: &[u8], bytes: &[u8]) -> bool
     word == bytes
 }
 
-/// The class of a word or symbol: its place among the words, or `classes::COUNT` for another one.
-pub fn word_class(bytes: &[u8]) -> u32
-    ensures { result ≡ word_class 0 words bytes.now }
+// The class of the word among these that the bytes are, or `Class::Other`.
+fn class_among(words: &[(Class, &str)], bytes: &[u8]) -> Class
+    ensures { class_number result ≡ class_among (map spelled_class words.now) bytes.now }
 {
-    for class in 0..60 {
-        if is_same(word_at(class), bytes) {
-            return class as u32;
+    for (class, word) in words {
+        if is_same(word.as_bytes(), bytes) {
+            return *class;
         }
     }
-    classes::COUNT
+    Class::Other
+}
+
+/// The class of a word or symbol, or `Class::Other` for another one.
+pub fn word_class(bytes: &[u8]) -> Class
+    ensures { class_number result ≡ word_class 0 words bytes.now }
+{
+    class_among(&WORDS, bytes)
 }
 
 /// The class of a token.
-pub fn class_of(token: &Token<'_>) -> u32
-    ensures { result ≡ class_of token.now.bytes.now }
+pub fn class_of(token: &Token<'_>) -> Class
+    ensures { class_number result ≡ class_of token.now.bytes.now }
 {
     match token.kind {
-        TokenKind::Quoted => classes::QUOTED,
+        TokenKind::Quoted => Class::Quoted,
         TokenKind::Number => match read_decimal(token.bytes) {
-            Some(1..=64) => classes::PLACE,
-            Some(_) => classes::NUMBER,
+            Some(1..=64) => Class::Place,
+            Some(_) => Class::Number,
             None => word_class(token.bytes),
         },
         TokenKind::Word | TokenKind::Symbol => word_class(token.bytes),
@@ -105,7 +149,7 @@ fn begins_small(bytes: &[u8]) -> bool
 fn is_action_word(bytes: &[u8]) -> bool
     ensures { result ≡ is_among words bytes.now }
 {
-    word_class(bytes) != classes::COUNT
+    !word_class(bytes).is(Class::Other)
 }
 
 // Tells whether a token is a word.
@@ -138,32 +182,32 @@ pub fn is_variable(token: &Token<'_>) -> bool
 }
 
 // The class of a token that a template can have and an action text can't.
-fn parameter_class(token: &Token<'_>) -> u32
-    ensures { result ≡ parameter_class token.now.bytes.now }
+fn parameter_class(token: &Token<'_>) -> Class
+    ensures { class_number result ≡ parameter_class token.now.bytes.now }
 {
     let value = same(b"value", token.bytes);
     let of_token = same(b"token", token.bytes);
     let function = is_function(token);
     let variable = is_variable(token);
     if value {
-        classes::VALUE
+        Class::Value
     } else if of_token {
-        classes::TOKEN
+        Class::Token
     } else if function {
-        classes::FUNCTION
+        Class::Function
     } else if variable {
-        classes::VARIABLE
+        Class::Variable
     } else {
-        classes::COUNT
+        Class::Other
     }
 }
 
 // The class of a token of a text with parameters or without.
-fn class_in(parameters: bool, token: &Token<'_>) -> u32
-    ensures { result ≡ class_in parameters token.now.bytes.now }
+fn class_in(parameters: bool, token: &Token<'_>) -> Class
+    ensures { class_number result ≡ class_in parameters token.now.bytes.now }
 {
     let class = class_of(token);
-    if parameters && class >= classes::COUNT {
+    if parameters && class.is(Class::Other) {
         parameter_class(token)
     } else {
         class
@@ -175,8 +219,8 @@ pub fn classes_of(
     alloc: Global,
     tokens: &[Token<'_>],
     parameters: bool,
-) -> Result<Vec<u32>, AllocError>
-    ensures { IfOk result (λ v. v.items ≡ map (class_in parameters) (texts tokens.now)) }
+) -> Result<Vec<Class>, AllocError>
+    ensures { IfOk result (λ v. map class_number v.items ≡ map (class_in parameters) (texts tokens.now)) }
 {
     let mut list = Vec::new(alloc);
     for token in tokens {

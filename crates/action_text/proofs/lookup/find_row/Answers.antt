@@ -1,10 +1,10 @@
-use Rattle.std.proofs.Common.{◌∙◌, ap}
+use Rattle.std.proofs.Common.{◌∙◌, ap, refl}
+use Rattle.action_text.specs.Numbers.{class_number, name_number}
 use Rattle.action_text.specs.Tables.{line_of}
-use Rattle.action_text.proofs.RowLookups.{rows_are_lines, inside_found}
+use Rattle.action_text.specs.ActionTable.{template_lines, action_lines, parameter_lines}
 use Rattle.action_text.proofs.lookup.find_row.Goals as goal
 
-pub returns-clause-line : goal.returns-clause-line
-returns-clause-line c = c.find_row_in.ensures.line ∙ ap (λ ls. line_of ls c.args.name c.args.class) rows_are_lines
-
-pub returns-clause-inside : goal.returns-clause-inside
-returns-clause-inside c = inside_found c.find_row_in.result c.find_row_in.ensures.contained
+-- the rows are the lines of the table
+pub returns : goal.returns
+unfolding template_lines action_lines parameter_lines
+returns c = c.find_row_in.ensures ∙ ap (λ ls. line_of ls (name_number c.args.name) (class_number c.args.class)) refl
