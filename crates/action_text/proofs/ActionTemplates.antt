@@ -1,6 +1,7 @@
 -- Actions as templates.
 use Rattle.std.proofs.Common.{◌≡◌, ℕ, zero, suc, ◌<◌, true, false, List, [], ◌∷◌, ◌++◌, length, get_or, map, refl, sym, ap, ◌∙◌, arith}
 use Rattle.std.specs.Prelude.{All}
+use Rattle.std.proofs.lemmas.List.{map-append}
 use Rattle.action_terms.specs.Labels as plain
 use Rattle.action_terms.specs.Trees as trees
 use Rattle.action_terms.specs.Trees.{tree, none, more, preorder, preorders}
@@ -32,10 +33,6 @@ mutual
       let d : ts ≡ us = trees_back ts us b in
       cc
 
-map_both : {A B : Type 0} (f : A → B) (xs ys : List A) → map f (xs ++ ys) ≡ map f xs ++ map f ys
-map_both f [] ys = refl
-map_both f (x ∷ xs) ys = ap (λ z. f x ∷ z) (map_both f xs ys)
-
 pub map_map : {A B C : Type 0} (f : B → C) (g : A → B) (xs : List A) → map (λ x. f (g x)) xs ≡ map f (map g xs)
 map_map f g [] = refl
 map_map f g (x ∷ xs) = ap (λ y. f (g x) ∷ y) (map_map f g xs)
@@ -46,7 +43,7 @@ mutual
 
   pub preorders_as : (ts : trees.Trees) → preorders (as_templates ts) ≡ map as_label (preorders ts)
   preorders_as none = refl
-  preorders_as (more t ts) = ap (λ y. y ++ preorders (as_templates ts)) (preorder_as t) ∙ ap (λ y. map as_label (preorder t) ++ y) (preorders_as ts) ∙ sym (map_both as_label (preorder t) (preorders ts))
+  preorders_as (more t ts) = ap (λ y. y ++ preorders (as_templates ts)) (preorder_as t) ∙ ap (λ y. map as_label (preorder t) ++ y) (preorders_as ts) ∙ sym (map-append as_label (preorder t) (preorders ts))
 
 pub labels_back : (xs ys : List plain.Label) → map as_label xs ≡ map as_label ys → xs ≡ ys
 labels_back [] [] e = refl

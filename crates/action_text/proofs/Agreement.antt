@@ -1,5 +1,6 @@
 -- The table of action text and the grammar agree: what the one reads the other spells.
 use Rattle.std.proofs.Common.{◌≡◌, ◌⊎◌, inl, inr, ℕ, zero, suc, false, List, [], ◌∷◌, ◌++◌, Some, refl, sym, ap, subst, ◌∙◌, append_assoc, append-nil, codes}
+use Rattle.action_text.proofs.Tests.{and_left, and_right}
 use Rattle.action_terms.specs.Labels.{AnAction, AYielder, AnItem, AClosure}
 use Rattle.meta_terms.specs.Names.{is_function, is_variable}
 use Rattle.meta_terms.specs.Templates.{ActionTokenOf, YielderTokenOf, Applied, ValueOf, Label, ActionNode, YielderNode, Tree, Trees, Is, Are, IsAction}
@@ -27,7 +28,6 @@ use Rattle.action_text.proofs.ChainRows.{op_Or, op_And, op_AndThen, op_Then, op_
 use Rattle.action_text.proofs.Spelling.{Goes, PlainGoes, ChainGoes, AllGo, more_of, more_ends, chain_label, operand_goes, word_line, word_read, name_then, on_tokens}
 use Rattle.action_text.proofs.SpeltNodes.{NodeGoes, node_goes, no_token}
 use Rattle.action_text.proofs.SpeltActions.{action_goes, item_cases, action_token_goes, applied_goes}
-use Rattle.action_text.proofs.Nodes.{and_left, and_right}
 use Rattle.action_text.proofs.SpeltYielders.{yielder_goes, yielder_token_goes, value_of_goes}
 
 -- what the table reads spells an action, and its labels are written

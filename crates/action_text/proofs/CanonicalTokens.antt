@@ -3,6 +3,8 @@ use Rattle.std.proofs.Common.{◌≡◌, ◌⊎◌, inl, inr, ℕ, zero, suc, Bo
 use Rattle.std.specs.Prelude.{pos, nat_le, FitsSigned}
 use Rattle.std.specs.Int.{w64}
 use Rattle.std.proofs.lemmas.Bool.Decides.{nat_tests}
+use Rattle.action_text.proofs.SpeltNodes.{no_token}
+use Rattle.action_text.proofs.Tests.{and_left, and_right}
 use Rattle.acg_base.specs.Decimals.{spelled_i64, decimal_of}
 use Rattle.acg_base.proofs.SpellingLemmas.{spelled_i64-decimal_of}
 use Rattle.action_terms.specs.Labels.{Label, ActionNode, YielderNode, Wanted, AnAction, AYielder, AnItem, AClosure, under, copies, serves, items_fit, token_fits, has_no_token, yielder_fits, is_datum}
@@ -14,7 +16,6 @@ use Rattle.action_terms.specs.declared.kinds.YKind.TheVariants as ykind
 use Rattle.action_text.specs.Shapes.{Piece, Fixed, Numeral, Quoted, Part, shape, items, more_items, operator, operator_of, open_paren, close_paren}
 use Rattle.action_text.specs.ActionText.{IsPlain, IsChain, ArePartsOf, IsPart, IsOperand, IsActionText, Weaves, label_of, Spells}
 use Rattle.action_text.specs.Canonical.{printed_shape, woven, is_some_word, is_operator, same_words, plain_tokens, chain_tokens, operand_tokens, action_tokens, IsReadableLabel, IsReadable, AreReadable}
-use Rattle.action_text.proofs.Nodes.{and_left, and_right}
 use Rattle.action_text.proofs.PreorderWalk.{length-copies}
 use Rattle.action_text.proofs.Words.{same_is}
 
@@ -85,9 +86,6 @@ printed_parts (YielderNode _ t) o = refl
 place_fits : (n : ℕ) → nat_le n 64 ≡ true → FitsSigned w64 (pos n)
 place_fits n h = grind (arith, nat_tests)
 
-abbrev YielderServes : YKind → List ℕ → Type 0
-YielderServes k t = yielder_fits k t ≡ true
-
 shape_reads : (l : Label) → ((k : YKind) (t : List ℕ) → l ≡ YielderNode k t → yielder_fits k t ≡ true) → IsReadableLabel l → NumeralsRead (shape l)
 shape_reads (ActionNode kind.Give n t) y r = read_items n
 shape_reads (ActionNode kind.EscapeWith n t) y r = read_items n
@@ -130,10 +128,6 @@ operator_kind ws =
     else if same_words ws (operator kind.Hence) then kind.Hence
     else if same_words ws (operator kind.Moreover) then kind.Moreover
     else kind.Before
-
-no_token : (q : List ℕ) → has_no_token q ≡ true → q ≡ []
-no_token [] h = refl
-no_token (b ∷ q) h = absurd (cc)
 
 -- an action with an operator has neither items nor a token
 pub record HasOperator (l : Label) : Type 0 where

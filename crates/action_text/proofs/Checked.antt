@@ -1,6 +1,8 @@
 -- The facts of a table, from a test that computes; and each name reads something.
 use Rattle.std.proofs.Common.{◌≡◌, ◌≢◌, ◌⊎◌, inl, inr, ℕ, zero, suc, ◌<◌, Bool, true, false, List, [], ◌∷◌, ◌++◌, Option, Some, None, refl, sym, ap, ◌∙◌, arith, nat_eq, nat_lt, if◌then◌else◌, ◌&&◌, ◌||◌, not, eqb-true, eq-eqb, ltb-true}
 use Rattle.std.proofs.lemmas.Bool.Decides.{eqb_tells}
+use Rattle.std.proofs.lemmas.Bool.{and_parts, or_cases, or_right}
+use Rattle.action_text.proofs.Tests.{and_left, and_right, not_true}
 use Rattle.action_text.specs.Tables.{Symbol, Read, Keep, Emit, Name, Written, Token, Line, Other, Table, line_of, other_of, with_token, Reads, Noted}
 use Rattle.action_text.proofs.Starts.{member, Known, can_start, can_be_empty, Starting, Choosing, Safe, SafeRight}
 use Rattle.action_text.proofs.Moves.{reads_both}
@@ -12,27 +14,9 @@ unfoldable pub each : (ℕ → Bool) → List ℕ → Bool
 each p [] = true
 each p (c ∷ cs) = p c && each p cs
 
-and_both : (a b : Bool) → (a && b) ≡ true → (a ≡ true) × (b ≡ true)
-and_both true b h = (refl, h)
-and_both false b h = absurd (cc)
-
-and_left : (a b : Bool) → (a && b) ≡ true → a ≡ true
-and_left a b h = (and_both a b h).0
-
-and_right : (a b : Bool) → (a && b) ≡ true → b ≡ true
-and_right a b h = (and_both a b h).1
-
 implies : (a b : Bool) → implied a b ≡ true → a ≡ true → b ≡ true
 implies true b h e = h
 implies false b h e = absurd (cc)
-
-not_true : (a : Bool) → not a ≡ true → a ≡ false
-not_true true h = absurd (cc)
-not_true false h = refl
-
-or_cases : (a b : Bool) → (a || b) ≡ true → (a ≡ true) ⊎ (b ≡ true)
-or_cases true b h = inl refl
-or_cases false b h = inr h
 
 each_member : (p : ℕ → Bool) (cs : List ℕ) (c : ℕ) → each p cs ≡ true → member c cs ≡ true → p c ≡ true
 unfolding each
@@ -61,10 +45,6 @@ member_front c (d ∷ a) b h = or_more (nat_eq c d) (member c a) (member c (a ++
 member_back : (c : ℕ) (a b : List ℕ) → member c b ≡ true → member c (a ++ b) ≡ true
 member_back c [] b h = h
 member_back c (d ∷ a) b h = or_right (nat_eq c d) (member c (a ++ b)) (member_back c a b h)
-  where
-    or_right : (x y : Bool) → y ≡ true → (x || y) ≡ true
-    or_right true y e = refl
-    or_right false y e = e
 
 starts_listed : (w : Known) (c : ℕ) (s : List Symbol) → can_start w c s ≡ true → member c (starts_of w s) ≡ true
 unfolding starts_of
@@ -103,7 +83,7 @@ safe_right w n (Emit e ∷ s) h = safe_right w n s h
 safe_right w n (Name m ∷ s) h =
     let b = and_right (nat_lt m w.count) _ h in (
       ltb-true m w.count (and_left (nat_lt m w.count) _ h),
-      λ c e. let x = and_both _ _ (each_member _ (w.never m) c (and_left _ (right_is_safe w n s) b) e) in (not_true _ x.0, implies _ _ x.1),
+      λ c e. let x = and_parts _ _ (each_member _ (w.never m) c (and_left _ (right_is_safe w n s) b) e) in (not_true _ x.0, implies _ _ x.1),
       safe_right w n s (and_right _ (right_is_safe w n s) b),
     )
 

@@ -15,10 +15,10 @@ use Rattle.action_text.specs.TemplateText.{IsPlain, ArePartsOf}
 use Rattle.action_text.specs.Posts.{postorder, postorders}
 use Rattle.action_text.specs.Notes.{Noting, Note, KeptToken, Count, NotedSort, marked, note, unquoted, value_of, place_of}
 use Rattle.action_text.specs.ActionTable.{template_table}
+use Rattle.action_text.proofs.Tests.{and_right}
 use Rattle.action_text.proofs.Meanings.{Meaning, LineMeans, OtherMeans}
 use Rattle.action_text.proofs.Means.{means, wrote, MeansPart, MeansItems, MeansMoreItems}
 use Rattle.action_text.proofs.TemplateWords.{is_word_of}
-use Rattle.action_text.proofs.Nodes.{node_row, rest_row, rest_other, under_means, noted_node, plain_part}
 use Rattle.action_text.proofs.Chains.{last_name}
 
 -- data of one item
@@ -41,7 +41,7 @@ item_of (tree (Applied f v) ts) h = absurd (cc)
 item_of (tree (YielderTokenOf k [] v) ts) h = h
 item_of (tree (YielderTokenOf k (b ∷ t) v) ts) h = absurd (cc)
 item_of (tree (ValueOf v) ts) h = h
-item_of (tree (YielderNode k q) ts) h = (Rattle.action_text.proofs.Nodes.and_right (Rattle.action_terms.specs.Labels.is_datum k) (Rattle.action_terms.specs.Labels.yielder_fits k q) h.0, h.1)
+item_of (tree (YielderNode k q) ts) h = (and_right (Rattle.action_terms.specs.Labels.is_datum k) (Rattle.action_terms.specs.Labels.yielder_fits k q) h.0, h.1)
 
 pub data_them : LineMeans template_table means (line (name_number name.Data) (class_number class.Them) false (Emit (mark.Yielder ykind.Them) ∷ Emit mark.FirstItem ∷ []))
 data_them t st end ts e h =

@@ -56,12 +56,3 @@ plain_class kind (b ∷ rest) h q n = go (is_quoted (b ∷ rest)) (spelled_i64 (
     go true o e f = absurd (q (sym (first_kind kind b rest h) ∙ first_kind Quoted b rest e))
     go false (Some z) e f = absurd (n (sym (first_kind kind b rest h) ∙ number_begins b rest z f))
     go false None e f = refl
-
--- the class of a number
-pub number_class_is : (t : List ℕ) → has_form Number t ≡ true → class_of t ≡ number_class (spelled_i64 t) t
-number_class_is [] h = absurd (no_form Number h)
-number_class_is (b ∷ rest) h = go (is_quoted (b ∷ rest)) refl
-  where
-    go : (x : Bool) → is_quoted (b ∷ rest) ≡ x → (if x then (class_number class.Quoted) else number_class (spelled_i64 (b ∷ rest)) (b ∷ rest)) ≡ number_class (spelled_i64 (b ∷ rest)) (b ∷ rest)
-    go true e = let same : Number ≡ Quoted = sym (first_kind Number b rest h) ∙ first_kind Quoted b rest e in absurd (cc)
-    go false e = refl

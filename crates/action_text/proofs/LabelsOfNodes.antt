@@ -2,13 +2,13 @@
 use Rattle.std.proofs.Common.{◌≡◌, ℕ, zero, suc, ◌+◌, Bool, true, false, ◌&&◌, List, [], ◌∷◌, ◌++◌, length, take, drop, map, Option, refl, sym, ap, ◌∙◌, eqb-true, nat_eq}
 use Rattle.std.proofs.lemmas.List.{map-append}
 use Rattle.std.proofs.Math.Seq.{take-length}
+use Rattle.action_text.proofs.Tests.{and_left}
 use Rattle.action_terms.specs.Labels.{Label, ActionNode, YielderNode, Wanted, AnAction, AYielder, AnItem, AClosure, under, copies, serves, token_fits, has_no_token, operand_lengths}
 use Rattle.action_terms.specs.Trees.{Tree, tree, Trees, none, more, Is, Are}
 use Rattle.action_terms.specs.Numbering.{nodes_of, nodes_of_all, yielders_of, yielders_of_all, pieces, yielder_counts, yielder_roots, around_parts, around_arguments, action_count, yielder_count}
 use Rattle.action_terms.specs.declared.kinds.Kind.{Kind}
 use Rattle.action_terms.specs.declared.kinds.Kind.TheVariants as kind
 use Rattle.action_text.specs.Printing.{items_in, node_label, yielder_label}
-use Rattle.action_text.proofs.Nodes.{and_left}
 
 -- the labels of the actions of a tree, in preorder, and those of its yielders
 abbrev mutual

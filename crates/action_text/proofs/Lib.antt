@@ -1,3 +1,4 @@
+mod Tests
 pub mod Starts
 pub mod Moves
 pub mod Checked

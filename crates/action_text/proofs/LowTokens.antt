@@ -1,5 +1,6 @@
 -- Which tokens action texts have: those of an action have classes of action texts, and those of a parameter have none.
 use Rattle.std.proofs.Common.{◌≡◌, ◌⊎◌, inl, inr, ℕ, zero, suc, ◌<◌, Bool, true, false, ◌&&◌, List, [], ◌∷◌, ◌++◌, refl, sym, subst, arith, nat_lt, ltb-true}
+use Rattle.action_text.proofs.Tests.{and_left, and_right}
 use Rattle.action_terms.specs.Labels.{Wanted, AnAction, AYielder, AnItem, AClosure, is_token, items_fit, token_fits}
 use Rattle.action_terms.specs.Labels as plain
 use Rattle.action_terms.specs.Trees.{tree, none, more, Is, Are, Tree, Trees, IsAction}
@@ -11,7 +12,6 @@ use Rattle.action_terms.specs.declared.kinds.Sort.TheVariants as sort
 use Rattle.action_text.specs.Shapes.{Piece, Fixed, Numeral, Quoted, Part, shape, items, more_items, sort_word, operator_of, operator, close_paren}
 use Rattle.action_text.specs.ActionText.{IsPlain, IsChain, ArePartsOf, IsPart, IsOperand, IsEnclosed, Weaves, Spells, label_of}
 use Rattle.action_text.specs.Classes.{class_of}
-use Rattle.action_text.proofs.Nodes.{and_left, and_right}
 use Rattle.action_text.proofs.SpeltNodes.{quoted_low, number_low}
 
 -- each token has a class of action texts

@@ -1,5 +1,6 @@
 -- The nodes whose own tokens are words and symbols alone: from the symbols of a row to the node.
 use Rattle.std.proofs.Common.{◌≡◌, ℕ, Bool, true, false, ◌&&◌, List, [], ◌∷◌, ◌++◌, refl, sym, ap, subst, ◌∙◌, append_assoc, append-nil, nat_lt}
+use Rattle.action_text.proofs.Tests.{and_left, and_right}
 use Rattle.action_terms.specs.Labels.{Wanted, AnAction, AYielder, AnItem, AClosure}
 use Rattle.meta_terms.specs.Templates.{Label, under, serves, Tree, Trees, Is, Are}
 use Rattle.action_terms.specs.Trees.{tree, none, more}
@@ -49,14 +50,6 @@ fits (Part ∷ ps) (x ∷ xs) = is_named x && fits ps xs
 fits (Fixed w ∷ ps) xs = nat_lt (template_class w) word_count && fits ps xs
 fits (Numeral z ∷ ps) xs = false
 fits (Quoted t ∷ ps) xs = false
-
-pub and_left : (a b : Bool) → (a && b) ≡ true → a ≡ true
-and_left true b h = refl
-and_left false b h = absurd (cc)
-
-pub and_right : (a b : Bool) → (a && b) ≡ true → b ≡ true
-and_right true b h = h
-and_right false b h = absurd (cc)
 
 -- a name in a place means a part
 pub means_part : (x : Wanted) (st end : Noting) (ts : List (List ℕ)) → is_named x ≡ true → means (name_of x) st ts end → MeansPart x st ts end

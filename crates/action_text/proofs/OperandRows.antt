@@ -1,5 +1,7 @@
 -- The rows of operands do what their names mean.
-use Rattle.std.proofs.Common.{◌≡◌, inl, inr, ℕ, Bool, true, false, ◌&&◌, ◌==◌, eqb-true, if◌then◌else◌, List, [], ◌∷◌, ◌++◌, refl, sym, ap, subst, ◌∙◌, append_assoc, append-nil, codes, nat_lt}
+use Rattle.std.proofs.Common.{◌≡◌, inl, inr, ℕ, Bool, true, false, ◌==◌, eqb-true, if◌then◌else◌, List, [], ◌∷◌, ◌++◌, refl, sym, ap, subst, ◌∙◌, append_assoc, append-nil, codes, nat_lt}
+use Rattle.std.proofs.lemmas.Bool.{and_from}
+use Rattle.action_text.proofs.Tests.{and_left}
 use Rattle.action_terms.specs.Labels.{AnAction, AnItem, copies}
 use Rattle.meta_terms.specs.Names.{is_function, is_variable}
 use Rattle.meta_terms.specs.Templates.{Label, ActionNode, ActionTokenOf, Applied, ValueOf, under, serves, Trees, Are}
@@ -23,7 +25,7 @@ use Rattle.action_text.proofs.TemplateWords.{word_count, is_word_of, quoted_of_c
 use Rattle.meta_lex.specs.Forms.{is_quoted, is_closed}
 use Rattle.action_text.specs.Tables.{Read, Keep, Emit, Name, Token, line}
 use Rattle.action_text.proofs.QuotedTokens.{quoted_is}
-use Rattle.action_text.proofs.Nodes.{noted_node, and_left}
+use Rattle.action_text.proofs.Nodes.{noted_node}
 use Rattle.action_text.proofs.Chains.{last_name}
 
 -- what stands behind the first word of a node
@@ -46,9 +48,6 @@ pub record IsDataKind (k : Kind) : Type 0 where
 
 pub give_items : IsDataKind kind.Give
 give_items = record { under_is = λ n. refl; serves_is = λ n. refl }
-
-pub escape_items : IsDataKind kind.EscapeWith
-escape_items = record { under_is = λ n. refl; serves_is = λ n. refl }
 
 -- data, and then the mark of a node that has it
 pub record HasData (k : Kind) (st : Noting) (ts : List (List ℕ)) (end : Noting) : Type 0 where
@@ -183,14 +182,10 @@ token_of t st end (o ∷ v ∷ ts) e h =
     let second : o ≡ codes "of" = is_word_of o (codes "of") h.0 refl in
     (v, h.1.1.1, inr (variable_of_class v h.1.0, ap (λ x. x ∷ o ∷ v ∷ ts) first ∙ ap (λ x. codes "token" ∷ x ∷ v ∷ ts) second ∙ ap (λ y. codes "token" ∷ codes "of" ∷ v ∷ y) h.1.1.0))
 
-both_true : (a b : Bool) → a ≡ true → b ≡ true → (a && b) ≡ true
-both_true true b x y = y
-both_true false b x y = absurd (cc)
-
 pub operand_applied : LineMeans template_table means (line (name_number name.Operand) (class_number class.Function) true (Keep (class_number class.Variable) ∷ Emit mark.Applied ∷ []))
 operand_applied t st end [] e h = absurd h
 operand_applied t st end (v ∷ ts) e h =
-    (tree (Applied t v) none, (both_true (is_function t) (is_variable v) (function_of_class t e) (variable_of_class v h.0), tt), (0, ([], refl, (refl, (refl, h.1.0)))), h.1.1)
+    (tree (Applied t v) none, (and_from (is_function t) (is_variable v) (function_of_class t e) (variable_of_class v h.0), tt), (0, ([], refl, (refl, (refl, h.1.0)))), h.1.1)
 
 pub yielder_value : LineMeans template_table means (line (name_number name.Yielder) (class_number class.Value) false (Read (class_number class.Of) ∷ Keep (class_number class.Variable) ∷ Emit mark.ValueOf ∷ []))
 yielder_value t st end [] e h = absurd h

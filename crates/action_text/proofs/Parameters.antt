@@ -2,6 +2,7 @@
 use Rattle.std.proofs.Common.{◌≡◌, ◌⊎◌, inl, inr, ℕ, zero, suc, ◌+◌, ◌<◌, ◌≤◌, length, Bool, true, false, ◌&&◌, not, List, [], ◌∷◌, ◌++◌, Option, Some, None, refl, sym, ap, subst, ◌∙◌, arith, codes, nat_eq, nat_lt, if◌then◌else◌, eqb-true, ltb-true}
 use Rattle.std.proofs.lemmas.Bool.Decides.{eqb_tells, nat_tests}
 use Rattle.std.specs.Prelude.{ℤ}
+use Rattle.action_text.proofs.Tests.{and_left, and_right}
 use Rattle.acg_base.specs.Decimals.{spelled_i64}
 use Rattle.meta_lex.specs.Forms.{is_quoted, is_word}
 use Rattle.action_terms.specs.Labels.{Wanted, AnAction, AYielder, AnItem, AClosure}
@@ -27,7 +28,6 @@ use Rattle.action_text.proofs.Starts.{Safe, safe_append}
 use Rattle.action_text.proofs.ActionTablePasses.{known, table_choosing}
 use Rattle.action_text.proofs.Meanings.{Does}
 use Rattle.action_text.proofs.Means.{wrote}
-use Rattle.action_text.proofs.Nodes.{and_left, and_right}
 use Rattle.action_text.proofs.TemplateWords.{no_class}
 use Rattle.action_text.proofs.Spelling.{chain_label}
 use Rattle.action_text.proofs.Chains.{IsOperator}

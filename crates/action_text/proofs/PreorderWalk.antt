@@ -4,14 +4,14 @@ use Rattle.std.proofs.Common.{◌≢◌, ◌⊎◌, inl, inr, true, false, nat_e
 use Rattle.meta_terms.specs.Nodes.{label_of}
 use Rattle.meta_terms.specs.declared.template.TemplateNode.{TemplateNode}
 use Rattle.std.proofs.lemmas.Bool.Decides.{eqb_tells}
-use Rattle.std.proofs.lemmas.List.{reverse-append, map-append}
+use Rattle.std.proofs.lemmas.List.{reverse-append, map-append, get_or_append_left}
 use Rattle.action_terms.specs.Labels.{Wanted, AnAction, copies}
 use Rattle.meta_terms.specs.Templates.{Label, under, Tree, Trees, Is, Are, IsAction}
 use Rattle.action_terms.specs.Trees.{TreeOf, TreesOf, tree, none, more, preorder, preorders}
 use Rattle.action_text.specs.Posts.{postorder, postorders}
 use Rattle.action_text.specs.Sizes.{step_back, start_back, tree_ends, AreSizes}
 use Rattle.action_text.proofs.OneTree.{count_of}
-use Rattle.action_text.proofs.TreeSizes.{tree_ends_last, start_front, trees_begin, under_count, label_at, inside}
+use Rattle.action_text.proofs.TreeSizes.{tree_ends_last, start_front, trees_begin, under_count, label_at, inside, regroup}
 
 pub length-copies : (n : ℕ) (x : Wanted) → length (copies n x) ≡ n
 length-copies zero x = refl
@@ -78,9 +78,6 @@ top_place L end l kids h =
 
 pub top_label : (L : List Label) (end : ℕ) (l d : Label) (kids : Trees) → EndsAt L end (tree l kids) → get_or L (end - 1) d ≡ l
 top_label L end l d kids h = ap (λ n. get_or L n d) (top_place L end l kids h).0 ∙ label_at L h.before h.after kids l d h.whole
-
-regroup : (a b c d : List Label) → a ++ ((b ++ c) ++ d) ≡ (a ++ b) ++ (c ++ d)
-regroup a b c d = simp append_assoc
 
 -- the ends of trees one behind the other
 kids_end : (L : List Label) (sizes : List ℕ) → AreSizes L sizes → (kids : Trees) (xs : List Wanted) → Are xs kids → (before after : List Label) → L ≡ before ++ (postorders kids ++ after)
@@ -169,11 +166,6 @@ pub record SizesTo (L : List Label) (sizes : List ℕ) (n : ℕ) : Type 0 where
   pub lengths : length sizes ≡ n
   pub each : (i : ℕ) (l : Label) → i < n → get_or sizes i 0 ≡ (i + 1) - start_back sizes (length (under (get_or L i l))) i
 
-get_or_front : (xs ys : List ℕ) (i : ℕ) → i < length xs → get_or (xs ++ ys) i 0 ≡ get_or xs i 0
-get_or_front [] ys i h = absurd (omega arith)
-get_or_front (x ∷ xs) ys zero h = refl
-get_or_front (x ∷ xs) ys (suc i) h = get_or_front xs ys i (omega arith)
-
 get_or_last : (xs : List ℕ) (x i : ℕ) → i ≡ length xs → get_or (xs ++ x ∷ []) i 0 ≡ x
 get_or_last [] x zero h = refl
 get_or_last [] x (suc i) h = absurd (omega arith)
@@ -200,10 +192,7 @@ sizes_more L sizes n x h new = record {
         let lt : i < n = omega arith in
         let at : i ≤ length sizes = omega (arith, size) in
         let in_front : i < length sizes = omega (arith, size) in
-        get_or_front sizes (x ∷ []) i in_front ∙ h.each i l lt ∙ ap (λ k. (i + 1) - k) (sym (start_front sizes (x ∷ []) (length (under (get_or L i l))) i at))
-
-pub sizes_whole : (L : List Label) (sizes : List ℕ) (n : ℕ) → n ≡ length L → SizesTo L sizes n → AreSizes L sizes
-sizes_whole L sizes n e h = record { lengths = h.lengths ∙ e; each = λ i l below. h.each i l (omega (arith, e)) }
+        get_or_append_left sizes (x ∷ []) 0 i in_front ∙ h.each i l lt ∙ ap (λ k. (i + 1) - k) (sym (start_front sizes (x ∷ []) (length (under (get_or L i l))) i at))
 
 -- one step of the way back, with the others still to go
 pub back_one : (sizes : List ℕ) (n k s : ℕ) → k < n → start_back sizes (n - k) s ≡ start_back sizes (n - (k + 1)) (step_back sizes s)

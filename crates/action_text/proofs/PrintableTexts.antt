@@ -6,6 +6,8 @@ use Rattle.std.specs.Char.{is_ascii_digit}
 use Rattle.std.specs.Str.{all_ascii_digits}
 use Rattle.std.specs.List.{list_all}
 use Rattle.std.proofs.lemmas.Bool.Decides.{nat_tests}
+use Rattle.std.proofs.lemmas.Bool.{and_from, or_left, or_right}
+use Rattle.action_text.proofs.Tests.{and_left, and_right}
 use Rattle.acg_base.specs.Decimals.{spelled_i64, spelled_number, fits_i64, number_of}
 use Rattle.meta_lex.specs.Bytes.{is_digit}
 use Rattle.meta_lex.specs.Forms.{is_word, is_number, is_digits, is_quoted}
@@ -20,7 +22,6 @@ use Rattle.action_text.specs.ActionText.{IsPlain, IsChain, ArePartsOf, IsPart, I
 use Rattle.action_text.specs.Canonical.{action_tokens, canonical_text, IsReadable}
 use Rattle.action_text.specs.Answers.{IsTextOf, token_bytes}
 use Rattle.action_text.proofs.CanonicalTokens.{action_tokens_spell}
-use Rattle.action_text.proofs.Nodes.{and_left, and_right}
 use Rattle.action_text.proofs.ActionTemplates.{one_action}
 use Rattle.action_text.proofs.QuotedTokens.{quoted_of_token}
 use Rattle.action_text.proofs.PrintedTokens.{is_printable, is_mark}
@@ -41,13 +42,9 @@ some_if f g false n z h = absurd (cc)
 ascii_digit : (b : ℕ) → is_ascii_digit b ≡ true → is_digit b ≡ true
 ascii_digit b h = grind (arith, nat_tests)
 
-both : (a b : Bool) → a ≡ true → b ≡ true → (a && b) ≡ true
-both true b x y = y
-both false b x y = absurd (cc)
-
 ascii_digits : (bs : List ℕ) → all_ascii_digits bs ≡ true → list_all is_digit bs ≡ true
 ascii_digits [] h = refl
-ascii_digits (b ∷ bs) h = both (is_digit b) (list_all is_digit bs) (ascii_digit b (and_left (is_ascii_digit b) (all_ascii_digits bs) h)) (ascii_digits bs (and_right (is_ascii_digit b) (all_ascii_digits bs) h))
+ascii_digits (b ∷ bs) h = and_from (is_digit b) (list_all is_digit bs) (ascii_digit b (and_left (is_ascii_digit b) (all_ascii_digits bs) h)) (ascii_digits bs (and_right (is_ascii_digit b) (all_ascii_digits bs) h))
 
 some_digits : (bs : List ℕ) → (nat_lt 0 (length bs) && all_ascii_digits bs) ≡ true → is_digits bs ≡ true
 some_digits [] h = absurd (cc)
@@ -64,20 +61,12 @@ number_form (b ∷ bs) z h = by_hyphen (b == 45) h
     by_hyphen true h = some_digits bs (some_if (λ integer. if fits_i64 integer then Some integer else None) (λ number. neg_ℤ (pos number)) (nat_lt 0 (length bs) && all_ascii_digits bs) (number_of bs) z h)
     by_hyphen false h = some_digits (b ∷ bs) (some_if (λ integer. if fits_i64 integer then Some integer else None) pos (nat_lt 0 (length (b ∷ bs)) && all_ascii_digits (b ∷ bs)) (number_of (b ∷ bs)) z h)
 
-or_second : (a b : Bool) → b ≡ true → (a || b) ≡ true
-or_second true b h = refl
-or_second false b h = h
-
-or_first : (a b : Bool) → a ≡ true → (a || b) ≡ true
-or_first true b h = refl
-or_first false b h = absurd (cc)
-
 number_printable : (t : List ℕ) (z : ℤ) → spelled_i64 t ≡ Some z → is_printable t ≡ true
-number_printable t z h = or_second (is_word t) (is_number t || (is_quoted t || is_mark t)) (or_first (is_number t) (is_quoted t || is_mark t) (number_form t z h))
+number_printable t z h = or_right (is_word t) (is_number t || (is_quoted t || is_mark t)) (or_left (is_number t) (is_quoted t || is_mark t) (number_form t z h))
 
 quoted_printable : (q t : List ℕ) → is_token q ≡ true → t ≡ 34 ∷ (q ++ 34 ∷ []) → is_printable t ≡ true
 quoted_printable q t h e =
-    or_second (is_word t) (is_number t || (is_quoted t || is_mark t)) (or_second (is_number t) (is_quoted t || is_mark t) (or_first (is_quoted t) (is_mark t) (quoted_of_token q t h e)))
+    or_right (is_word t) (is_number t || (is_quoted t || is_mark t)) (or_right (is_number t) (is_quoted t || is_mark t) (or_left (is_quoted t) (is_mark t) (quoted_of_token q t h e)))
 
 printable_append : (ts us : List (List ℕ)) → ArePrintable ts → ArePrintable us → ArePrintable (ts ++ us)
 printable_append [] us a b = b
@@ -117,23 +106,23 @@ sort_prints sort.Cell = refl
 sort_prints sort.Abstraction = refl
 
 bound_prints : (s : Sort) (q : List ℕ) → is_token q ≡ true → can_print (shape (YielderNode (ykind.Bound s) q)) ≡ true
-bound_prints s q h = both (is_printable (sort_word s)) (is_token q && true) (sort_prints s) (both (is_token q) true h refl)
+bound_prints s q h = and_from (is_printable (sort_word s)) (is_token q && true) (sort_prints s) (and_from (is_token q) true h refl)
 
 -- each node that a text can give is spelled by tokens that can be printed
 shape_prints : (x : Wanted) (l : Label) → serves x l ≡ true → can_print (shape l) ≡ true
 shape_prints x (ActionNode kind.Give n t) h = items_print n
 shape_prints x (ActionNode kind.EscapeWith n t) h = items_print n
 shape_prints x (ActionNode kind.Apply n t) h = items_print n
-shape_prints AnAction (ActionNode kind.Bind n t) h = both (is_token t) true (and_right (items_fit kind.Bind n) (is_token t) h) refl
-shape_prints AnAction (ActionNode kind.BindRec n t) h = both (is_token t) true (and_right (items_fit kind.BindRec n) (is_token t) h) refl
+shape_prints AnAction (ActionNode kind.Bind n t) h = and_from (is_token t) true (and_right (items_fit kind.Bind n) (is_token t) h) refl
+shape_prints AnAction (ActionNode kind.BindRec n t) h = and_from (is_token t) true (and_right (items_fit kind.BindRec n) (is_token t) h) refl
 shape_prints AYielder (ActionNode k n t) h = absurd (cc)
 shape_prints AnItem (ActionNode k n t) h = absurd (cc)
 shape_prints AClosure (ActionNode k n t) h = absurd (cc)
 shape_prints AnAction (ActionNode _ n t) h = refl
 shape_prints AnAction (YielderNode k t) h = absurd (cc)
-shape_prints x (YielderNode (ykind.Given s zero) t) h = both (is_printable (sort_word s)) true (sort_prints s) refl
-shape_prints x (YielderNode (ykind.Given s (suc n)) t) h = both (is_printable (sort_word s)) true (sort_prints s) refl
-shape_prints x (YielderNode (ykind.Stored s) t) h = both (is_printable (sort_word s)) true (sort_prints s) refl
+shape_prints x (YielderNode (ykind.Given s zero) t) h = and_from (is_printable (sort_word s)) true (sort_prints s) refl
+shape_prints x (YielderNode (ykind.Given s (suc n)) t) h = and_from (is_printable (sort_word s)) true (sort_prints s) refl
+shape_prints x (YielderNode (ykind.Stored s) t) h = and_from (is_printable (sort_word s)) true (sort_prints s) refl
 shape_prints AYielder (YielderNode (ykind.Bound s) t) h = bound_prints s t h
 shape_prints AnItem (YielderNode (ykind.Bound s) t) h = bound_prints s t h
 shape_prints AClosure (YielderNode (ykind.Bound s) t) h = absurd (cc)

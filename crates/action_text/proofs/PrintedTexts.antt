@@ -1,13 +1,15 @@
 -- Spaced tokens are read back.
 use Rattle.std.proofs.Common.{◌≡◌, ◌⊎◌, inl, inr, ℕ, ◌+◌, Bool, true, false, ◌&&◌, ◌||◌, List, [], ◌∷◌, ◌++◌, length, take, drop, refl, sym, ap, subst, ◌∙◌, arith, append_assoc, append-nil, length-append, if◌then◌else◌}
 use Rattle.std.specs.List.{list_any, prefix_len}
+use Rattle.std.proofs.lemmas.Bool.{or_cases}
+use Rattle.std.proofs.Math.Seq.{drop-append_seam}
+use Rattle.action_text.proofs.Tests.{and_left}
 use Rattle.meta_lex.specs.Bytes.{is_blank}
 use Rattle.meta_lex.specs.Tokens.{PlainToken, IsLongest, IsTokenAt, Reads, AreTokens, after_blanks}
 use Rattle.action_text.specs.Shapes.{open_paren, close_paren, comma}
 use Rattle.meta_terms.specs.Words.{same_bytes}
 use Rattle.action_text.specs.Canonical.{is_joined, spaced, function_words}
 use Rattle.action_text.specs.Answers.{token_bytes}
-use Rattle.action_text.proofs.Nodes.{and_left}
 use Rattle.action_text.proofs.Words.{same_is}
 use Rattle.action_text.proofs.PrintedTokens.{is_printable, is_mark, bounds, kind_front, IsBounded, front_longest, no_blank_front}
 
@@ -31,17 +33,9 @@ placed_bytes at [] = refl
 placed_bytes at (t ∷ []) = refl
 placed_bytes at (t ∷ u ∷ ts) = ap (λ y. t ∷ y) (placed_bytes ((at + length t) + length (gap t u)) (u ∷ ts))
 
-drop_front : (xs ys : List ℕ) → drop (length xs) (xs ++ ys) ≡ ys
-drop_front [] ys = refl
-drop_front (x ∷ xs) ys = drop_front xs ys
-
 take_front : (xs ys : List ℕ) → take (length xs) (xs ++ ys) ≡ xs
 take_front [] ys = refl
 take_front (x ∷ xs) ys = ap (λ y. x ∷ y) (take_front xs ys)
-
-or_cases : (a b : Bool) → (a || b) ≡ true → (a ≡ true) ⊎ (b ≡ true)
-or_cases true b h = inl refl
-or_cases false b h = inr h
 
 -- what stands behind a token doesn't go it on
 bounded_by : (t u rest : List ℕ) (joined : Bool) → is_joined t u ≡ joined → IsBounded t ((if joined then [] else 32 ∷ []) ++ (u ++ rest))
@@ -77,10 +71,10 @@ blanks_of g t rest (inr e) h = subst (λ y. prefix_len is_blank (y ++ (t ++ rest
 token_there : (bytes before g t rest : List ℕ) → bytes ≡ before ++ (g ++ (t ++ rest)) → IsGap g → is_printable t ≡ true → IsBounded t rest
     → (after_blanks bytes (length before) ≡ length before + length g) × IsTokenAt bytes (length before + length g) (record { kind = kind_front t; bytes = t; offset = length before + length g })
 token_there bytes before g t rest e gapped h b =
-    let from : drop (length before) bytes ≡ g ++ (t ++ rest) = ap (drop (length before)) e ∙ drop_front before (g ++ (t ++ rest)) in
+    let from : drop (length before) bytes ≡ g ++ (t ++ rest) = ap (drop (length before)) e ∙ drop-append_seam before (g ++ (t ++ rest)) in
     let whole : bytes ≡ (before ++ g) ++ (t ++ rest) = e ∙ sym (append_assoc before g (t ++ rest)) in
     let place : length before + length g ≡ length (before ++ g) = sym (length-append before g) in
-    let there : drop (length before + length g) bytes ≡ t ++ rest = ap (λ n. drop n bytes) place ∙ ap (drop (length (before ++ g))) whole ∙ drop_front (before ++ g) (t ++ rest) in (
+    let there : drop (length before + length g) bytes ≡ t ++ rest = ap (λ n. drop n bytes) place ∙ ap (drop (length (before ++ g))) whole ∙ drop-append_seam (before ++ g) (t ++ rest) in (
       ap (λ y. length before + prefix_len is_blank y) from ∙ ap (λ n. length before + n) (blanks_of g t rest gapped h),
       (refl, sym (ap (take (length t)) there ∙ take_front t rest), subst (λ y. IsLongest (kind_front t) y (length t)) (sym there) (front_longest t rest h b)),
     )

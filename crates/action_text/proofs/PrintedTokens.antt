@@ -2,6 +2,8 @@
 use Rattle.std.proofs.Common.{◌≡◌, ◌⊎◌, inl, inr, ℕ, suc, ◌+◌, ◌<◌, Bool, true, false, ◌||◌, not, ◌==◌, List, [], ◌∷◌, ◌++◌, length, get_or, refl, sym, ap, subst, ◌∙◌, arith, append_assoc, length-append, eqb-true, cond, if◌then◌else◌}
 use Rattle.std.specs.List.{list_all, prefix_len}
 use Rattle.std.proofs.lemmas.Bool.Decides.{nat_tests}
+use Rattle.std.proofs.lemmas.Bool.{or_cases}
+use Rattle.action_text.proofs.Tests.{and_left, and_right}
 use Rattle.meta_lex.specs.Bytes.{is_letter, is_digit, is_word_byte, is_quotable, is_blank, is_single}
 use Rattle.meta_lex.specs.Forms.{is_word, is_digits, is_number, is_closed, is_quoted, kind_of}
 use Rattle.meta_lex.specs.Tokens.{IsLongest}
@@ -12,7 +14,6 @@ use Rattle.meta_lex.proofs.QuotedTexts.{IsEnded, quoted_longest}
 use Rattle.meta_lex.proofs.Symbols.{single_longest}
 use Rattle.meta_lex.proofs.FirstBytes.{kind_of_front}
 use Rattle.action_text.proofs.QuotedTokens.{quoted_is}
-use Rattle.action_text.proofs.Nodes.{and_left, and_right}
 
 -- one symbol of one byte
 abbrev pub is_mark : List ℕ → Bool
@@ -57,15 +58,12 @@ digit_stops (b ∷ ys) h = by_byte (is_digit b) refl
 same_longest : (kind : TokenKind) (bytes : List ℕ) (n m : ℕ) → n ≡ m → IsLongest kind bytes n → IsLongest kind bytes m
 same_longest kind bytes n m e h = subst (λ k. IsLongest kind bytes k) e h
 
-suc_is : (n : ℕ) → 1 + n ≡ suc n
-suc_is n = omega arith
-
 -- a word stands at the front, up to its bound
 word_front : (t rest : List ℕ) → is_word t ≡ true → bounds rest ≡ true → IsLongest Word (t ++ rest) (length t)
 word_front [] rest h e = absurd (cc)
 word_front (b ∷ bs) rest h e =
     same_longest Word (b ∷ (bs ++ rest)) (1 + prefix_len is_word_byte (bs ++ rest)) (suc (length bs))
-    (ap (λ n. 1 + n) (prefix_stops is_word_byte bs rest (and_right (is_letter b) (list_all is_word_byte bs) h) (word_stops rest e)) ∙ suc_is (length bs))
+    (ap (λ n. 1 + n) (prefix_stops is_word_byte bs rest (and_right (is_letter b) (list_all is_word_byte bs) h) (word_stops rest e)) ∙ (let e : 1 + length bs ≡ suc (length bs) = omega arith in e))
     (word_longest b (bs ++ rest) (and_left (is_letter b) (list_all is_word_byte bs) h))
 
 digits_all : (bs : List ℕ) → is_digits bs ≡ true → (list_all is_digit bs ≡ true) × (0 < length bs)
@@ -86,12 +84,12 @@ number_front (b ∷ bs) rest h e = by_hyphen (b == 45) refl h
     by_hyphen true y h =
         let d = digits_all bs h in
         let n : prefix_len is_digit (bs ++ rest) ≡ length bs = prefix_stops is_digit bs rest d.0 (digit_stops rest e) in
-        same_longest Number (b ∷ (bs ++ rest)) (1 + prefix_len is_digit (bs ++ rest)) (suc (length bs)) (ap (λ n. 1 + n) n ∙ suc_is (length bs))
+        same_longest Number (b ∷ (bs ++ rest)) (1 + prefix_len is_digit (bs ++ rest)) (suc (length bs)) (ap (λ n. 1 + n) n ∙ (let e : 1 + length bs ≡ suc (length bs) = omega arith in e))
         (signed_longest b (bs ++ rest) (eqb-true b 45 y) (let some = d.1 in omega (arith, n, some)))
     by_hyphen false y h =
         let first : is_digit b ≡ true = and_left (is_digit b) (list_all is_digit bs) h in
         let n : prefix_len is_digit (bs ++ rest) ≡ length bs = prefix_stops is_digit bs rest (and_right (is_digit b) (list_all is_digit bs) h) (digit_stops rest e) in
-        same_longest Number (b ∷ (bs ++ rest)) (1 + prefix_len is_digit (bs ++ rest)) (suc (length bs)) (ap (λ n. 1 + n) n ∙ suc_is (length bs))
+        same_longest Number (b ∷ (bs ++ rest)) (1 + prefix_len is_digit (bs ++ rest)) (suc (length bs)) (ap (λ n. 1 + n) n ∙ (let e : 1 + length bs ≡ suc (length bs) = omega arith in e))
         (unsigned_longest b (bs ++ rest) (digit_number b first) (digit_no_hyphen b first))
 
 token_inner : (xs : List ℕ) → Rattle.action_terms.specs.Labels.is_token xs ≡ true → (list_all is_quotable xs ≡ true) × (0 < length xs)
@@ -133,10 +131,6 @@ kind_front t = kind_of (get_or t 0 0)
 by_first : (kind : TokenKind) (t rest : List ℕ) → 0 < length t → IsLongest kind (t ++ rest) (length t) → IsLongest (kind_front t) (t ++ rest) (length t)
 by_first kind [] rest some h = absurd (omega arith)
 by_first kind (b ∷ bs) rest some h = subst (λ k. IsLongest k (b ∷ (bs ++ rest)) (suc (length bs))) (sym (kind_of_front kind b (bs ++ rest) (suc (length bs)) h.0)) h
-
-or_cases : (a b : Bool) → (a || b) ≡ true → (a ≡ true) ⊎ (b ≡ true)
-or_cases true b h = inl refl
-or_cases false b h = inr h
 
 -- what follows a token doesn't go it on
 abbrev pub IsBounded : List ℕ → List ℕ → Type 0

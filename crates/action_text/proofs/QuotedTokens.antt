@@ -1,21 +1,15 @@
 -- Quoted texts and the tokens between their quotes.
-use Rattle.std.proofs.Common.{◌≡◌, ℕ, suc, ◌+◌, ◌-◌, ◌<◌, ◌≤◌, Bool, true, false, ◌&&◌, ◌==◌, List, [], ◌∷◌, ◌++◌, length, take, drop, refl, sym, ap, ◌∙◌, arith, eqb-true, nat_lt, length-append, take-append-drop}
+use Rattle.std.proofs.Common.{◌≡◌, ℕ, suc, ◌+◌, ◌-◌, ◌<◌, ◌≤◌, true, ◌&&◌, ◌==◌, List, [], ◌∷◌, ◌++◌, length, take, drop, refl, sym, ap, ◌∙◌, arith, eqb-true, nat_lt, length-append, take-append-drop}
 use Rattle.std.specs.List.{list_all, prefix_len}
 use Rattle.std.proofs.lemmas.Bool.Decides.{nat_tests}
 use Rattle.std.proofs.lemmas.List.{length-take-le}
 use Rattle.std.proofs.lemmas.List.Sums.{prefix_len-le-length}
+use Rattle.std.proofs.lemmas.Bool.{and_parts, and_from}
+use Rattle.std.proofs.Math.Seq.{drop-append_seam}
 use Rattle.meta_lex.specs.Bytes.{is_quotable}
 use Rattle.meta_lex.specs.Forms.{is_quote, is_closed, is_quoted}
 use Rattle.action_terms.specs.Labels.{is_token}
 use Rattle.action_text.specs.Notes.{unquoted}
-
-and_both : (a b : Bool) → (a && b) ≡ true → (a ≡ true) × (b ≡ true)
-and_both true b h = (refl, h)
-and_both false b h = absurd (cc)
-
-both : (a b : Bool) → a ≡ true → b ≡ true → (a && b) ≡ true
-both true b x y = y
-both false b x y = absurd (cc)
 
 quote_alone : (xs : List ℕ) → is_quote xs ≡ true → xs ≡ 34 ∷ []
 quote_alone [] h = absurd (cc)
@@ -41,7 +35,7 @@ record IsInner (rest : List ℕ) : Type 0 where
 closed_inner : (rest : List ℕ) → is_closed rest ≡ true → IsInner rest
 closed_inner rest h =
     let n : ℕ = prefix_len is_quotable rest in
-    let parts = and_both (nat_lt 0 n) (is_quote (drop n rest)) h in
+    let parts = and_parts (nat_lt 0 n) (is_quote (drop n rest)) h in
     let within : n ≤ length rest = prefix_len-le-length is_quotable rest in
     let size : length (take n rest) ≡ n = length-take-le n rest within in
     let some : 0 < n = some_first n parts.0 in
@@ -64,7 +58,7 @@ unquoted_is inner =
 pub quoted_is : (t : List ℕ) → is_quoted t ≡ true → (t ≡ 34 ∷ (unquoted t ++ 34 ∷ [])) × (is_token (unquoted t) ≡ true)
 quoted_is [] h = absurd (cc)
 quoted_is (b ∷ rest) h =
-    let x = and_both (b == 34) (is_closed rest) h in
+    let x = and_parts (b == 34) (is_closed rest) h in
     let y = closed_inner rest x.1 in
     let whole : b ∷ rest ≡ 34 ∷ (y.inner ++ 34 ∷ []) = ap (λ c. c ∷ rest) (eqb-true b 34 x.0) ∙ ap (λ r. 34 ∷ r) y.cut in
     let bare : unquoted (b ∷ rest) ≡ y.inner = ap unquoted whole ∙ unquoted_is y.inner in
@@ -76,13 +70,9 @@ unquoted_back token t e = ap unquoted e ∙ unquoted_is token
 prefix_whole : (xs ys : List ℕ) → list_all is_quotable xs ≡ true → prefix_len is_quotable (xs ++ 34 ∷ ys) ≡ length xs
 prefix_whole [] ys h = refl
 prefix_whole (x ∷ xs) ys h =
-    let p = and_both (is_quotable x) (list_all is_quotable xs) h in
+    let p = and_parts (is_quotable x) (list_all is_quotable xs) h in
     let one : 1 + length xs ≡ suc (length xs) = omega arith in
     rw p.0 (rw (prefix_whole xs ys p.1) one)
-
-drop_front : (xs ys : List ℕ) → drop (length xs) (xs ++ ys) ≡ ys
-drop_front [] ys = refl
-drop_front (x ∷ xs) ys = drop_front xs ys
 
 token_quotable : (xs : List ℕ) → is_token xs ≡ true → (list_all is_quotable xs ≡ true) × (0 < length xs)
 token_quotable [] h = absurd (cc)
@@ -100,4 +90,4 @@ quoted_of_token token t h e =
   where
     closed_token : (xs : List ℕ) (n : ℕ) → n ≡ length xs → 0 < length xs → (nat_lt 0 n && is_quote (drop n (xs ++ 34 ∷ []))) ≡ true
     closed_token xs n same some =
-        rw same (both (nat_lt 0 (length xs)) (is_quote (drop (length xs) (xs ++ 34 ∷ []))) (first_some (length xs) some) (rw (drop_front xs (34 ∷ [])) refl))
+        rw same (and_from (nat_lt 0 (length xs)) (is_quote (drop (length xs) (xs ++ 34 ∷ []))) (first_some (length xs) some) (rw (drop-append_seam xs (34 ∷ [])) refl))

@@ -1,5 +1,6 @@
 -- One token more behind spaced tokens.
 use Rattle.std.proofs.Common.{◌≡◌, ◌+◌, ℕ, List, [], ◌∷◌, ◌++◌, length, drop, Option, Some, None, refl, sym, ap, subst, ◌∙◌, arith, append_assoc, append-nil, length-append, if◌then◌else◌}
+use Rattle.std.proofs.Math.Seq.{drop-append_seam}
 use Rattle.action_text.specs.declared.unfinished.Text.{Text}
 use Rattle.action_text.specs.Canonical.{is_joined, spaced}
 use Rattle.action_text.specs.Printing.{Says, IsLastAt, gap_behind}
@@ -32,10 +33,6 @@ begins_first bytes last tokens next e at is =
     let none = subst (λ o. IsLastAt bytes o tokens) e at in
     is ∙ sym (append-nil (spaced tokens)) ∙ ap (λ y. spaced tokens ++ y) (ap (λ ts. gap_behind ts next) (sym none))
 
-drop_front : (xs ys : List ℕ) → drop (length xs) (xs ++ ys) ≡ ys
-drop_front [] ys = refl
-drop_front (x ∷ xs) ys = drop_front xs ys
-
 -- the token is said
 pub said_more : (text : Text) (tokens : List (List ℕ)) (token begun : List ℕ) → begun ≡ spaced tokens ++ gap_behind tokens token → text.bytes.items ≡ begun ++ token → text.last ≡ Some (length begun)
     → Says text (tokens ++ token ∷ [])
@@ -44,7 +41,7 @@ said_more text tokens token begun e f g = record {
   last_at = subst (λ o. IsLastAt text.bytes.items o (tokens ++ token ∷ [])) (sym g) (
     tokens,
     (let n : length text.bytes.items ≡ length begun + length token = ap length f ∙ length-append begun token in omega arith),
-    ap (λ y. tokens ++ y ∷ []) (sym (ap (drop (length begun)) f ∙ drop_front begun token)),
+    ap (λ y. tokens ++ y ∷ []) (sym (ap (drop (length begun)) f ∙ drop-append_seam begun token)),
   );
 }
 

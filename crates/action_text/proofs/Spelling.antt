@@ -1,5 +1,6 @@
 -- From the spelling of a node to the moves that read it: words, parts and chains.
 use Rattle.std.proofs.Common.{◌≡◌, inl, inr, ℕ, zero, suc, true, false, List, [], ◌∷◌, ◌++◌, Some, refl, sym, ap, subst, ◌∙◌, append_assoc, append-nil, nat_eq, nat_lt, eqb-true}
+use Rattle.action_text.proofs.Tests.{and_left, and_right}
 use Rattle.action_terms.specs.Labels.{Wanted, AnAction, AYielder, AnItem, AClosure, items_fit, token_fits, has_no_token}
 use Rattle.meta_terms.specs.Templates.{ActionTokenOf, YielderTokenOf, Applied, ValueOf, ActionNode, YielderNode, Tree, Trees, Is, Are, IsAction}
 use Rattle.action_terms.specs.Trees.{tree, none, more}
@@ -18,7 +19,7 @@ use Rattle.action_text.specs.Classes.{template_class}
 use Rattle.action_text.specs.ActionTable.{template_table, template_lines, action_lines, parameter_lines, action_others}
 use Rattle.action_text.proofs.Meanings.{Does, does_nothing, does_read, does_both, does_line, does_other}
 use Rattle.action_text.proofs.Means.{wrote}
-use Rattle.action_text.proofs.Nodes.{name_of, symbols, is_named, fits, and_left, and_right, wrote_both, wrote_nothing}
+use Rattle.action_text.proofs.Nodes.{name_of, symbols, is_named, fits, wrote_both, wrote_nothing}
 use Rattle.action_text.proofs.TemplateWords.{word_count}
 
 -- the symbols lead from the one state over the tokens to the other

@@ -1,5 +1,6 @@
 -- The action nodes that are spelled by their own tokens are read.
 use Rattle.std.proofs.Common.{◌≡◌, Some, ◌&&◌, ◌⊎◌, inl, inr, ℕ, zero, suc, ◌+◌, true, List, [], ◌∷◌, ◌++◌, refl, sym, ap, subst, ◌∙◌, append_assoc, append-nil, codes, nat_eq, eqb-true, arith}
+use Rattle.action_text.proofs.Tests.{and_left, and_right}
 use Rattle.action_terms.specs.Labels.{Wanted, AnAction, AYielder, AnItem, AClosure, copies, has_no_token, is_token}
 use Rattle.meta_terms.specs.Names.{is_function, is_variable}
 use Rattle.meta_terms.specs.Templates.{ActionTokenOf, YielderTokenOf, Applied, ValueOf, under, Label, ActionNode, YielderNode, serves, Tree, Trees, Is, Are}
@@ -20,7 +21,7 @@ use Rattle.action_text.specs.Notes.{Noting, Note, Count, marked, note, action_wi
 use Rattle.action_text.specs.ActionTable.{template_table, template_lines, action_lines, parameter_lines, action_others}
 use Rattle.action_text.proofs.Meanings.{does_nothing, does_line, does_keep, does_emit, does_other}
 use Rattle.action_text.proofs.Means.{wrote}
-use Rattle.action_text.proofs.Nodes.{and_left, and_right, name_of, is_named}
+use Rattle.action_text.proofs.Nodes.{name_of, is_named}
 use Rattle.action_text.proofs.QuotedTokens.{unquoted_back, quoted_of_token}
 use Rattle.action_text.proofs.OperandRows.{with_quoted, with_variable}
 use Rattle.action_text.proofs.TemplateWords.{function_class, variable_class}

@@ -2,6 +2,7 @@
 use Rattle.std.proofs.Common.{◌≡◌, Some, ℕ, zero, suc, Bool, true, false, List, [], ◌∷◌, ◌++◌, refl, sym, ap, subst, ◌∙◌, append_assoc, append-nil, codes, if◌then◌else◌, arith}
 use Rattle.std.specs.Prelude.{ℤ, pos, nat_le, unwrap_or}
 use Rattle.std.proofs.lemmas.Bool.Decides.{nat_tests}
+use Rattle.action_text.proofs.Tests.{and_left, and_right}
 use Rattle.action_terms.specs.Labels.{AYielder, has_no_token, is_token}
 use Rattle.meta_terms.specs.Names.{is_variable}
 use Rattle.meta_terms.specs.Templates.{YielderTokenOf, ValueOf, YielderNode, serves}
@@ -23,7 +24,6 @@ use Rattle.action_text.specs.Classes.{is_place, template_class}
 use Rattle.action_text.specs.ActionTable.{template_table, template_lines, action_lines, parameter_lines, action_others}
 use Rattle.action_text.proofs.Meanings.{does_keep, does_line, does_other}
 use Rattle.action_text.proofs.Means.{wrote}
-use Rattle.action_text.proofs.Nodes.{and_left, and_right}
 use Rattle.action_text.proofs.QuotedTokens.{unquoted_back, quoted_of_token}
 use Rattle.action_text.proofs.YielderRows.{yielder_quoted, yielder_variable}
 use Rattle.action_text.proofs.TemplateWords.{variable_class}

@@ -1,5 +1,6 @@
 -- What symbols can start with, and the choice of a line by one token.
-use Rattle.std.proofs.Common.{◌≡◌, ◌⊎◌, inl, inr, ℕ, zero, suc, ◌<◌, Bool, true, false, List, [], ◌∷◌, ◌++◌, Some, None, refl, sym, ap, ◌∙◌, nat_eq, ◌&&◌, ◌||◌, eq-eqb}
+use Rattle.std.proofs.Common.{◌≡◌, inl, inr, ℕ, zero, suc, ◌<◌, Bool, true, false, List, [], ◌∷◌, ◌++◌, Some, None, refl, sym, ap, ◌∙◌, nat_eq, ◌&&◌, ◌||◌, eq-eqb}
+use Rattle.std.proofs.lemmas.Bool.{and_from, or_left, or_right}
 use Rattle.action_text.specs.Tables.{Symbol, Read, Keep, Emit, Name, Written, Line, Table, line_of, other_of, with_token, Writes}
 
 abbrev pub member : ℕ → List ℕ → Bool
@@ -45,20 +46,6 @@ or_false : (b : Bool) → b ≡ (b || false)
 or_false true = refl
 or_false false = refl
 
-or_right : (a b : Bool) → b ≡ true → (a || b) ≡ true
-or_right true b h = refl
-or_right false b h = h
-
-or_left : (a b : Bool) → a ≡ true → (a || b) ≡ true
-or_left true b h = refl
-or_left false b h = absurd (cc)
-
--- a start of the whole is one of the front, or the front can be empty
-start_or : (a b c : Bool) → (a || (b && c)) ≡ true → (a ≡ true) ⊎ ((b ≡ true) × (c ≡ true))
-start_or true b c h = inl refl
-start_or false true c h = inr (refl, h)
-start_or false false c h = absurd (cc)
-
 pub start-append : (w : Known) (c : ℕ) (r s : List Symbol) → can_start w c (r ++ s) ≡ (can_start w c r || (can_be_empty w r && can_start w c s))
 start-append w c [] s = refl
 start-append w c (Read d ∷ r) s = or_false (nat_eq c d)
@@ -70,11 +57,7 @@ start-append w c (Name n ∷ r) s =
 
 start_name : (a b c d e : Bool) → (a || (b && c)) ≡ true → (a ≡ true → d ≡ true) → (b ≡ true → e ≡ true) → (d || (e && c)) ≡ true
 start_name true b c d e h p q = or_left d (e && c) (p refl)
-start_name false true c d e h p q = or_right d (e && c) (both e c (q refl) h)
-  where
-    both : (e c : Bool) → e ≡ true → c ≡ true → (e && c) ≡ true
-    both true c x y = y
-    both false c x y = absurd (cc)
+start_name false true c d e h p q = or_right d (e && c) (and_from e c (q refl) h)
 start_name false false c d e h p q = absurd (cc)
 
 -- symbols that read a token can start with its class

@@ -2,6 +2,8 @@
 use Rattle.std.proofs.Common.{◌≡◌, ◌≢◌, ◌⊎◌, inl, inr, ℕ, suc, ◌+◌, length, ◌<◌, ◌≤◌, Bool, true, false, ◌&&◌, ◌||◌, not, List, [], ◌∷◌, Some, refl, sym, ap, ◌∙◌, arith, codes, nat_eq, nat_lt, if◌then◌else◌, eqb-true, ltb-true}
 use Rattle.std.proofs.lemmas.Bool.Decides.{nat_tests, eqb_tells}
 use Rattle.std.specs.Prelude.{ℤ, nat_le}
+use Rattle.std.proofs.lemmas.Bool.{and_parts, or_parts}
+use Rattle.action_text.proofs.Tests.{not_true}
 use Rattle.acg_base.specs.Decimals.{spelled_i64}
 use Rattle.meta_lex.specs.Forms.{is_quoted, is_word}
 use Rattle.meta_lex.specs.declared.token.TokenKind.TheVariants.{Word}
@@ -88,14 +90,6 @@ function_of_class t e = (says t (class_number class.Function) e (omega arith)).2
 pub variable_of_class : (t : List ℕ) → template_class t ≡ (class_number class.Variable) → is_variable t ≡ true
 variable_of_class t e = (says t (class_number class.Variable) e (omega arith)).3 refl
 
-and_both : (a b : Bool) → (a && b) ≡ true → (a ≡ true) × (b ≡ true)
-and_both true b h = (refl, h)
-and_both false b h = absurd (cc)
-
-not_true : (a : Bool) → not a ≡ true → a ≡ false
-not_true true h = absurd (cc)
-not_true false h = refl
-
 -- a word that is not among the words has no class in action text
 among_none : (n : ℕ) (ws : List (List ℕ)) (t : List ℕ) → is_among ws t ≡ false → word_class n ws t ≡ (class_number class.Other)
 among_none n [] t h = refl
@@ -111,14 +105,6 @@ no_class t w a = plain_class Word t w (λ h. absurd (cc)) (λ h. absurd (cc)) �
 template_parameter : (t : List ℕ) → class_of t ≡ (class_number class.Other) → template_class t ≡ parameter_class t
 template_parameter t e = ap (λ c. or_parameter c t) e
 
-or_left_false : (a b : Bool) → (a || b) ≡ false → a ≡ false
-or_left_false true b h = absurd (cc)
-or_left_false false b h = refl
-
-or_right_false : (a b : Bool) → (a || b) ≡ false → b ≡ false
-or_right_false true b h = absurd (cc)
-or_right_false false b h = h
-
 abbrev choice : Bool → Bool → Bool → Bool → ℕ
 choice a b f v = if a then (class_number class.Value) else if b then (class_number class.Token) else if f then (class_number class.Function) else if v then (class_number class.Variable) else (class_number class.Other)
 
@@ -129,17 +115,17 @@ parameter_picks t f v a b c d =
 
 pub function_class : (t : List ℕ) → is_function t ≡ true → template_class t ≡ (class_number class.Function)
 function_class t h =
-    let a = and_both (is_word t) (begins_small t && (not (is_among words t) && not (is_among other_words t))) h in
-    let b = and_both (begins_small t) (not (is_among words t) && not (is_among other_words t)) a.1 in
-    let c = and_both (not (is_among words t)) (not (is_among other_words t)) b.1 in
+    let a = and_parts (is_word t) (begins_small t && (not (is_among words t) && not (is_among other_words t))) h in
+    let b = and_parts (begins_small t) (not (is_among words t) && not (is_among other_words t)) a.1 in
+    let c = and_parts (not (is_among words t)) (not (is_among other_words t)) b.1 in
     let o : is_among other_words t ≡ false = not_true (is_among other_words t) c.1 in
     template_parameter t (no_class t a.0 (not_true (is_among words t) c.0)) ∙ parameter_picks t true (is_variable t) (value_not t o) (token_not t o) h refl
   where
     value_not : (t : List ℕ) → is_among other_words t ≡ false → same_bytes (codes "value") t ≡ false
-    value_not t h = or_left_false (same_bytes (codes "value") t) _ h
+    value_not t h = (or_parts (same_bytes (codes "value") t) _ h).0
 
     token_not : (t : List ℕ) → is_among other_words t ≡ false → same_bytes (codes "token") t ≡ false
-    token_not t h = or_left_false (same_bytes (codes "token") t) _ (or_right_false (same_bytes (codes "value") t) _ h)
+    token_not t h = (or_parts (same_bytes (codes "token") t) _ (or_parts (same_bytes (codes "value") t) _ h).1).0
 
 -- the word doesn't begin with an upper-case letter
 abbrev no_capital : List ℕ → Bool
@@ -169,13 +155,13 @@ not_capital (c ∷ w) (b ∷ t) n v = pick (nat_eq c b) refl
 not_capitals : (ws : List (List ℕ)) (t : List ℕ) → no_capitals ws ≡ true → is_variable t ≡ true → is_among ws t ≡ false
 not_capitals [] t n v = refl
 not_capitals (w ∷ ws) t n v =
-    let x = and_both (no_capital w) (no_capitals ws) n in
+    let x = and_parts (no_capital w) (no_capitals ws) n in
     let a : same_bytes w t ≡ false = not_capital w t x.0 v in
     rw a (not_capitals ws t x.1 v)
 
 pub variable_class : (t : List ℕ) → is_variable t ≡ true → template_class t ≡ (class_number class.Variable)
 variable_class t h =
-    let a = and_both (is_word t) (not (begins_small t)) h in
+    let a = and_parts (is_word t) (not (begins_small t)) h in
     let s : begins_small t ≡ false = not_true (begins_small t) a.1 in
     template_parameter t (no_class t a.0 (not_capitals words t refl h))
     ∙ parameter_picks t false true (not_capital (codes "value") t refl h) (not_capital (codes "token") t refl h) (no_function t s) h

@@ -1,5 +1,6 @@
 -- The sizes of the trees that end with each label.
 use Rattle.std.proofs.Common.{◌≡◌, ℕ, zero, suc, ◌+◌, ◌-◌, ◌<◌, ◌≤◌, List, [], ◌∷◌, ◌++◌, length, get_or, refl, sym, ap, ◌∙◌, arith, append_assoc, length-append}
+use Rattle.std.proofs.lemmas.List.{get_or_append_left}
 use Rattle.action_terms.specs.Labels.{Wanted}
 use Rattle.meta_terms.specs.Templates.{Label, under, Tree, Trees, Is, Are}
 use Rattle.action_terms.specs.Trees.{tree, none, more}
@@ -15,18 +16,9 @@ pub tree_ends_last : (sizes : List ℕ) (n e : ℕ) → tree_ends sizes (suc n) 
 tree_ends_last sizes zero e = refl
 tree_ends_last sizes (suc n) e = ap (λ y. e ∷ y) (tree_ends_last sizes n (step_back sizes e))
 
-pub start_back_before : (sizes : List ℕ) (n e : ℕ) → start_back sizes n e ≤ e
-start_back_before sizes zero e = omega arith
-start_back_before sizes (suc n) e = let h = start_back_before sizes n (step_back sizes e) in omega (arith, h)
-
-get_or_front : (xs ys : List ℕ) (i : ℕ) → i < length xs → get_or (xs ++ ys) i 0 ≡ get_or xs i 0
-get_or_front [] ys i h = absurd (omega arith)
-get_or_front (x ∷ xs) ys zero h = refl
-get_or_front (x ∷ xs) ys (suc i) h = get_or_front xs ys i (omega arith)
-
 step_front : (xs ys : List ℕ) (e : ℕ) → e ≤ length xs → step_back (xs ++ ys) e ≡ step_back xs e
 step_front xs ys zero h = omega arith
-step_front xs ys (suc e) h = let i : suc e - 1 < length xs = omega arith in ap (λ n. suc e - n) (get_or_front xs ys (suc e - 1) i)
+step_front xs ys (suc e) h = let i : suc e - 1 < length xs = omega arith in ap (λ n. suc e - n) (get_or_append_left xs ys 0 (suc e - 1) i)
 
 -- later sizes don't count
 pub start_front : (xs ys : List ℕ) (n e : ℕ) → e ≤ length xs → start_back (xs ++ ys) n e ≡ start_back xs n e
@@ -56,7 +48,7 @@ inside L before middle after e =
     let n : length L ≡ length before + (length middle + length after) = ap length e ∙ length-append before (middle ++ after) ∙ ap (λ k. length before + k) (length-append middle after) in
     omega arith
 
-regroup : (a b c d : List Label) → a ++ ((b ++ c) ++ d) ≡ (a ++ b) ++ (c ++ d)
+pub regroup : (a b c d : List Label) → a ++ ((b ++ c) ++ d) ≡ (a ++ b) ++ (c ++ d)
 regroup a b c d = simp append_assoc
 
 left : (a b : ℕ) → (a + b + 1) - a ≡ b + 1

@@ -1,7 +1,7 @@
 -- What the class of a token says of its bytes.
-use Rattle.std.proofs.Common.{◌≡◌, ◌≢◌, ◌⊎◌, inl, inr, ℕ, suc, ◌+◌, ◌<◌, ◌≤◌, Bool, true, false, ◌&&◌, List, [], ◌∷◌, length, Option, Some, None, refl, sym, ap, ◌∙◌, arith, get_or, nat_eq, nat_lt, if◌then◌else◌, eqb-true, eq-eqb, ltb-true}
+use Rattle.std.proofs.Common.{◌≡◌, ◌≢◌, ◌⊎◌, inl, inr, ℕ, suc, ◌+◌, ◌<◌, ◌≤◌, Bool, true, false, List, [], ◌∷◌, length, Option, Some, None, refl, sym, ap, ◌∙◌, arith, get_or, nat_eq, nat_lt, if◌then◌else◌, eqb-true, eq-eqb, ltb-true}
 use Rattle.std.specs.Prelude.{ℤ}
-use Rattle.std.proofs.lemmas.Bool.{lt-ltb}
+use Rattle.std.proofs.lemmas.Bool.{lt-ltb, and_parts}
 use Rattle.std.proofs.lemmas.Bool.Decides.{eqb_tells}
 use Rattle.acg_base.specs.Decimals.{spelled_i64}
 use Rattle.meta_lex.specs.Forms.{is_quoted}
@@ -10,17 +10,13 @@ use Rattle.action_text.specs.Numbers.{class_number}
 use Rattle.meta_terms.specs.Words.{words, same_bytes}
 use Rattle.action_text.specs.Classes.{word_class, is_place, number_class, class_of, parameter_class, template_class}
 
-and_both : (a b : Bool) → (a && b) ≡ true → (a ≡ true) × (b ≡ true)
-and_both true b h = (refl, h)
-and_both false b h = absurd (cc)
-
 -- the test of two texts
 pub same_is : (word bytes : List ℕ) → same_bytes word bytes ≡ true → word ≡ bytes
 same_is [] [] h = refl
 same_is [] (c ∷ bytes) h = absurd (cc)
 same_is (b ∷ word) [] h = absurd (cc)
 same_is (b ∷ word) (c ∷ bytes) h =
-    let x = and_both (nat_eq b c) (same_bytes word bytes) h in
+    let x = and_parts (nat_eq b c) (same_bytes word bytes) h in
     let e : b ≡ c = eqb-true b c x.0 in
     let f : word ≡ bytes = same_is word bytes x.1 in
     cc

@@ -21,12 +21,13 @@ use Rattle.action_text.specs.Posts.{postorder}
 use Rattle.action_text.specs.Notes.{Noting, Note, KeptToken, marked, note, unquoted, value_of, place_of, yielder_with}
 use Rattle.action_text.specs.Classes.{template_class, is_place}
 use Rattle.action_text.specs.ActionTable.{template_table}
+use Rattle.action_text.proofs.Tests.{and_right}
 use Rattle.action_text.proofs.Meanings.{Meaning, LineMeans, OtherMeans}
 use Rattle.action_text.proofs.Means.{means, wrote, MeansPart, MeansSorted, MeansSort, IsTokenForm}
 use Rattle.action_text.proofs.OperandRows.{variable_unquoted, quoted_begins}
 use Rattle.action_text.proofs.TemplateWords.{word_count, is_word_of, number_of_class}
 use Rattle.action_text.proofs.QuotedTokens.{quoted_is}
-use Rattle.action_text.proofs.Nodes.{node_row, rest_row, rest_other, under_means, noted_node, plain_part}
+use Rattle.action_text.proofs.Nodes.{noted_node}
 use Rattle.action_text.proofs.Chains.{last_name}
 
 pub yielder_number : (place : Bool) (t : List ℕ) (st end : Noting) (ts : List (List ℕ)) → template_class t ≡ (if place then (class_number class.Place) else (class_number class.Number))
@@ -107,7 +108,7 @@ the_stored t st end (u ∷ ts) e h s ns notes =
 -- a number from 1 to 64
 pub place_is : (z : ℤ) → is_place z ≡ true → (n : ℕ) × (z ≡ pos (suc n)) × (nat_le (suc n) 64 ≡ true)
 place_is (pos zero) h = absurd (cc)
-place_is (pos (suc n)) h = (n, refl, Rattle.action_text.proofs.Nodes.and_right (nat_le 1 (suc n)) (nat_le (suc n) 64) h)
+place_is (pos (suc n)) h = (n, refl, and_right (nat_le 1 (suc n)) (nat_le (suc n) 64) h)
 place_is (negsuc n) h = absurd (cc)
 
 pub at_place : LineMeans template_table means (line (name_number name.AtPlace) (class_number class.Hash) false (Keep (class_number class.Place) ∷ Emit mark.GivenAt ∷ []))

@@ -131,9 +131,6 @@ action_others =
     ∷ other_row name.AtPlace (Emit mark.Given ∷ [])
     ∷ []
 
-abbrev pub action_table : Table
-action_table = record { class = class_of; lines = action_lines; others = action_others }
-
 abbrev pub template_table : Table
 template_table = record { class = template_class; lines = template_lines; others = action_others }
 

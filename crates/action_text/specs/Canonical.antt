@@ -17,13 +17,6 @@ abbrev pub printed_shape : Label → List Piece
 printed_shape (ActionNode kind.Branch n t) = Fixed (codes "branch") ∷ Fixed open_paren ∷ Part ∷ Fixed comma ∷ Part ∷ Fixed comma ∷ Part ∷ Fixed close_paren ∷ []
 printed_shape l = shape l
 
--- the token of a piece
-abbrev pub printed_piece : Piece → List ℕ
-printed_piece (Fixed bytes) = bytes
-printed_piece (Numeral value) = decimal_of value
-printed_piece (Quoted bytes) = 34 ∷ (bytes ++ 34 ∷ [])
-printed_piece Part = []
-
 -- the tokens of the pieces, with the parts in their places
 abbrev pub woven : List Piece → List (List (List ℕ)) → List (List ℕ)
 woven [] parts = []
