@@ -1,7 +1,8 @@
 -- What reading an action text answers, and when each error comes.
 use Rattle.std.specs.Prelude.{◌≡◌, ℕ, zero, suc, ◌<◌, ◌≤◌, List, [], ◌∷◌, length, map, Some, slice_get}
 use Rattle.meta_lex.specs.Tokens.{PlainToken, AreTokens, IsBadByte}
-use Rattle.action_terms.specs.Trees.{Tree, preorder}
+use Rattle.action_terms.specs.Labels.{Label}
+use Rattle.action_terms.specs.Trees.{Tree, IsAction, preorder}
 use Rattle.action_terms.specs.Numbering.{Listed, IsGraphOf, strays, node_limit}
 use Rattle.action_text.specs.declared.errors.TextError.{TextError}
 use Rattle.action_text.specs.declared.errors.TextError.TheVariants as error
@@ -20,6 +21,18 @@ pub record IsTextOf (bytes : List ℕ) (t : Tree) : Type 0 where
 -- the graph is that of the action of the text
 abbrev pub IsReadAs : List ℕ → Listed → Type 0
 IsReadAs bytes g = (t : Tree) × IsTextOf bytes t × IsGraphOf g t
+
+-- the labels are those of the action of the text, in preorder
+abbrev pub AreTextLabels : List ℕ → List Label → Type 0
+AreTextLabels bytes labels = (t : Tree) × IsTextOf bytes t × (labels ≡ preorder t)
+
+-- the graph is that of the action that has the labels in preorder
+abbrev pub IsGraphOfLabels : Listed → List Label → Type 0
+IsGraphOfLabels g labels = (t : Tree) → IsAction t → preorder t ≡ labels → IsGraphOf g t
+
+-- the node is the first stray `unfold` of the action that has the labels in preorder
+abbrev pub IsStrayOf : ℕ → List Label → Type 0
+IsStrayOf node labels = (t : Tree) → IsAction t → preorder t ≡ labels → slice_get (strays t) 0 ≡ Some node
 
 -- where a token begins, or how many bytes there are behind the last one
 abbrev pub offset_of : List PlainToken → ℕ → ℕ → ℕ

@@ -85,6 +85,14 @@ marked (mark.Sort s) st = notes 0 (NotedSort s) st
 marked mark.Applied st = writes 2 (Applied (kept (drop 1 st.notes)) (kept st.notes)) st
 marked mark.ValueOf st = writes 1 (ValueOf (kept st.notes)) st
 
+-- the notes with the token, where it is kept
+abbrev pub kept_if : Bool → List ℕ → List Note → List Note
+kept_if keeps t notes = if keeps then KeptToken t ∷ notes else notes
+
+-- the notes with one item more
+abbrev pub one_more : List Note → List Note
+one_more notes = Count (counted notes + 1) ∷ drop 1 notes
+
 abbrev pub note : Written → Noting → Noting
 note (Token t) st = notes 0 (KeptToken t) st
 note (Noted m) st = marked m st

@@ -1,7 +1,7 @@
 -- What is still due while a graph is printed: tokens, and the places of nodes.
 use Rattle.std.specs.Prelude.{◌≡◌, ◌≤◌, ℕ, Bool, true, false, List, [], ◌∷◌, ◌++◌, Option, None, Some, length, drop, map, reverse, slice_index_or, if◌then◌else◌}
 use Rattle.acg_base.specs.Decimals.{decimal_of}
-use Rattle.action_terms.specs.Labels.{Label, ActionNode, YielderNode, Wanted, AnAction, under}
+use Rattle.action_terms.specs.Labels.{Label, ActionNode, YielderNode, Wanted, AnAction, AYielder, under}
 use Rattle.action_terms.specs.Numbering.{ListedNode, ListedYielder}
 use Rattle.action_terms.specs.declared.kinds.Kind.{Kind}
 use Rattle.action_terms.specs.declared.kinds.Kind.TheVariants as kind
@@ -32,6 +32,10 @@ due (job.Part p) = Node p
 -- what is due by a stack of jobs, whose last one comes first
 abbrev pub due_on : List Job → List Due
 due_on jobs = map due (reverse jobs)
+
+-- the jobs put these things before what was due
+abbrev pub Puts : (old new : List Job) → List Due → Type 0
+Puts old new ds = due_on new ≡ ds ++ due_on old
 
 -- an action under a node is an operand
 abbrev pub place_of : Wanted → Part
@@ -114,10 +118,27 @@ pub record Says (text : Text) (tokens : List (List ℕ)) : Type 0 where
   pub bytes_are : text.bytes.items ≡ spaced tokens
   pub last_at : IsLastAt text.bytes.items text.last tokens
 
+-- the text in the making has this token more
+abbrev pub SaysMore : (old new : Text) → List ℕ → Type 0
+SaysMore old new token = (tokens : List (List ℕ)) → Says old tokens → Says new (tokens ++ token ∷ [])
+
 -- a node that is due, if there is one
 abbrev pub part_due : Option Part → List Due
 part_due None = []
 part_due (Some p) = Node p ∷ []
+
+-- what was due is these tokens, then the node that comes next, if one does, and then what is due
+abbrev pub AreNext : (old new : List Job) → Option Part → List (List ℕ) → Type 0
+AreNext old new next words = due_on old ≡ map Token words ++ (part_due next ++ due_on new)
+
+-- the tokens before the next node were said
+abbrev pub SaysNext : (old new : Text) → (jobs rest : List Job) → Option Part → Type 0
+SaysNext old new jobs rest next = (said : List (List ℕ)) → Says old said →
+    (words : List (List ℕ)) × Says new (said ++ words) × AreNext jobs rest next words
+
+-- the jobs put the words and two arguments before what was due
+abbrev pub PutsCall : (old new words : List Job) → Type 0
+PutsCall old new words = due_on new ≡ map due words ++ (pieces_due shapes.two_arguments (AYielder ∷ AYielder ∷ []) ++ due_on old)
 
 -- the functions of two arguments
 abbrev pub is_function : YKind → Bool
@@ -137,3 +158,7 @@ abbrev pub gap_behind : List (List ℕ) → List ℕ → List ℕ
 gap_behind [] next = []
 gap_behind (t ∷ []) next = if is_joined t next then [] else 32 ∷ []
 gap_behind (t ∷ u ∷ ts) next = gap_behind (u ∷ ts) next
+
+-- the bytes are those of the tokens of the text, and of the gap behind them
+abbrev pub HasGap : Text → List ℕ → (next : List ℕ) → Type 0
+HasGap text bytes next = (tokens : List (List ℕ)) → Says text tokens → bytes ≡ spaced tokens ++ gap_behind tokens next

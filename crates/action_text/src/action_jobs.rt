@@ -1,11 +1,11 @@
 //! The jobs that print an action node.
-ghost use Rattle.std.specs.Prelude.{◌≡◌, ◌≤◌, [], ◌++◌, OnOk, map, true, false};
+ghost use Rattle.std.specs.Prelude.{◌≡◌, ◌≤◌, [], OnOk, map, true, false};
 ghost use Rattle.action_terms.specs.Labels.{ActionNode, AnItem, copies};
 ghost use Rattle.action_terms.specs.Nodes.{listed_node};
 ghost use Rattle.action_terms.specs.declared.kinds.Kind.TheVariants as kind;
 ghost use Rattle.action_text.specs.Shapes.{items, operator};
 ghost use Rattle.action_text.specs.Canonical.{is_some_word};
-ghost use Rattle.action_text.specs.Printing.{Token, due_on, pieces_due, shape_due, is_bare, sides_due, chain_due, action_due, operand_length, node_label, is_fixed};
+ghost use Rattle.action_text.specs.Printing.{Puts, Token, pieces_due, shape_due, is_bare, sides_due, chain_due, action_due, operand_length, node_label, is_fixed};
 
 use crate::print_jobs::Job::{Quoted, Word};
 use crate::print_jobs::{CLOSE, COMMA, Job, OPEN, OPERAND, Part, Side, YIELDER, push_jobs};
@@ -16,7 +16,8 @@ use std::alloc::AllocError;
 // Data of two items or more.
 fn push_list(stack: &mut Vec<Job<'_>>, count: usize) -> Result<(), AllocError>
     requires { 2 ≤ count }
-    ensures { OnOk result (due_on stack.new.items ≡ pieces_due (items count) (copies count AnItem) ++ due_on stack.old.items) }
+    ensures { OnOk result
+        (Puts stack.old.items stack.new.items (pieces_due (items count) (copies count AnItem))) }
 {
     push_jobs(stack, &[CLOSE])?;
     for _ in 1..count {
@@ -28,7 +29,8 @@ fn push_list(stack: &mut Vec<Job<'_>>, count: usize) -> Result<(), AllocError>
 
 // Data of so many items.
 fn push_items(stack: &mut Vec<Job<'_>>, count: usize) -> Result<(), AllocError>
-    ensures { OnOk result (due_on stack.new.items ≡ pieces_due (items count) (copies count AnItem) ++ due_on stack.old.items) }
+    ensures { OnOk result
+        (Puts stack.old.items stack.new.items (pieces_due (items count) (copies count AnItem))) }
 {
     match count {
         0 => push_jobs(stack, &[OPEN, CLOSE]),
@@ -50,7 +52,8 @@ fn operand_length(node: &Node<'_>, place: usize) -> usize
 // An action without data and token that is no chain.
 fn push_fixed(stack: &mut Vec<Job<'_>>, kind: Kind) -> Result<(), AllocError>
     requires { is_fixed kind ≡ true }
-    ensures { OnOk result (due_on stack.new.items ≡ shape_due (ActionNode kind 0 []) ++ due_on stack.old.items) }
+    ensures { OnOk result
+        (Puts stack.old.items stack.new.items (shape_due (ActionNode kind 0 []))) }
 {
     match kind {
         Kind::Complete => push_jobs(stack, &[Word(b"complete")]),
@@ -75,7 +78,8 @@ fn push_fixed(stack: &mut Vec<Job<'_>>, kind: Kind) -> Result<(), AllocError>
 
 // `branch(Y, A, A)`
 fn push_branch(stack: &mut Vec<Job<'_>>) -> Result<(), AllocError>
-    ensures { OnOk result (due_on stack.new.items ≡ shape_due (ActionNode kind.Branch 0 []) ++ due_on stack.old.items) }
+    ensures { OnOk result
+        (Puts stack.old.items stack.new.items (shape_due (ActionNode kind.Branch 0 []))) }
 {
     push_jobs(stack, &[COMMA, OPERAND, COMMA, OPERAND, CLOSE])?;
     push_jobs(stack, &[Word(b"branch"), OPEN, YIELDER])
@@ -84,7 +88,8 @@ fn push_branch(stack: &mut Vec<Job<'_>>) -> Result<(), AllocError>
 // An action that is no chain.
 fn push_shape<'a>(stack: &mut Vec<Job<'a>>, node: &Node<'a>) -> Result<(), AllocError>
     requires { is_some_word (operator node.now.kind) ≡ false }
-    ensures { OnOk result (due_on stack.new.items ≡ shape_due (node_label (listed_node node.now)) ++ due_on stack.old.items) }
+    ensures { OnOk result
+        (Puts stack.old.items stack.new.items (shape_due (node_label (listed_node node.now)))) }
 {
     match node.kind {
         Kind::Give => {
@@ -111,14 +116,15 @@ fn push_shape<'a>(stack: &mut Vec<Job<'a>>, node: &Node<'a>) -> Result<(), Alloc
 
 // `bind T to Y`
 fn push_binding<'a>(stack: &mut Vec<Job<'a>>, token: &'a [u8]) -> Result<(), AllocError>
-    ensures { OnOk result (due_on stack.new.items ≡ shape_due (ActionNode kind.Bind 0 token.now) ++ due_on stack.old.items) }
+    ensures { OnOk result
+        (Puts stack.old.items stack.new.items (shape_due (ActionNode kind.Bind 0 token.now))) }
 {
     push_jobs(stack, &[Word(b"bind"), Quoted(token), Word(b"to"), YIELDER])
 }
 
 // The words of an operator.
 fn push_operator(stack: &mut Vec<Job<'_>>, kind: Kind) -> Result<(), AllocError>
-    ensures { OnOk result (due_on stack.new.items ≡ map Token (operator kind) ++ due_on stack.old.items) }
+    ensures { OnOk result (Puts stack.old.items stack.new.items (map Token (operator kind))) }
 {
     match kind {
         Kind::Or => push_jobs(stack, &[Word(b"or")]),
@@ -164,7 +170,7 @@ fn is_bare(side: Side, kind: Kind) -> bool
 
 // A chain without parentheses.
 fn push_sides(stack: &mut Vec<Job<'_>>, kind: Kind) -> Result<(), AllocError>
-    ensures { OnOk result (due_on stack.new.items ≡ sides_due kind ++ due_on stack.old.items) }
+    ensures { OnOk result (Puts stack.old.items stack.new.items (sides_due kind)) }
 {
     push_jobs(stack, &[OPERAND])?;
     push_operator(stack, kind)?;
@@ -174,7 +180,7 @@ fn push_sides(stack: &mut Vec<Job<'_>>, kind: Kind) -> Result<(), AllocError>
 // A chain.
 fn push_chain(stack: &mut Vec<Job<'_>>, side: Side, kind: Kind) -> Result<(), AllocError>
     requires { is_some_word (operator kind) ≡ true }
-    ensures { OnOk result (due_on stack.new.items ≡ chain_due side kind ++ due_on stack.old.items) }
+    ensures { OnOk result (Puts stack.old.items stack.new.items (chain_due side kind)) }
 {
     if is_bare(side, kind) {
         push_sides(stack, kind)
@@ -191,7 +197,8 @@ pub fn push_action<'a>(
     side: Side,
     node: &Node<'a>,
 ) -> Result<(), AllocError>
-    ensures { OnOk result (due_on stack.new.items ≡ action_due side (node_label (listed_node node.now)) ++ due_on stack.old.items) }
+    ensures { OnOk result
+        (Puts stack.old.items stack.new.items (action_due side (node_label (listed_node node.now)))) }
 {
     if is_operator(node.kind) {
         push_chain(stack, side, node.kind)

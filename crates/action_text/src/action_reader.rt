@@ -1,13 +1,13 @@
 //! Reading a text as the graph of an action.
-ghost use Rattle.std.specs.Prelude.{◌≡◌, All, true, ℕ, ◌<◌, ◌≤◌, ◌∷◌, [], ◌++◌, length, map, IfOk, IfErr, OnOk, IsErrOf, Some, slice_get};
+ghost use Rattle.std.specs.Prelude.{◌≡◌, All, true, ℕ, ◌<◌, ◌≤◌, ◌∷◌, [], ◌++◌, length, map, IfOk, IfErr, OnOk, IsErrOf};
 ghost use Rattle.meta_lex.specs.Tokens.{AreTokens, plain_token};
 ghost use Rattle.action_terms.specs.Pushed.{label_of};
 ghost use Rattle.meta_terms.specs.Templates.{as_label};
 ghost use Rattle.meta_terms.specs.Nodes.{label_of as template_label};
-ghost use Rattle.action_terms.specs.Trees.{Tree, IsAction, IsWhole, preorder};
-ghost use Rattle.action_terms.specs.Numbering.{IsGraphOf, strays, node_limit};
+ghost use Rattle.action_terms.specs.Trees.{IsWhole};
+ghost use Rattle.action_terms.specs.Numbering.{node_limit};
 ghost use Rattle.action_text.specs.TemplateText.{is_plain_label};
-ghost use Rattle.action_text.specs.Answers.{IsTextOf, IsReadAs, IsTextError, offset_of};
+ghost use Rattle.action_text.specs.Answers.{IsReadAs, IsTextError, AreTextLabels, IsGraphOfLabels, IsStrayOf, offset_of};
 
 use crate::errors::TextError;
 use crate::preorder::preorder_of;
@@ -52,7 +52,8 @@ fn action_labels<'s>(
     nodes: &[TemplateNode<'s>],
 ) -> Result<Vec<Pushed<'s>>, AllocError>
     requires { All (λ n. is_plain_label (template_label n) ≡ true) nodes.now }
-    ensures { IfOk result (λ v. map (λ (n : _). as_label (label_of n)) v.items ≡ map template_label nodes.now) }
+    ensures { IfOk result
+        (λ v. map (λ (n : _). as_label (label_of n)) v.items ≡ map template_label nodes.now) }
 {
     let mut list = Vec::with_capacity(alloc, nodes.len())?;
     for node in nodes {
@@ -68,7 +69,7 @@ fn read_preorder<'s>(
     bytes: &[u8],
 ) -> Result<Vec<Pushed<'s>>, TextError>
     requires { length bytes.now < 4294967295 }
-    ensures labels { IfOk result (λ v. (t : Tree) × IsTextOf bytes.now t × (map label_of v.items ≡ preorder t)) }
+    ensures labels { IfOk result (λ v. AreTextLabels bytes.now (map label_of v.items)) }
     ensures error { IfErr result (λ e. IsTextError bytes.now e) }
 {
     let read = match tokens(alloc, scratch, bytes) {
@@ -105,9 +106,10 @@ fn push(builder: &mut GraphBuilder<'_>, label: Pushed<'_>) -> Result<(), GraphEr
 // The graph of an action, of its labels in preorder.
 fn build<'a>(alloc: Global, arena: &'a Bump, labels: &[Pushed<'_>]) -> Result<Graph<'a>, GraphError>
     requires { IsWhole (map label_of labels.now) }
-    ensures graph { IfOk result (λ g. (t : Tree) → IsAction t → preorder t ≡ map label_of labels.now → IsGraphOf g t) }
+    ensures graph { IfOk result (λ g. IsGraphOfLabels g (map label_of labels.now)) }
     ensures nodes { IsErrOf result GraphError.Nodes → node_limit < length labels.now }
-    ensures stray { (node : ℕ) → IsErrOf result (GraphError.StrayUnfold node) → (length labels.now ≤ node_limit) × ((t : Tree) → IsAction t → preorder t ≡ map label_of labels.now → slice_get (strays t) 0 ≡ Some node) }
+    ensures stray { (node : ℕ) → IsErrOf result (GraphError.StrayUnfold node)
+        → (length labels.now ≤ node_limit) × IsStrayOf node (map label_of labels.now) }
 {
     let mut builder = match GraphBuilder::new(alloc, arena) {
         Ok(builder) => builder,

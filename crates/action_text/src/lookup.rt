@@ -12,7 +12,8 @@ use std::alloc::AllocError;
 
 // The row of the name for a token of the class, among these rows.
 fn find_row_in(rows: &[Row], name: Name, class: Class) -> Option<Row>
-    ensures { found_line result ≡ line_of (map line_at rows.now) (name_number name) (class_number class) }
+    ensures { found_line result
+        ≡ line_of (map line_at rows.now) (name_number name) (class_number class) }
 {
     for row in rows {
         if row.name.is(name) && row.class.is(class) {
@@ -63,7 +64,8 @@ pub fn row_at(classes: &[Class], at: usize, name: Name) -> Option<Row>
 
 /// Puts the symbols on the stack, the first on top.
 pub fn push_reversed(stack: &mut Vec<Symbol>, right: &[Symbol]) -> Result<(), AllocError>
-    ensures { OnOk result (map numbered stack.new.items ≡ map numbered stack.old.items ++ reverse (map numbered right.now)) }
+    ensures { OnOk result (map numbered stack.new.items
+        ≡ map numbered stack.old.items ++ reverse (map numbered right.now)) }
 {
     let mut left = right.len();
     while left > 0 {

@@ -1,9 +1,9 @@
 //! What is noted and written while a text is read.
-ghost use Rattle.std.specs.Prelude.{◌≡◌, ◌+◌, [], ◌∷◌, ◌++◌, OnOk, drop, map, reverse, if◌then◌else◌};
+ghost use Rattle.std.specs.Prelude.{◌≡◌, ◌∷◌, OnOk, drop};
 ghost use Rattle.meta_terms.specs.Templates.{ActionNode, YielderNode, ActionTokenOf, YielderTokenOf};
-ghost use Rattle.action_text.specs.Notes.{KeptToken, Count, kept, counted, noted_sort, unquoted, value_of, place_of, marked, begins_quoted, action_with, yielder_with};
+ghost use Rattle.action_text.specs.Notes.{kept, kept_if, counted, one_more, noted_sort, unquoted, value_of, place_of, marked, begins_quoted, action_with, yielder_with};
 ghost use Rattle.meta_terms.specs.Nodes.{label_of};
-ghost use Rattle.action_text.specs.Views.{plain_note, noting_of};
+ghost use Rattle.action_text.specs.Views.{plain_note, notes_of, noting_of, HasMore};
 ghost use Rattle.action_text.specs.declared.table.Mark.TheVariants as mark;
 
 use crate::table::Mark;
@@ -26,8 +26,8 @@ pub enum Note<'t> {
 
 // Takes the last note, and answers the token that it is.
 fn take_token<'t>(notes: &mut Vec<Note<'t>>) -> &'t [u8]
-    ensures token { result.now ≡ kept (reverse (map plain_note notes.old.items)) }
-    ensures rest { reverse (map plain_note notes.new.items) ≡ drop 1 (reverse (map plain_note notes.old.items)) }
+    ensures token { result.now ≡ kept (notes_of notes.old.items) }
+    ensures rest { notes_of notes.new.items ≡ drop 1 (notes_of notes.old.items) }
 {
     match notes.pop() {
         Some(Note::Kept(token)) => token,
@@ -37,8 +37,8 @@ fn take_token<'t>(notes: &mut Vec<Note<'t>>) -> &'t [u8]
 
 // Takes the last note, and answers the number of items that it is.
 fn take_items(notes: &mut Vec<Note<'_>>) -> u32
-    ensures items { result ≡ counted (reverse (map plain_note notes.old.items)) }
-    ensures rest { reverse (map plain_note notes.new.items) ≡ drop 1 (reverse (map plain_note notes.old.items)) }
+    ensures items { result ≡ counted (notes_of notes.old.items) }
+    ensures rest { notes_of notes.new.items ≡ drop 1 (notes_of notes.old.items) }
 {
     match notes.pop() {
         Some(Note::Items(items)) => items,
@@ -48,8 +48,8 @@ fn take_items(notes: &mut Vec<Note<'_>>) -> u32
 
 // Takes the last note, and answers the sort that it is.
 fn take_sort(notes: &mut Vec<Note<'_>>) -> Sort
-    ensures sort { result ≡ noted_sort (reverse (map plain_note notes.old.items)) }
-    ensures rest { reverse (map plain_note notes.new.items) ≡ drop 1 (reverse (map plain_note notes.old.items)) }
+    ensures sort { result ≡ noted_sort (notes_of notes.old.items) }
+    ensures rest { notes_of notes.new.items ≡ drop 1 (notes_of notes.old.items) }
 {
     match notes.pop() {
         Some(Note::Noted(sort)) => sort,
@@ -142,7 +142,8 @@ fn write_action<'t>(
     items: u32,
     token: &'t [u8],
 ) -> Result<(), AllocError>
-    ensures { OnOk result (map label_of labels.new.items ≡ map label_of labels.old.items ++ ActionNode kind items token.now ∷ []) }
+    ensures { OnOk result
+        (HasMore labels.old.items labels.new.items (ActionNode kind items token.now)) }
 {
     labels.push(TemplateNode::Action(NewAction { kind, items, token }))?;
     Ok(())
@@ -154,7 +155,8 @@ fn write_yielder<'t>(
     kind: YKind,
     token: &'t [u8],
 ) -> Result<(), AllocError>
-    ensures { OnOk result (map label_of labels.new.items ≡ map label_of labels.old.items ++ YielderNode kind token.now ∷ []) }
+    ensures { OnOk result
+        (HasMore labels.old.items labels.new.items (YielderNode kind token.now)) }
 {
     labels.push(TemplateNode::Yielder(NewYielder { kind, token }))?;
     Ok(())
@@ -162,7 +164,8 @@ fn write_yielder<'t>(
 
 // Notes one thing more.
 fn remember<'t>(notes: &mut Vec<Note<'t>>, note: Note<'t>) -> Result<(), AllocError>
-    ensures { OnOk result (reverse (map plain_note notes.new.items) ≡ plain_note note.entry ∷ reverse (map plain_note notes.old.items)) }
+    ensures { OnOk result
+        (notes_of notes.new.items ≡ plain_note note.entry ∷ notes_of notes.old.items) }
 {
     notes.push(note)?;
     Ok(())
@@ -170,7 +173,7 @@ fn remember<'t>(notes: &mut Vec<Note<'t>>, note: Note<'t>) -> Result<(), AllocEr
 
 // Counts one item more. There is no memory for more than 4294967295 items.
 fn count_item(notes: &mut Vec<Note<'_>>) -> Result<(), AllocError>
-    ensures { OnOk result (reverse (map plain_note notes.new.items) ≡ Count (counted (reverse (map plain_note notes.old.items)) + 1) ∷ drop 1 (reverse (map plain_note notes.old.items))) }
+    ensures { OnOk result (notes_of notes.new.items ≡ one_more (notes_of notes.old.items)) }
 {
     let items = take_items(notes);
     match items.checked_add(1) {
@@ -185,7 +188,8 @@ pub fn keep_if<'t>(
     keeps: bool,
     token: &'t [u8],
 ) -> Result<(), AllocError>
-    ensures { OnOk result (reverse (map plain_note notes.new.items) ≡ (if keeps then KeptToken token.now ∷ reverse (map plain_note notes.old.items) else reverse (map plain_note notes.old.items))) }
+    ensures { OnOk result
+        (notes_of notes.new.items ≡ kept_if keeps token.now (notes_of notes.old.items)) }
 {
     if keeps {
         remember(notes, Note::Kept(token))
@@ -200,7 +204,8 @@ fn write_with_items<'t>(
     notes: &mut Vec<Note<'t>>,
     labels: &mut Vec<TemplateNode<'t>>,
 ) -> Result<(), AllocError>
-    ensures { OnOk result (noting_of notes.new.items labels.new.items ≡ marked (mark.ActionWithItems kind) (noting_of notes.old.items labels.old.items)) }
+    ensures { OnOk result (noting_of notes.new.items labels.new.items
+        ≡ marked (mark.ActionWithItems kind) (noting_of notes.old.items labels.old.items)) }
 {
     let items = take_items(notes);
     write_action(labels, kind, items, &[])
@@ -212,7 +217,8 @@ fn write_with_token<'t>(
     notes: &mut Vec<Note<'t>>,
     labels: &mut Vec<TemplateNode<'t>>,
 ) -> Result<(), AllocError>
-    ensures { OnOk result (noting_of notes.new.items labels.new.items ≡ marked (mark.ActionWithToken kind) (noting_of notes.old.items labels.old.items)) }
+    ensures { OnOk result (noting_of notes.new.items labels.new.items
+        ≡ marked (mark.ActionWithToken kind) (noting_of notes.old.items labels.old.items)) }
 {
     let node = action_with(kind, take_token(notes));
     labels.push(node)?;
@@ -224,7 +230,8 @@ fn write_number<'t>(
     notes: &mut Vec<Note<'t>>,
     labels: &mut Vec<TemplateNode<'t>>,
 ) -> Result<(), AllocError>
-    ensures { OnOk result (noting_of notes.new.items labels.new.items ≡ marked mark.Number (noting_of notes.old.items labels.old.items)) }
+    ensures { OnOk result (noting_of notes.new.items labels.new.items
+        ≡ marked mark.Number (noting_of notes.old.items labels.old.items)) }
 {
     let value = value_of(take_token(notes));
     write_yielder(labels, YKind::Number(value), &[])
@@ -235,7 +242,8 @@ fn write_given_at<'t>(
     notes: &mut Vec<Note<'t>>,
     labels: &mut Vec<TemplateNode<'t>>,
 ) -> Result<(), AllocError>
-    ensures { OnOk result (noting_of notes.new.items labels.new.items ≡ marked mark.GivenAt (noting_of notes.old.items labels.old.items)) }
+    ensures { OnOk result (noting_of notes.new.items labels.new.items
+        ≡ marked mark.GivenAt (noting_of notes.old.items labels.old.items)) }
 {
     let place = place_of(value_of(take_token(notes)));
     let sort = take_sort(notes);
@@ -247,7 +255,8 @@ fn write_bound<'t>(
     notes: &mut Vec<Note<'t>>,
     labels: &mut Vec<TemplateNode<'t>>,
 ) -> Result<(), AllocError>
-    ensures { OnOk result (noting_of notes.new.items labels.new.items ≡ marked mark.Bound (noting_of notes.old.items labels.old.items)) }
+    ensures { OnOk result (noting_of notes.new.items labels.new.items
+        ≡ marked mark.Bound (noting_of notes.old.items labels.old.items)) }
 {
     let token = take_token(notes);
     let sort = take_sort(notes);
@@ -261,7 +270,8 @@ pub fn follow<'t>(
     notes: &mut Vec<Note<'t>>,
     labels: &mut Vec<TemplateNode<'t>>,
 ) -> Result<(), AllocError>
-    ensures { OnOk result (noting_of notes.new.items labels.new.items ≡ marked mark (noting_of notes.old.items labels.old.items)) }
+    ensures { OnOk result (noting_of notes.new.items labels.new.items
+        ≡ marked mark (noting_of notes.old.items labels.old.items)) }
 {
     match mark {
         Mark::Action(kind) => write_action(labels, kind, 0, &[]),

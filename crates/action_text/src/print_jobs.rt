@@ -1,6 +1,6 @@
 //! What is still to be printed: tokens, and the places of nodes.
-ghost use Rattle.std.specs.Prelude.{◌≡◌, ◌++◌, OnOk, map};
-ghost use Rattle.action_text.specs.Printing.{due, due_on};
+ghost use Rattle.std.specs.Prelude.{OnOk, map};
+ghost use Rattle.action_text.specs.Printing.{Puts, due};
 
 use action_terms::kinds::Kind;
 use std::alloc::AllocError;
@@ -52,7 +52,7 @@ pub const YIELDER: Job<'static> = Job::Part(Part::Yielder);
 
 /// Puts the jobs on the stack, the first on top.
 pub fn push_jobs<'a>(stack: &mut Vec<Job<'a>>, jobs: &[Job<'a>]) -> Result<(), AllocError>
-    ensures { OnOk result (due_on stack.new.items ≡ map due jobs.now ++ due_on stack.old.items) }
+    ensures { OnOk result (Puts stack.old.items stack.new.items (map due jobs.now)) }
 {
     let mut left = jobs.len();
     while left > 0 {

@@ -1,10 +1,10 @@
 //! Printing a graph as the canonical text of its action.
-ghost use Rattle.std.specs.Prelude.{◌≡◌, ◌++◌, List, ℕ, IfOk, IfNone, map, []};
+ghost use Rattle.std.specs.Prelude.{◌≡◌, IfOk, IfNone, []};
 ghost use Rattle.action_terms.specs.Trees.{Tree};
 ghost use Rattle.action_terms.specs.Numbering.{IsGraphOf};
 ghost use Rattle.action_text.specs.Answers.{IsReadAs};
 ghost use Rattle.action_text.specs.Canonical.{canonical_text, HasNoBranch};
-ghost use Rattle.action_text.specs.Printing.{Says, Token, due_on, part_due};
+ghost use Rattle.action_text.specs.Printing.{SaysNext};
 
 use crate::action_jobs::push_action;
 use crate::print_jobs::{Job, Part, Side};
@@ -16,7 +16,8 @@ use std::alloc::{AllocError, Global};
 
 // Prints the tokens that come before the next node, and answers its place; it is None where no node follows.
 fn print_tokens(stack: &mut Vec<Job<'_>>, text: &mut Text) -> Result<Option<Part>, AllocError>
-    ensures printed { (said : List (List ℕ)) → Says text.old said → IfOk result (λ next. (words : List (List ℕ)) × Says text.new (said ++ words) × (due_on stack.old.items ≡ map Token words ++ (part_due next ++ due_on stack.new.items))) }
+    ensures printed { IfOk result
+        (λ next. SaysNext text.old text.new stack.old.items stack.new.items next) }
     ensures done { IfOk result (λ next. IfNone next (stack.new.items ≡ [])) }
 {
     while let Some(job) = stack.pop() {
@@ -35,8 +36,10 @@ fn print_tokens(stack: &mut Vec<Job<'_>>, text: &mut Text) -> Result<Option<Part
 /// parentheses, unless it is a left operand with the same operator. A branch is printed as
 /// `branch(Y, A, A)`, which no text of an action has; every other graph is read again.
 pub fn print_action(alloc: Global, graph: &Graph<'_>) -> Result<Vec<u8>, Memory>
-    ensures canonical { IfOk result (λ text. (t : Tree) → IsGraphOf graph.now t → text.items ≡ canonical_text t) }
-    ensures read_again { HasNoBranch graph.now → IfOk result (λ text. IsReadAs text.items graph.now) }
+    ensures canonical { IfOk result
+        (λ text. (t : Tree) → IsGraphOf graph.now t → text.items ≡ canonical_text t) }
+    ensures read_again { HasNoBranch graph.now
+        → IfOk result (λ text. IsReadAs text.items graph.now) }
 {
     let nodes = graph.nodes();
     let yielders = graph.yielders();

@@ -1,10 +1,10 @@
 //! The bytes of a text in the making: tokens, and the spaces between them.
-ghost use Rattle.std.specs.Prelude.{◌≡◌, ℕ, ◌∷◌, ◌++◌, [], ◌≤◌, List, OnOk, Some, length};
+ghost use Rattle.std.specs.Prelude.{◌≡◌, ℕ, ◌∷◌, ◌++◌, [], List, OnOk, Some, length};
 ghost use Rattle.std.specs.List.{list_any};
 ghost use Rattle.acg_base.specs.Decimals.{decimal_of};
 ghost use Rattle.meta_terms.specs.Words.{same_bytes};
 ghost use Rattle.action_text.specs.Canonical.{is_joined, spaced, function_words};
-ghost use Rattle.action_text.specs.Printing.{Says, gap_behind};
+ghost use Rattle.action_text.specs.Printing.{Says, SaysMore, HasGap};
 
 use crate::unfinished::Text;
 use acg_base::decimal_into;
@@ -70,7 +70,7 @@ impl Text {
 
     // Puts a space, where one stands before the token, and notes that the token begins there.
     fn begin(&mut self, token: &[u8]) -> Result<(), AllocError>
-        ensures bytes { OnOk result ((tokens : List (List ℕ)) → Says self.old tokens → self.new.bytes.items ≡ spaced tokens ++ gap_behind tokens token.now) }
+        ensures bytes { OnOk result (HasGap self.old self.new.bytes.items token.now) }
         ensures last { OnOk result (self.new.last ≡ Some (length self.new.bytes.items)) }
     {
         if let Some(start) = self.last {
@@ -84,7 +84,7 @@ impl Text {
 
     /// Appends a word or a symbol.
     pub fn say(&mut self, token: &[u8]) -> Result<(), AllocError>
-        ensures { OnOk result ((tokens : List (List ℕ)) → Says self.old tokens → Says self.new (tokens ++ token.now ∷ [])) }
+        ensures { OnOk result (SaysMore self.old self.new token.now) }
     {
         self.begin(token)?;
         self.bytes.extend_from_slice(token)?;
@@ -93,7 +93,7 @@ impl Text {
 
     /// Appends the decimal of a number.
     pub fn say_number(&mut self, value: i64) -> Result<(), AllocError>
-        ensures { OnOk result ((tokens : List (List ℕ)) → Says self.old tokens → Says self.new (tokens ++ decimal_of value ∷ [])) }
+        ensures { OnOk result (SaysMore self.old self.new (decimal_of value)) }
     {
         let mut digits = [0; 20];
         let size = decimal_into(value, &mut digits);
@@ -102,7 +102,7 @@ impl Text {
 
     /// Appends a quoted text of these bytes.
     pub fn say_quoted(&mut self, bytes: &[u8]) -> Result<(), AllocError>
-        ensures { OnOk result ((tokens : List (List ℕ)) → Says self.old tokens → Says self.new (tokens ++ (34 ∷ (bytes.now ++ 34 ∷ [])) ∷ [])) }
+        ensures { OnOk result (SaysMore self.old self.new (34 ∷ (bytes.now ++ 34 ∷ []))) }
     {
         self.begin(b"\"")?;
         self.bytes.push(b'"')?;

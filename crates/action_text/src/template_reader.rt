@@ -64,7 +64,8 @@ pub fn read_template<'a>(
     requires within { to ≤ length tokens.now }
     ensures template { let ts = slice_range (token_bytes tokens.now) from to in
         IfOk result (λ t. IsTemplateOf ts (map label_of t.list.now)) }
-    ensures error { IfErr result (λ e. IsTemplateError (slice_range (token_bytes tokens.now) from to) from e) }
+    ensures error { IfErr result
+        (λ e. IsTemplateError (slice_range (token_bytes tokens.now) from to) from e) }
 {
     let list = tokens.list;
     let nodes = match read_nodes(alloc, &list[from as usize..to as usize]) {

@@ -220,7 +220,8 @@ pub fn classes_of(
     tokens: &[Token<'_>],
     parameters: bool,
 ) -> Result<Vec<Class>, AllocError>
-    ensures { IfOk result (λ v. map class_number v.items ≡ map (class_in parameters) (texts tokens.now)) }
+    ensures { IfOk result
+        (λ v. map class_number v.items ≡ map (class_in parameters) (texts tokens.now)) }
 {
     let mut list = Vec::new(alloc);
     for token in tokens {

@@ -1,11 +1,11 @@
 //! The jobs that print a yielder.
-ghost use Rattle.std.specs.Prelude.{◌≡◌, [], ◌∷◌, ◌++◌, OnOk, map, true};
-ghost use Rattle.action_terms.specs.Labels.{YielderNode, AYielder};
+ghost use Rattle.std.specs.Prelude.{◌≡◌, [], OnOk, true};
+ghost use Rattle.action_terms.specs.Labels.{YielderNode};
 ghost use Rattle.action_terms.specs.Nodes.{listed_yielder};
 ghost use Rattle.action_terms.specs.declared.kinds.YKind.TheVariants as ykind;
-ghost use Rattle.action_text.specs.Shapes.{two_arguments, sort_word};
+ghost use Rattle.action_text.specs.Shapes.{sort_word};
 ghost use Rattle.action_text.specs.Canonical.{IsReadableLabel};
-ghost use Rattle.action_text.specs.Printing.{due, due_on, pieces_due, shape_due, yielder_label, is_function};
+ghost use Rattle.action_text.specs.Printing.{Puts, PutsCall, shape_due, yielder_label, is_function};
 
 use crate::print_jobs::Job::{Number, Quoted, Word};
 use crate::print_jobs::{CLOSE, COMMA, Job, OPEN, OPERAND, YIELDER, push_jobs};
@@ -27,7 +27,8 @@ fn sort_word(sort: Sort) -> &'static [u8]
 
 // `the given S`, or `the given S # n` with the place n
 fn push_given(stack: &mut Vec<Job<'_>>, sort: Sort, place: u32) -> Result<(), AllocError>
-    ensures { OnOk result (due_on stack.new.items ≡ shape_due (YielderNode (ykind.Given sort place) []) ++ due_on stack.old.items) }
+    ensures { OnOk result
+        (Puts stack.old.items stack.new.items (shape_due (YielderNode (ykind.Given sort place) []))) }
 {
     let word = Word(sort_word(sort));
     if place == 0 {
@@ -43,7 +44,7 @@ fn push_given(stack: &mut Vec<Job<'_>>, sort: Sort, place: u32) -> Result<(), Al
 
 // These words, and two arguments.
 fn push_call<'a>(stack: &mut Vec<Job<'a>>, words: &[Job<'a>]) -> Result<(), AllocError>
-    ensures { OnOk result (due_on stack.new.items ≡ map due words.now ++ (pieces_due two_arguments (AYielder ∷ AYielder ∷ []) ++ due_on stack.old.items)) }
+    ensures { OnOk result (PutsCall stack.old.items stack.new.items words.now) }
 {
     push_jobs(stack, &[OPEN, YIELDER, COMMA, YIELDER, CLOSE])?;
     push_jobs(stack, words)
@@ -52,7 +53,7 @@ fn push_call<'a>(stack: &mut Vec<Job<'a>>, words: &[Job<'a>]) -> Result<(), Allo
 // A function of two arguments.
 fn push_function(stack: &mut Vec<Job<'_>>, kind: YKind) -> Result<(), AllocError>
     requires { is_function kind ≡ true }
-    ensures { OnOk result (due_on stack.new.items ≡ shape_due (YielderNode kind []) ++ due_on stack.old.items) }
+    ensures { OnOk result (Puts stack.old.items stack.new.items (shape_due (YielderNode kind []))) }
 {
     match kind {
         YKind::Sum => push_call(stack, &[Word(b"sum")]),
@@ -70,7 +71,8 @@ fn push_function(stack: &mut Vec<Job<'_>>, kind: YKind) -> Result<(), AllocError
 
 /// Puts the jobs of a yielder on the stack.
 pub fn push_yielder<'a>(stack: &mut Vec<Job<'a>>, node: &YNode<'a>) -> Result<(), AllocError>
-    ensures due { OnOk result (due_on stack.new.items ≡ shape_due (yielder_label (listed_yielder node.now)) ++ due_on stack.old.items) }
+    ensures due { OnOk result
+        (Puts stack.old.items stack.new.items (shape_due (yielder_label (listed_yielder node.now)))) }
     ensures fits { IsReadableLabel (yielder_label (listed_yielder node.now)) }
 {
     let token = Quoted(node.token);
