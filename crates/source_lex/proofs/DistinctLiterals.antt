@@ -1,4 +1,4 @@
--- The literals of a grammar are distinct.
+-- The literals of a grammar are distinct, and so are texts by their bytes.
 use Rattle.std.proofs.Common.{◌≡◌, ◌≢◌, ℕ, zero, suc, ◌+◌, ◌<◌, Bool, true, false, List, [], ◌∷◌, ◌++◌, length, take, get_or, refl, sym, ap, ◌∙◌, cond, arith}
 use Rattle.std.specs.Prelude.{◌||◌, AllPairs, fold}
 use Rattle.std.specs.Borrow.{Bor}

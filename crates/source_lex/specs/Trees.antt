@@ -2,7 +2,8 @@
 use Rattle.std.specs.Prelude.{◌≡◌, ◌≢◌, ℕ, ◌+◌, List, [], ◌∷◌, length, map, slice_get, Some}
 use Rattle.gram_form.specs.Trees.{PlainTree, Node, Pieces, End, Lexeme, Under}
 use Rattle.source_lex.specs.Lexemes.{PlainLexeme}
-use Rattle.source_lex.specs.Numbered.{Word, Phrase, Alternative, Numbered, alternative_of}
+use Rattle.source_lex.specs.Numbered.{Alternative, Numbered, alternative_of}
+use Rattle.source_lex.specs.declared.numbered.Symbol.TheVariants.{Word, Phrase}
 use Rattle.source_lex.specs.declared.lexeme.LexKind.{LexKind}
 
 -- the kinds of lexemes: a tree is over these

@@ -6,8 +6,11 @@ pub mod errors;
 pub mod lexeme;
 mod literals;
 mod longest;
+pub mod numbered;
+mod places;
 pub mod scanning;
 
 pub use errors::ScanError;
 pub use lexeme::{LexKind, Lexeme, Lexemes};
+pub use numbered::{NumberedGrammar, Symbol};
 pub use scanning::scan;

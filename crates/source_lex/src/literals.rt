@@ -5,6 +5,7 @@ ghost use Rattle.source_lex.specs.Lexemes.{IsLexeme};
 ghost use Rattle.source_lex.specs.Literals.{HasLengths, IsLongestAmong, HasNoneAmong};
 ghost use Rattle.source_lex.specs.declared.lexeme.LexKind.TheVariants.{Literal};
 
+use crate::places::places;
 use indexmap::IndexSet;
 use std::alloc::{AllocError, Global};
 
@@ -22,10 +23,9 @@ impl<'g> Literals<'g> {
         ensures literals { IfOk result (λ r. texts r.texts.keys ≡ texts literals.now) }
         ensures lengths { IfOk result (λ r. HasLengths r.lengths.keys (texts r.texts.keys)) }
     {
-        let mut texts = IndexSet::new(alloc);
+        let texts = places(alloc, literals)?;
         let mut lengths = IndexSet::new(alloc);
         for literal in literals {
-            texts.insert(*literal)?;
             lengths.insert(literal.len())?;
         }
         Ok(Literals { texts, lengths })
