@@ -1,0 +1,14 @@
+pub mod PartTokens
+pub mod Walking
+pub mod Slices
+pub mod AlternativeTokens
+pub mod ProductionTokens
+pub mod PatternTokens
+pub mod PatternParts
+pub mod EquationTokens
+pub mod Heads
+pub mod OneItem
+pub mod Leading
+pub mod FoundRuns
+pub mod FirstRuns
+pub mod Reading

@@ -1,0 +1,5 @@
+pub mod ItemForms
+pub mod Descriptions
+pub mod Parsing
+pub mod Steps
+pub mod ReadErrors
