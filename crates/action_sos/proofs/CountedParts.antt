@@ -6,7 +6,7 @@ use Rattle.action_sos.specs.Views.{frames_of, part_of}
 use Rattle.action_sos.specs.Kept.{IsCounted}
 use Rattle.action_sos.specs.declared.part.Part.{Part}
 use Rattle.action_sos.proofs.ClosedFrames.{length-closed_first}
-use Rattle.action_sos.proofs.FrameCounts.{frames_steps-cons, frames_steps-at_most, frames_steps-inmost, frames_steps-closed_first}
+use Rattle.action_sos.proofs.FrameCounts.{frames_steps-cons, frames_steps-append, frames_steps-at_most, frames_steps-inmost, frames_steps-closed_first}
 
 pub IsCounted-broken : (p : Part) → IsCounted p → p.broken ≤ p.depth
 IsCounted-broken p counted = omega (arith, counted.depth, counted.broken, frames_steps-at_most (frames_of p.frames))
@@ -33,3 +33,8 @@ module _ (p outer : Part) (f : Frame) (counted : IsCounted p) (counted_outer : I
     omega (arith, there, fewer, broken-outer),
     (f ∷ inner, split ∙ ap (λ l. l ++ inner) stands ∙ append_assoc (part_of outer).frames (f ∷ []) inner, omega (arith, frames_steps-cons f inner, count, fewer)),
   )
+
+-- frames further out have no more steps of their own
+pub broken-less : (p outer : Part) (inner : List Frame) → IsCounted p → IsCounted outer → (part_of p).frames ≡ (part_of outer).frames ++ inner → outer.broken ≤ p.broken
+broken-less p outer inner counted counted_outer stands =
+    omega (arith, broken-frames p counted, broken-frames outer counted_outer, ap (λ l. length (frames_steps l)) stands, frames_steps-append (part_of outer).frames inner)

@@ -11,13 +11,9 @@ use Rattle.action_terms.specs.Steps.{InLeft, InRight, TakesLeft, TakesRight, Sil
 use Rattle.action_terms.specs.Frames.{Frame, InCalled, InParLeft, InParRight, InFirst, InSecond, InOr, InCut, InTrap, InOver, InTail, wrap, shut_if, framed}
 use Rattle.action_terms.proofs.Contexts.{shut_all-false}
 use Rattle.action_sos.specs.Parts.{inside, IsKeptFrame, lifted, own_steps, frames_steps}
+pub use Rattle.action_sos.specs.Branches.{IsGoingTree}
 use Rattle.action_sos.proofs.PlacedSteps.{HasStep, HasStep-left, HasStep-right, HasStep-framed}
 pub use Rattle.action_sos.specs.Parts.{IsBroken, IsBesideEnd}
-
--- the tree has not ended as a whole
-abbrev pub IsGoingTree : Tree → Type 0
-IsGoingTree (Ended z) = ⊥
-IsGoingTree _ = Unit {0}
 
 -- ---- a part that goes on makes nothing of the whole
 

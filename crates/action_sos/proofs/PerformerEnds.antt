@@ -1,71 +1,55 @@
--- A performer at an end has no open step, and else it has one.
-use Rattle.std.proofs.Common.{◌≡◌, ◌≢◌, ◌<◌, ◌↔◌, ◌∙◌, ℕ, zero, suc, List, [], ◌∷◌, All, length, get_or, refl, sym, subst, ap, arith}
-use Rattle.std.specs.Prelude.{Some}
-use Rattle.std.proofs.lemmas.List.Elements.{All-head}
-use Rattle.std.proofs.lemmas.Option.{same_Some}
-use Rattle.action_terms.specs.Acting.{Tree, Ended}
+-- Whether a branch has ended; a performer at an end has no open step, and else it has one.
+use Rattle.std.proofs.Common.{◌≡◌, ◌≢◌, ◌<◌, ◌↔◌, ◌∙◌, ℕ, zero, suc, List, [], ◌∷◌, length, Option, Some, None, Box, Global, refl, sym, subst, ap, arith}
+use Rattle.action_terms.specs.Acting.{Tree}
 use Rattle.action_terms.specs.Steps.{Step, open_steps}
 use Rattle.action_terms.proofs.NeverStuck.{never-stuck}
-use Rattle.action_sos.specs.Parts.{Focus, Leaf, Parts, Part as PartMeant, inside, push_focus, trees, tree_of, first_tree, raise, IsKeptFrame, AreKept, IsTree}
-use Rattle.action_sos.specs.Views.{part_of, parts_of, frames_of}
+use Rattle.action_sos.specs.Parts.{inside}
+use Rattle.action_sos.specs.Views.{part_of, focus_of}
 use Rattle.action_sos.specs.Kept.{IsCounted}
 use Rattle.action_sos.specs.Moves.{action_in}
-use Rattle.action_sos.specs.Performers.{steps_of, moved_to, IsEnd}
+use Rattle.action_sos.specs.Performers.{steps_of, IsEnd}
 use Rattle.action_sos.specs.Performed.{world_of, performing_of, IsPerformer}
-use Rattle.action_sos.specs.declared.answers.Moved.TheVariants as moved
+use Rattle.action_sos.specs.Branches.{counted, whole, grown, grown_of, IsGoingTree}
+use Rattle.action_sos.specs.declared.ends.End.{End as EndAt}
 use Rattle.action_sos.specs.declared.moves.Lists.{Lists}
 use Rattle.action_sos.specs.declared.part.Part.{Part}
+use Rattle.action_sos.specs.declared.part.Focus.{Focus as FocusAt}
+use Rattle.action_sos.specs.declared.part.Focus.TheVariants as focus
+use Rattle.action_sos.specs.declared.branch.Branch.{Branch, out-Branch}
 use Rattle.action_sos.specs.declared.world.World.{World}
-use Rattle.action_terms.specs.Frames.{Frame}
-use Rattle.action_sos.proofs.ClosedFrames.{length-closed_first}
-use Rattle.action_sos.proofs.FramesOpen.{IsGoingTree, inside-going_frames}
-use Rattle.action_sos.proofs.PartsPushed.{trees-going, height-trees}
+use Rattle.action_sos.proofs.CountedParts.{depth-frames}
+use Rattle.action_sos.proofs.KeptInMemory.{part_of-kept}
+use Rattle.action_sos.proofs.FramesOpen.{inside-going, inside-going_frames}
+use Rattle.action_sos.proofs.Climbing.{out-grown}
+use Rattle.action_sos.proofs.Growing.{open-count}
 
 none-open : (xs : List Step) → length xs ≡ 0 → xs ≡ []
 none-open [] e = refl
 none-open (x ∷ xs) e = absurd (omega (arith, e))
 
-pub at-end : (g : Lists) (ps : List Part) (w : World) (bound count : ℕ) → IsPerformer g ps w bound
-    → count ≡ length (steps_of (performing_of g ps w)) → count ≡ 0 ↔ IsEnd (performing_of g ps w).state.tree
-at-end g ps w bound count kept counted = (
-  λ e. never-stuck (action_in g) (performing_of g ps w).state kept.proper kept.sound (none-open (steps_of (performing_of g ps w)) (sym counted ∙ e)),
-  λ end. counted ∙ ap (λ t. length (open_steps (action_in g) (world_of w) t)) end.1,
+pub root-count : (g : Lists) (root : Option (Box Branch Global)) (w : World) → IsPerformer g root w → counted root ≡ length (steps_of (performing_of g root w))
+root-count g None w kept = absurd kept.grows
+root-count g (Some x) w kept = open-count (action_in g) (world_of w) x.value kept.grows
+
+pub at-end : (g : Lists) (root : Option (Box Branch Global)) (w : World) (count : ℕ) → IsPerformer g root w
+    → count ≡ length (steps_of (performing_of g root w)) → count ≡ 0 ↔ IsEnd (performing_of g root w).state.tree
+at-end g root w count kept many = (
+  λ e. never-stuck (action_in g) (performing_of g root w).state kept.proper kept.sound (none-open (steps_of (performing_of g root w)) (sym many ∙ e)),
+  λ end. many ∙ ap (λ t. length (open_steps (action_in g) (world_of w) t)) end.1,
 )
 
--- ---- what is answered of a tree that goes on
+-- ---- a branch that goes on
 
 positive : (n : ℕ) → n ≢ 0 → 0 < n
 positive zero h = absurd (h refl)
 positive (suc n) h = omega arith
 
-moved-going : (t : Tree) → IsGoingTree t → moved_to t ≡ moved.Went
-moved-going (Ended z) g = absurd g
-moved-going _ g = refl
+focus-going : (p : Part) (f : FocusAt) (x y : Tree) → IsCounted p → ((z : EndAt) → f ≡ focus.Ended z → p.depth ≢ 0) → IsGoingTree (inside (part_of p).frames (whole (focus_of f) x y))
+focus-going p (focus.Run k d b) x y counted framed = inside-going (part_of p).frames _ (part_of-kept p) tt
+focus-going p (focus.Parts k) x y counted framed = inside-going (part_of p).frames _ (part_of-kept p) tt
+focus-going p (focus.Ended z) x y counted framed =
+    inside-going_frames (part_of p).frames _ (subst (λ n. 0 < n) (depth-frames p counted) (positive p.depth (framed z refl))) (part_of-kept p)
 
-first-going : (ts : List Tree) → 0 < length ts → All IsGoingTree ts → IsGoingTree (first_tree ts)
-first-going [] h all = absurd (omega (arith, h))
-first-going (t ∷ ts) h all = All-head IsGoingTree t ts all
-
--- several parts are no end
-pub moved-several : (ps : List PartMeant) → IsTree ps → length ps ≢ 1 → moved_to (tree_of ps) ≡ moved.Went
-moved-several [] tree several =
-    let none : 0 ≡ 1 = same_Some 0 1 tree.one in
-    absurd (omega (arith, none))
-moved-several (p ∷ []) tree several = absurd (several refl)
-moved-several (p ∷ q ∷ ps) tree several =
-    let one = height-trees (p ∷ q ∷ ps) 1 tree.one in
-    moved-going (tree_of (p ∷ q ∷ ps)) (first-going (trees (p ∷ q ∷ ps)) (omega (arith, one)) (trees-going (p ∷ q ∷ ps) 1 tree.one (tree.going (omega arith)) tree.kept))
-
-framed-going : (fs : List Frame) (q : Focus) → raise q (Some 0) ≡ Some 1 → All IsKeptFrame fs → 0 < length fs → moved_to (first_tree (push_focus fs q [])) ≡ moved.Went
-framed-going fs (Leaf t) high kept framed = moved-going (inside fs t) (inside-going_frames fs t framed kept)
-framed-going fs (Parts k) high kept framed = cc
-
--- a part within frames is no end
-pub moved-framed : (ps : List Part) (d : Part) → IsTree (parts_of ps) → All IsCounted ps → length ps ≡ 1 → (get_or ps 0 d).depth ≢ 0 → moved_to (tree_of (parts_of ps)) ≡ moved.Went
-moved-framed [] d tree counted one framed = absurd (omega (arith, one))
-moved-framed (p ∷ q ∷ ps) d tree counted one framed = absurd (omega (arith, one))
-moved-framed (p ∷ []) d tree counted one framed =
-    let depth = (All-head IsCounted p [] counted).depth in
-    let same = length-closed_first p.closed (frames_of p.frames) in
-    let kept = All-head AreKept (part_of p) [] tree.kept in
-    framed-going (part_of p).frames (part_of p).focus tree.one kept (rw same (subst (λ n. 0 < n) depth (positive p.depth framed)))
+pub going-tree : (b : Branch) → IsCounted (out-Branch b).part → ((z : EndAt) → (out-Branch b).part.focus ≡ focus.Ended z → (out-Branch b).part.depth ≢ 0) → IsGoingTree (grown b)
+going-tree b counted framed =
+    subst IsGoingTree (sym (out-grown b)) (focus-going (out-Branch b).part (out-Branch b).part.focus (grown_of (out-Branch b).left) (grown_of (out-Branch b).right) counted framed)

@@ -20,17 +20,13 @@ use Rattle.action_sos.specs.declared.part.Frame.{Frame}
 use Rattle.action_sos.specs.declared.part.Focus.TheVariants as focus
 use Rattle.action_sos.specs.declared.part.Part.{Part}
 use Rattle.action_sos.proofs.FramesOpen.{IsTreeFrame-kept, open-inside, open-ended}
-use Rattle.action_sos.proofs.FrameCounts.{frames_steps-at_most}
-use Rattle.action_sos.proofs.CountedParts.{broken-frames}
+use Rattle.action_sos.proofs.CountedParts.{broken-frames, broken-less}
 use Rattle.action_sos.proofs.KeptInMemory.{frame_of-kept, part_of-kept}
 use Rattle.action_sos.proofs.SoundWithin.{inmost-sound, run-there}
 use Rattle.action_sos.proofs.PartWorlds.{empty_world, world_of, IsOutside-world_of}
 
 length-lifted : (h : Step → Step) (xs ys : List Step) → length (map h xs ++ ys) ≡ length xs + length ys
 length-lifted h xs ys = omega (arith, length-append (map h xs) ys, length-map xs h)
-
-pub broken-at_most : (p : Part) → IsCounted p → p.broken ≤ length (part_of p).frames
-broken-at_most p counted = omega (arith, broken-frames p counted, frames_steps-at_most (part_of p).frames)
 
 -- ---- a part whose node runs
 
@@ -58,10 +54,10 @@ module _ (g : Lists) (p : Part) (k : ℕ) (r : Received) (is : p.focus ≡ focus
   run-count w count counted e =
       omega (arith, e, broken-frames p counted, ap length (run-steps w), length-lifted (lifted (part_of p).frames) (node_steps g k r w) (frames_steps (part_of p).frames))
 
-  pub run-bound : (count : ℕ) → IsCounted p → ((w : World) → count ≡ length (node_steps g k r w)) → count + p.broken ≤ length (part_of p).frames + 2
-  run-bound count counted e =
+  pub run-bound : (count : ℕ) → ((w : World) → count ≡ length (node_steps g k r w)) → count + p.broken ≤ p.broken + 2
+  run-bound count e =
       let two : length (node_steps g k r empty_world) ≤ 2 = run_steps-at_most _ _ _ _ empty_world in
-      omega (arith, e empty_world, two, broken-at_most p counted)
+      omega (arith, e empty_world, two)
 
   pub run-room : (o : Outside) (count index : ℕ) → IsCounted p → ((w : World) → count ≡ length (node_steps g k r w)) → ((w : World) → IsOutside o w → index < length (part_steps (action_in g) w (part_of p)))
       → count ≤ index → index - count < p.broken
@@ -92,9 +88,8 @@ module _ (g : Lists) (p outer : Part) (f : Frame) (z : End) (is : p.focus ≡ fo
       → count ≤ index → index - count < outer.broken
   ended-room count index counted e there past = omega (arith, ended-count empty_world count counted (e empty_world), there empty_world, past)
 
-pub ended-bound : (p outer : Part) (f : Frame) (count : ℕ) → IsCounted outer → (part_of p).frames ≡ (part_of outer).frames ++ frame_of f ∷ [] → count ≤ 2 → count + outer.broken ≤ length (part_of p).frames + 2
-ended-bound p outer f count counted stands few =
-    omega (arith, few, broken-at_most outer counted, ap length stands, length-append (part_of outer).frames (frame_of f ∷ []))
+pub ended-bound : (p outer : Part) (f : Frame) (count : ℕ) → IsCounted p → IsCounted outer → (part_of p).frames ≡ (part_of outer).frames ++ frame_of f ∷ [] → count ≤ 2 → count + outer.broken ≤ p.broken + 2
+ended-bound p outer f count counted counted_outer stands few = omega (arith, few, broken-less p outer (frame_of f ∷ []) counted counted_outer stands)
 
 -- without frames nothing is left to do
 pub ended-bare : (g : Lists) (p : Part) (z : End) (index : ℕ) → p.focus ≡ focus.Ended z → (part_of p).frames ≡ [] → ((w : World) → index < length (part_steps (action_in g) w (part_of p))) → ⊥

@@ -29,7 +29,7 @@ use Rattle.action_sos.proofs.PlanCounts.{run-steps, ended-steps}
 
 -- ---- steps at a place
 
-has-step : (steps : List Step) (j : ℕ) (e : Effect) (t : Tree) (at : IsStepAt steps j e t) → HasStep steps j t e at.0.made
+pub has-step : (steps : List Step) (j : ℕ) (e : Effect) (t : Tree) (at : IsStepAt steps j e t) → HasStep steps j t e at.0.made
 has-step steps j e t at = record { step = at.0; at = at.1; tree_is = at.3; effect_is = at.2; made_is = refl }
 
 step-at : (steps : List Step) (j : ℕ) (e : Effect) (t : Tree) (made : List Made) → HasStep steps j t e made → IsStepAt steps j e t
@@ -39,7 +39,7 @@ lifted-at : (fs : List FrameMeant) (steps more : List Step) (j : ℕ) (e : Effec
     → IsStepAt (map (lifted fs) steps ++ more) j e (inside (map (shut_if (commits e)) fs) t)
 lifted-at fs steps more j e t at = step-at _ j e _ _ (HasStep-left (HasStep-lifted (has-step steps j e t at) fs) more)
 
-behind-at : (before steps : List Step) (i j : ℕ) (e : Effect) (t : Tree) → length before + j ≡ i → IsStepAt steps j e t → IsStepAt (before ++ steps) i e t
+pub behind-at : (before steps : List Step) (i j : ℕ) (e : Effect) (t : Tree) → length before + j ≡ i → IsStepAt steps j e t → IsStepAt (before ++ steps) i e t
 behind-at before steps i j e t sum at = subst (λ n. IsStepAt (before ++ steps) n e t) sum (step-at _ (length before + j) e t _ (HasStep-right (has-step steps j e t at) before))
 
 -- a step among those behind others

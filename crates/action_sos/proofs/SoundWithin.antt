@@ -6,28 +6,31 @@ use Rattle.action_terms.specs.Acting.{Tree, Run}
 use Rattle.action_terms.specs.Information.{Data, Binds}
 use Rattle.action_terms.specs.Nodes.{listed_node}
 use Rattle.action_terms.specs.Meaning.{node_with, items_from}
-use Rattle.action_terms.specs.Sound.{IsSoundTree}
+use Rattle.action_terms.specs.Sound.{Known, any_node, IsKnownTree, IsSoundTree}
 use Rattle.action_terms.specs.Frames.{Frame, InCalled, InParLeft, InParRight, InFirst, InSecond, InOr, InCut, InTrap, InOver, InTail, wrap}
 use Rattle.action_sos.specs.Parts.{inside}
 use Rattle.action_sos.specs.Moves.{listed_of, action_in}
 use Rattle.action_sos.specs.declared.moves.Lists.{Lists}
 use Rattle.action_sos.proofs.FramesOpen.{inside-behind}
 
-wrapped-sound : (a : Action) (f : Frame) (t : Tree) → IsSoundTree a (wrap f t) → IsSoundTree a t
-wrapped-sound a (InCalled c) t s = s.1
-wrapped-sound a (InParLeft k y) t s = s.1
-wrapped-sound a (InParRight k x) t s = s.2
-wrapped-sound a (InFirst k d b) t s = s.1
-wrapped-sound a (InSecond k d1 b1) t s = s.3
-wrapped-sound a (InOr k2 d b) t s = s.0
-wrapped-sound a InCut t s = s
-wrapped-sound a (InTrap k b) t s = s.1
-wrapped-sound a (InOver b) t s = s.0
-wrapped-sound a (InTail n) t s = s
+wrapped-known : (known : Known) (a : Action) (f : Frame) (t : Tree) → IsKnownTree known a (wrap f t) → IsKnownTree known a t
+wrapped-known known a (InCalled c) t s = s.1
+wrapped-known known a (InParLeft k y) t s = s.1
+wrapped-known known a (InParRight k x) t s = s.2
+wrapped-known known a (InFirst k d b) t s = s.1
+wrapped-known known a (InSecond k d1 b1) t s = s.3
+wrapped-known known a (InOr k2 d b) t s = s.0
+wrapped-known known a InCut t s = s
+wrapped-known known a (InTrap k b) t s = s.1
+wrapped-known known a (InOver b) t s = s.0
+wrapped-known known a (InTail n) t s = s
+
+pub inside-known : (known : Known) (a : Action) (fs : List Frame) (t : Tree) → IsKnownTree known a (inside fs t) → IsKnownTree known a t
+inside-known known a [] t s = s
+inside-known known a (f ∷ fs) t s = inside-known known a fs t (wrapped-known known a f (inside fs t) s)
 
 pub inside-sound : (a : Action) (fs : List Frame) (t : Tree) → IsSoundTree a (inside fs t) → IsSoundTree a t
-inside-sound a [] t s = s
-inside-sound a (f ∷ fs) t s = inside-sound a fs t (wrapped-sound a f (inside fs t) s)
+inside-sound a fs t s = inside-known (any_node a) a fs t s
 
 -- with the innermost frame
 pub inmost-sound : (a : Action) (fs : List Frame) (f : Frame) (t : Tree) → IsSoundTree a (inside (fs ++ f ∷ []) t) → IsSoundTree a (wrap f t)

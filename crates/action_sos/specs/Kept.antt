@@ -1,8 +1,8 @@
 -- What a performer keeps of its parts beside what they stand for.
-use Rattle.std.specs.Prelude.{◌≡◌, ℕ, ◌+◌, ◌≤◌, List, [], ◌∷◌, ◌++◌, length}
+use Rattle.std.specs.Prelude.{◌≡◌, ℕ, ◌≤◌, List, ◌∷◌, ◌++◌, length}
 use Rattle.action_terms.specs.Acting.{End}
 use Rattle.action_terms.specs.Frames.{Frame as FrameMeant}
-use Rattle.action_sos.specs.Parts.{Part as PartMeant, own_steps, frames_steps, IsBesideEnd, IsBroken}
+use Rattle.action_sos.specs.Parts.{own_steps, frames_steps, IsBesideEnd, IsBroken}
 use Rattle.action_sos.specs.Views.{frame_of, frames_of}
 use Rattle.action_sos.specs.declared.part.Frame.{Frame}
 use Rattle.action_sos.specs.declared.part.Part.{Part}
@@ -25,8 +25,3 @@ pub record IsBrokenOff (frames : List FrameMeant) (index : ℕ) (outer : List Fr
   pub beside : IsBesideEnd z frame
   pub broken : IsBroken z
   pub place : length (frames_steps inner) ≡ index
-
--- a bound for the number of open steps
-abbrev pub weight : List PartMeant → ℕ
-weight [] = 0
-weight (p ∷ ps) = length p.frames + 2 + weight ps

@@ -10,3 +10,5 @@ pub mod Schedules
 pub mod Running
 pub mod Made
 pub mod Ends
+pub mod Branches
+pub mod Taking

@@ -1,12 +1,11 @@
 -- What ends, frames and parts in memory stand for.
-use Rattle.std.specs.Prelude.{ℕ, zero, suc, true, List, [], ◌∷◌, ◌++◌, map}
+use Rattle.std.specs.Prelude.{ℕ, zero, suc, true, List, [], ◌∷◌, ◌++◌}
 use Rattle.action_terms.specs.Acting.{End as EndMeant, Done, Esc, Fail, Run, Ended}
 use Rattle.action_values.specs.Values.{data_of, bindings_of}
 use Rattle.action_terms.specs.Frames.{Frame as FrameMeant, InCalled, InParLeft, InParRight, InFirst, InSecond, InOr, InCut, InTrap, InOver, shut_if}
 use Rattle.action_sos.specs.Parts.{Focus as FocusMeant, Leaf, Parts, Part as PartMeant}
 use Rattle.action_sos.specs.declared.ends.End.{End}
 use Rattle.action_sos.specs.declared.ends.End.TheVariants as end
-use Rattle.action_sos.specs.declared.part.Side.{Side}
 use Rattle.action_sos.specs.declared.part.Side.TheVariants as side
 use Rattle.action_sos.specs.declared.part.Frame.{Frame}
 use Rattle.action_sos.specs.declared.part.Frame.TheVariants as frame
@@ -32,11 +31,6 @@ frame_of (frame.Over b) = InOver (bindings_of b.now)
 frame_of (frame.Beside k side.Left z) = InParRight k (Ended (end_of z))
 frame_of (frame.Beside k side.Right z) = InParLeft k (Ended (end_of z))
 
--- how many trees stand between a node of two parts and the part on this side: the right part stands first
-abbrev pub trees_between : Side → ℕ
-trees_between side.Right = 0
-trees_between side.Left = 1
-
 abbrev pub focus_of : Focus → FocusMeant
 focus_of (focus.Run k d b) = Leaf (Run k (data_of d.now) (bindings_of b.now))
 focus_of (focus.Ended z) = Leaf (Ended (end_of z))
@@ -59,6 +53,3 @@ closed_first (suc n) (f ∷ fs) = shut_if true f ∷ closed_first n fs
 
 abbrev pub part_of : Part → PartMeant
 part_of p = record { frames = closed_first p.closed (frames_of p.frames); focus = focus_of p.focus }
-
-abbrev pub parts_of : List Part → List PartMeant
-parts_of ps = map part_of ps

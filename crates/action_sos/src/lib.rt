@@ -2,19 +2,20 @@
 #![tactic(auto)]
 
 mod answers;
-mod changed;
+mod branch;
 mod compounds;
 mod end_steps;
 mod ends;
+mod grow;
 mod joins;
 mod moves;
 mod node_steps;
 mod part;
-mod parts;
 mod performer;
 mod plan;
 mod primitives;
 mod running;
+mod take;
 mod world;
 
 pub use answers::{Moved, Outcome};

@@ -193,6 +193,7 @@ impl<'a> Part<'a> {
     pub fn bare(focus: Focus<'a>) -> Part<'a>
         ensures part { part_of result ≡ record { frames = []; focus = focus_of focus.entry } }
         ensures counted { IsCounted result }
+        ensures none { result.broken ≡ 0 }
     {
         Part {
             frames: Frames::Outermost,
@@ -208,6 +209,7 @@ impl<'a> Part<'a> {
         requires counted { IsCounted self }
         ensures part { part_of result ≡ closes true (part_of self.entry) }
         ensures counted { IsCounted result }
+        ensures broken { result.broken ≡ self.entry.broken }
     {
         Part {
             closed: self.depth,
@@ -247,6 +249,7 @@ impl<'a> Part<'a> {
         requires counted { IsCounted self }
         ensures part { IfOk result (λ p. part_of p ≡ record { frames = (part_of self.entry).frames ++ frame_of frame.entry ∷ []; focus = (part_of self.entry).focus }) }
         ensures counted { IfOk result (λ p. IsCounted p) }
+        ensures broken { IfOk result (λ p. p.broken ≤ self.entry.broken + 1) }
     {
         let Some(depth) = self.depth.checked_add(1) else {
             return Err(Memory);

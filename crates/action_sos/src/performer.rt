@@ -1,17 +1,18 @@
 //! A performer: the performance of an action, a step at a time.
-ghost use Rattle.std.specs.Prelude.{◌≡◌, ◌<◌, ◌↔◌, IfOk, OnOk, OnErr, All, length};
+ghost use Rattle.std.specs.Prelude.{◌≡◌, ◌<◌, ◌≤◌, ◌↔◌, ◌+◌, ◌^◌, IfOk, OnOk, OnErr, length};
 ghost use Rattle.action_terms.specs.Performances.{start};
-ghost use Rattle.action_sos.specs.Parts.{IsTree, tree_of};
-ghost use Rattle.action_sos.specs.Views.{end_of, parts_of};
+ghost use Rattle.action_sos.specs.declared.branch.Branch.{out-Branch};
+ghost use Rattle.action_sos.specs.Views.{end_of};
 ghost use Rattle.action_sos.specs.Kept.{IsCounted};
+ghost use Rattle.action_sos.specs.Branches.{grown};
 ghost use Rattle.action_sos.specs.Performers.{steps_of, outcome_of, moved_to, IsEnd, Takes};
 
 use crate::answers::{Moved, Outcome};
-use crate::changed::changed;
+use crate::branch::{Branch, count_of};
 use crate::ends::End;
+use crate::grow::started;
 use crate::moves::{Lists, Received};
-use crate::part::{Focus, Part};
-use crate::plan::{count_of_parts, find_step, plan_of_part};
+use crate::take::{ended, take_step};
 use crate::world::World;
 use acg_base::Memory;
 use action_terms::Graph;
@@ -19,18 +20,20 @@ use bumpalo::Bump;
 use std::alloc::Global;
 use std::marker::Model;
 
+// with more open steps than this, those after a step might be too many to be counted
+const MOST: u64 = u64::MAX - 15;
+
 /// The performance of an action over the integers of an input, and how far it has come.
 ///
-/// Its acting tree is kept as the parts that run side by side, each within a stack of frames. A step costs about as much as there are
-/// such parts and the data that it moves, and not as much as the tree is deep.
+/// Its acting tree is kept as the parts that run side by side, each within a stack of frames, in a tree of their own. A step costs about
+/// the way from its root to the part and the data that the step moves: not as much as there are parts, nor as the acting tree is deep.
 #[derive(Drop)]
 pub struct Performer<'a> {
     alloc: Global,
     arena: &'a Bump,
     graph: Lists<'a>,
-    parts: Vec<Part<'a>>,
-    // no more steps than this stand open
-    bound: u64,
+    // there is one, but while a step is taken
+    root: Option<Box<Branch<'a>>>,
     world: World<'a>,
 }
 
@@ -44,9 +47,9 @@ impl<'a> Model for Performer<'a> {
 
     ghost coded = { Prim.hlevel (codes, datum_code, tree_code) };
 
-    ghost view = { λ p. performing_of p.graph p.parts.items p.world };
+    ghost view = { λ p. performing_of p.graph p.root p.world };
 
-    ghost invariant = { λ p. IsPerformer p.graph p.parts.items p.world p.bound };
+    ghost invariant = { λ p. IsPerformer p.graph p.root p.world };
 }
 
 // The outcome of an end.
@@ -60,22 +63,14 @@ fn outcome(end: End<'_>) -> Outcome
     }
 }
 
-// Whether the parts are an end, and which.
-fn moved(parts: &[Part<'_>]) -> Moved
-    requires tree { IsTree (parts_of parts.now) }
-    requires counted { All IsCounted parts.now }
-    ensures { result ≡ moved_to (tree_of (parts_of parts.now)) }
+// Whether the whole is an end, and which.
+fn moved(root: &Branch<'_>) -> Moved
+    requires { IsCounted (out-Branch root.now).part }
+    ensures { result ≡ moved_to (grown root.now) }
 {
-    if parts.len() != 1 {
-        return Moved::Went;
-    }
-    let part = parts[0];
-    if part.depth != 0 {
-        return Moved::Went;
-    }
-    match part.focus {
-        Focus::Ended(end) => Moved::Ended(outcome(end)),
-        _ => Moved::Went,
+    match ended(root) {
+        Some(end) => Moved::Ended(outcome(end)),
+        None => Moved::Went,
     }
 }
 
@@ -97,14 +92,12 @@ impl<'a> Performer<'a> {
             given: &[],
             bound: &[],
         };
-        let mut parts = Vec::new(alloc);
-        parts.push(Part::bare(Focus::run(0, received)))?;
+        let root = Box::new(alloc, started(lists, 0, received))?;
         Ok(Performer {
             alloc,
             arena,
             graph: lists,
-            parts,
-            bound: 2,
+            root: Some(root),
             world: World::new(alloc, input)?,
         })
     }
@@ -114,7 +107,7 @@ impl<'a> Performer<'a> {
         ensures count { result ≡ length (steps_of self.now) }
         ensures at_end { result ≡ 0 ↔ IsEnd self.now.state.tree }
     {
-        count_of_parts(self.graph, &self.parts)
+        count_of(&self.root)
     }
 
     /// Takes the open step with the index `choice`. After `Memory` the performer is as before.
@@ -123,24 +116,27 @@ impl<'a> Performer<'a> {
         ensures takes { OnOk result (Takes choice self.old self.new) }
         ensures moved { IfOk result (λ m. m ≡ moved_to self.new.state.tree) }
         ensures kept { OnErr result (self.new ≡ self.old) }
+        ensures few { OnOk result (length (steps_of self.old) + 16 ≤ 2 ^ 64) }
     {
-        if self.bound > u64::MAX - 4 {
+        let Some(root) = self.root.take() else {
+            unreachable!();
+        };
+        if root.count > MOST {
+            self.root = Some(root);
             return Err(Memory);
         }
-        let (place, index) = find_step(self.graph, &self.parts, choice);
-        let plan = plan_of_part(
+        let (root, taken) = take_step(
             self.alloc,
             self.arena,
             self.graph,
-            self.parts[place],
-            self.world.outside(),
-            index,
-        )?;
-        let parts = changed(self.alloc, self.arena, &self.parts, place, plan)?;
-        self.world.change(plan.change)?;
-        self.parts = parts;
-        self.bound += 4;
-        Ok(moved(&self.parts))
+            &mut self.world,
+            root,
+            choice,
+        );
+        let moved = moved(&root);
+        self.root = Some(root);
+        taken?;
+        Ok(moved)
     }
 
     /// The messages so far. Takes no memory.

@@ -1,10 +1,10 @@
 //! Which step of which part is taken, and what it makes of the part.
-ghost use Rattle.std.specs.Prelude.{◌≡◌, ℕ, suc, ◌+◌, ◌^◌, ◌<◌, ◌≤◌, All, length, drop, get_or, IfOk};
+ghost use Rattle.std.specs.Prelude.{◌≡◌, ◌+◌, ◌^◌, ◌<◌, ◌≤◌, length, IfOk};
 ghost use Rattle.action_terms.specs.Information.{World};
 ghost use Rattle.action_terms.specs.Proper.{IsProper};
-ghost use Rattle.action_sos.specs.Parts.{frames_steps, part_steps, open_count};
-ghost use Rattle.action_sos.specs.Views.{part_of, parts_of};
-ghost use Rattle.action_sos.specs.Kept.{IsCounted, weight};
+ghost use Rattle.action_sos.specs.Parts.{frames_steps, part_steps};
+ghost use Rattle.action_sos.specs.Views.{part_of};
+ghost use Rattle.action_sos.specs.Kept.{IsCounted};
 ghost use Rattle.action_sos.specs.Moves.{action_in, IsOutside};
 ghost use Rattle.action_sos.specs.Plans.{IsSoundPart, IsPlan, IsKeptPart};
 
@@ -32,9 +32,9 @@ pub struct Plan<'a> {
 fn count_of_ended(part: Part<'_>, end: End<'_>) -> u64
     requires counted { IsCounted part }
     requires focus { part.focus ≡ Focus.Ended end }
-    requires small { length (part_of part).frames + 2 < 2 ^ 64 }
+    requires small { part.broken + 2 < 2 ^ 64 }
     ensures count { (g : Lists) (w : World) → IsSoundPart (action_in g) (part_of part.entry) → result ≡ length (part_steps (action_in g) w (part_of part.entry)) }
-    ensures bound { result ≤ length (part_of part.entry).frames + 2 }
+    ensures bound { result ≤ part.entry.broken + 2 }
 {
     match part.split_inmost() {
         None => 0,
@@ -47,52 +47,15 @@ pub fn count_of_part(graph: Lists<'_>, part: Part<'_>) -> u64
     requires proper { IsProper (action_in graph) }
     requires counted { IsCounted part }
     requires sound { IsSoundPart (action_in graph) (part_of part) }
-    requires small { length (part_of part).frames + 2 < 2 ^ 64 }
+    requires small { part.broken + 2 < 2 ^ 64 }
     ensures count { (w : World) → result ≡ length (part_steps (action_in graph.entry) w (part_of part.entry)) }
-    ensures bound { result ≤ length (part_of part.entry).frames + 2 }
+    ensures bound { result ≤ part.entry.broken + 2 }
 {
     match part.focus {
         Focus::Run { node, .. } => count_of_node(graph, node) + part.broken as u64,
         Focus::Ended(end) => count_of_ended(part, end),
         Focus::Parts { .. } => part.broken as u64,
     }
-}
-
-/// How many steps all parts have.
-pub fn count_of_parts(graph: Lists<'_>, parts: &[Part<'_>]) -> u64
-    requires proper { IsProper (action_in graph) }
-    requires counted { All IsCounted parts.now }
-    requires sound { All (IsSoundPart (action_in graph)) (parts_of parts.now) }
-    requires small { weight (parts_of parts.now) < 2 ^ 64 }
-    ensures count { (w : World) → result ≡ open_count (action_in graph.entry) w (parts_of parts.now) }
-{
-    let mut count = 0;
-    for part in parts {
-        count += count_of_part(graph, *part);
-    }
-    count
-}
-
-/// The place of the part that has the open step with this index, and the index among the part's own steps.
-pub fn find_step(graph: Lists<'_>, parts: &[Part<'_>], choice: u64) -> (usize, u64)
-    requires proper { IsProper (action_in graph) }
-    requires counted { All IsCounted parts.now }
-    requires sound { All (IsSoundPart (action_in graph)) (parts_of parts.now) }
-    requires small { weight (parts_of parts.now) < 2 ^ 64 }
-    requires open { (w : World) → choice < open_count (action_in graph) w (parts_of parts.now) }
-    ensures place { result.0 < length parts.now }
-    ensures behind { (w : World) → choice ≡ open_count (action_in graph.entry) w (drop (suc result.0) (parts_of parts.now)) + result.1 }
-    ensures own { (w : World) (d : Part) → result.1 < length (part_steps (action_in graph.entry) w (part_of (get_or parts.now result.0 d))) }
-{
-    let mut index = choice;
-    for place in (0..parts.len()).rev() {
-        let count = count_of_part(graph, parts[place]);
-        if index < count {
-            return (place, index);
-        }
-        index -= count;
-    }
-    unreachable!()
 }
 
 // The step of this index among those of the frames around a part, each of which takes the end of a part beside.

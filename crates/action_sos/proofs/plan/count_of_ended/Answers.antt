@@ -4,7 +4,7 @@ use Rattle.action_sos.proofs.plan.count_of_ended.Goals as goal
 
 pub overflow_add-result : goal.overflow_add-result
 overflow_add-result c =
-    grind (arith, ended-bound c.args.part c.in-Some.around c.in-Some.frame c.count_of_end.result c.in-Some.ensures.counted c.in-Some.ensures.frames c.count_of_end.ensures.bound, c.requires.small)
+    grind (arith, ended-bound c.args.part c.in-Some.around c.in-Some.frame c.count_of_end.result c.requires.counted c.in-Some.ensures.counted c.in-Some.ensures.frames c.count_of_end.ensures.bound, c.requires.small)
 
 pub returns-in-Some-clause-count : goal.returns-in-Some-clause-count
 returns-in-Some-clause-count c g w sound =
@@ -16,4 +16,4 @@ returns-in-Some-clause-count c g w sound =
 
 pub returns-in-Some-clause-bound : goal.returns-in-Some-clause-bound
 returns-in-Some-clause-bound c =
-    ended-bound c.args.part c.in-Some.around c.in-Some.frame c.count_of_end.result c.in-Some.ensures.counted c.in-Some.ensures.frames c.count_of_end.ensures.bound
+    ended-bound c.args.part c.in-Some.around c.in-Some.frame c.count_of_end.result c.requires.counted c.in-Some.ensures.counted c.in-Some.ensures.frames c.count_of_end.ensures.bound

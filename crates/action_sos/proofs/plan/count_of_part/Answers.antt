@@ -1,7 +1,6 @@
-use Rattle.std.proofs.Common.{◌≤◌, length, arith}
-use Rattle.action_sos.specs.Views.{part_of}
+use Rattle.std.proofs.Common.{arith}
 use Rattle.action_sos.specs.declared.moves.Received.{Received}
-use Rattle.action_sos.proofs.PlanCounts.{run-count, run-bound, run-within, parent-count, broken-at_most}
+use Rattle.action_sos.proofs.PlanCounts.{run-count, run-bound, run-within, parent-count}
 use Rattle.action_sos.proofs.plan.count_of_part.Goals as goal
 
 pub count_of_node-requires-clause-there : goal.count_of_node-requires-clause-there
@@ -12,7 +11,7 @@ count_of_node-requires-clause-there c =
 pub overflow_add-result : goal.overflow_add-result
 overflow_add-result c =
     let r : Received = record { given = c.in-Run.given; bound = c.in-Run.bound } in
-    grind (arith, run-bound c.args.graph c.args.part c.in-Run.node r c.in-Run.is c.count_of_node.result c.requires.counted (c.count_of_node.ensures r), c.requires.small)
+    grind (arith, run-bound c.args.graph c.args.part c.in-Run.node r c.in-Run.is c.count_of_node.result (c.count_of_node.ensures r), c.requires.small)
 
 pub returns-in-Run-clause-count : goal.returns-in-Run-clause-count
 returns-in-Run-clause-count c w =
@@ -22,12 +21,7 @@ returns-in-Run-clause-count c w =
 pub returns-in-Run-clause-bound : goal.returns-in-Run-clause-bound
 returns-in-Run-clause-bound c =
     let r : Received = record { given = c.in-Run.given; bound = c.in-Run.bound } in
-    run-bound c.args.graph c.args.part c.in-Run.node r c.in-Run.is c.count_of_node.result c.requires.counted (c.count_of_node.ensures r)
+    run-bound c.args.graph c.args.part c.in-Run.node r c.in-Run.is c.count_of_node.result (c.count_of_node.ensures r)
 
 pub returns-in-Parts-clause-count : goal.returns-in-Parts-clause-count
 returns-in-Parts-clause-count c w = parent-count c.args.graph c.args.part c.in-Parts.node w c.in-Parts.is c.requires.counted
-
-pub returns-in-Parts-clause-bound : goal.returns-in-Parts-clause-bound
-returns-in-Parts-clause-bound c =
-    let few : c.args.part.broken ≤ length (part_of c.args.part).frames = broken-at_most c.args.part c.requires.counted in
-    omega (arith, few)

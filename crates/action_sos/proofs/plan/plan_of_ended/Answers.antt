@@ -1,5 +1,7 @@
-use Rattle.std.proofs.Common.{◌≡◌, length, arith}
+use Rattle.std.proofs.Common.{◌≡◌, [], ◌∷◌, length, arith}
+use Rattle.action_sos.specs.Views.{frame_of}
 use Rattle.action_sos.specs.Moves.{ended_steps}
+use Rattle.action_sos.proofs.CountedParts.{broken-less}
 use Rattle.action_sos.proofs.PlanCounts.{ended-sound, ended-room, ended-bare}
 use Rattle.action_sos.proofs.PlanSteps.{ended-plan, ended-break}
 use Rattle.action_sos.proofs.plan.plan_of_ended.Goals as goal
@@ -32,3 +34,19 @@ returns-clause-plan c w =
     let sound = ended-sound c.args.graph c.args.part c.in-Some.around c.in-Some.frame c.args.end c.requires.focus c.in-Some.ensures.frames c.requires.sound in
     ended-break c.args.graph c.args.part c.in-Some.around c.in-Some.frame c.args.end c.requires.focus c.in-Some.ensures.frames w c.args.index c.count_of_end-count.result c.plan_of_break.result
     (c.count_of_end-count.ensures.count c.args.graph w sound) c.if-index-count.false c.plan_of_break.ensures.plan
+
+pub returns-then-index-count-clause-kept : goal.returns-then-index-count-clause-kept
+returns-then-index-count-clause-kept c = record {
+  counted = c.in-Some.ensures.counted;
+  fewer = broken-less c.args.part c.in-Some.around (frame_of c.in-Some.frame ∷ []) c.requires.counted c.in-Some.ensures.counted c.in-Some.ensures.frames;
+}
+
+pub returns-clause-kept : goal.returns-clause-kept
+returns-clause-kept c = record {
+  counted = c.plan_of_break.ensures.kept.counted;
+  fewer = omega (
+    arith,
+    c.plan_of_break.ensures.kept.fewer,
+    broken-less c.args.part c.in-Some.around (frame_of c.in-Some.frame ∷ []) c.requires.counted c.in-Some.ensures.counted c.in-Some.ensures.frames,
+  );
+}
