@@ -7,13 +7,18 @@ use Rattle.action_terms.specs.Actions.{Join, Chain, Node, Both, Phases, Stray, A
 use Rattle.rv_codegen.specs.Blocks.{first_label, front_of, with_exits, exits_from, exits_of}
 use Rattle.rv_codegen.proofs.NodeParts.{IsPartOf}
 
+-- the parts of a node that performs both are two
+abbrev pub PartsApart : Node → Type 0
+PartsApart (Both j l r) = l ≢ r
+PartsApart (Phases q l r) = l ≢ r
+PartsApart _ = Unit {0}
+
 -- the parts of an action's nodes make a tree: each is a node behind its own, and of one node alone
 pub record HasTree (a : Action) : Type 0 where
   pub within : (k c : ℕ) (n : Node) → slice_get a k ≡ Some n → IsPartOf n c → c < length a
   pub after : (k c : ℕ) (n : Node) → slice_get a k ≡ Some n → IsPartOf n c → k < c
   pub one_parent : (j k c : ℕ) (m n : Node) → slice_get a j ≡ Some m → slice_get a k ≡ Some n → IsPartOf m c → IsPartOf n c → j ≡ k
-  pub both_apart : (k l r : ℕ) (q : Join) → slice_get a k ≡ Some (Both q l r) → l ≢ r
-  pub phases_apart : (k l r : ℕ) (q : Chain) → slice_get a k ≡ Some (Phases q l r) → l ≢ r
+  pub apart : (k : ℕ) (n : Node) → slice_get a k ≡ Some n → PartsApart n
 
 length-with_exits : (n : Node) (k : ℕ) (exits : List ℕ) → length (with_exits n k exits) ≡ length exits
 length-with_exits (Both j l r) k exits = length-set (set exits l (front_of r)) r (get_or exits k 0) ∙ length-set exits l (front_of r)
@@ -101,10 +106,10 @@ module _ (a : Action) (tree : HasTree a) where
       record { first = exit_l; second = exit_r ∙ sym exit_k }
 
   pub both-exits : (k l r : ℕ) (q : Join) → slice_get a k ≡ Some (Both q l r) → PartExits k l r
-  both-exits k l r q e = part-exits k l r (Both q l r) e (inl refl) (inr refl) (tree.both_apart k l r q e) (λ then. refl)
+  both-exits k l r q e = part-exits k l r (Both q l r) e (inl refl) (inr refl) (tree.apart k (Both q l r) e) (λ then. refl)
 
   pub phases-exits : (k l r : ℕ) (q : Chain) → slice_get a k ≡ Some (Phases q l r) → PartExits k l r
-  phases-exits k l r q e = part-exits k l r (Phases q l r) e (inl refl) (inr refl) (tree.phases_apart k l r q e) (λ then. refl)
+  phases-exits k l r q e = part-exits k l r (Phases q l r) e (inl refl) (inr refl) (tree.apart k (Phases q l r) e) (λ then. refl)
 
   pub root-exit : 0 < length a → get_or (exits_of a) 0 0 ≡ front_of (length a)
   root-exit some =

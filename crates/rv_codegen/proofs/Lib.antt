@@ -3,7 +3,6 @@ pub mod Fresh
 pub mod ExitLaws
 pub mod NodesLaws
 pub mod Loading
-pub mod ListedParts
 pub mod GraphNodes
 pub mod Unbuilt
 pub mod Yielders
