@@ -74,7 +74,8 @@ impl Asm {
         requires unmarked { is_mark item ≡ false }
         requires sound { IsSound item }
         requires names { NamesBelow self.old.labels item }
-        ensures ok { OnOk result (self.new ≡ record self.old { items = self.old.items ++ item ∷ [] }) }
+        ensures ok { OnOk result
+            (self.new ≡ record self.old { items = self.old.items ++ item ∷ [] }) }
         ensures err { OnErr result (self.new ≡ self.old) }
     {
         let _known: Option<Inst> = None;
@@ -97,7 +98,8 @@ impl Asm {
     /// Appends an instruction.
     pub fn emit(&mut self, inst: Inst) -> Result<(), Memory>
         requires { IsTrue (is_in_format inst) }
-        ensures ok { OnOk result (self.new ≡ record self.old { items = self.old.items ++ Plain inst ∷ [] }) }
+        ensures ok { OnOk result
+            (self.new ≡ record self.old { items = self.old.items ++ Plain inst ∷ [] }) }
         ensures err { OnErr result (self.new ≡ self.old) }
     {
         self.append(Item::Plain(inst))?;
@@ -107,7 +109,8 @@ impl Asm {
     /// Appends a jump to a label: two words, which may change register 31.
     pub fn jump(&mut self, label: Label) -> Result<(), Memory>
         requires { label < self.old.labels }
-        ensures ok { OnOk result (self.new ≡ record self.old { items = self.old.items ++ Jump label ∷ [] }) }
+        ensures ok { OnOk result
+            (self.new ≡ record self.old { items = self.old.items ++ Jump label ∷ [] }) }
         ensures err { OnErr result (self.new ≡ self.old) }
     {
         self.append(Item::Jump(label))?;
@@ -118,7 +121,8 @@ impl Asm {
     /// register 31.
     pub fn branch(&mut self, op: BranchOp, rs1: Reg, rs2: Reg, label: Label) -> Result<(), Memory>
         requires { label < self.old.labels }
-        ensures ok { OnOk result (self.new ≡ record self.old { items = self.old.items ++ BranchTo op rs1 rs2 label ∷ [] }) }
+        ensures ok { OnOk result
+            (self.new ≡ record self.old { items = self.old.items ++ BranchTo op rs1 rs2 label ∷ [] }) }
         ensures err { OnErr result (self.new ≡ self.old) }
     {
         self.append(Item::BranchTo(op, rs1, rs2, label))?;
@@ -129,7 +133,8 @@ impl Asm {
     pub fn address(&mut self, rd: Reg, label: Label) -> Result<(), Memory>
         requires rd { rd ≢ 0 }
         requires label { label < self.old.labels }
-        ensures ok { OnOk result (self.new ≡ record self.old { items = self.old.items ++ Address rd label ∷ [] }) }
+        ensures ok { OnOk result
+            (self.new ≡ record self.old { items = self.old.items ++ Address rd label ∷ [] }) }
         ensures err { OnErr result (self.new ≡ self.old) }
     {
         self.append(Item::Address(rd, label))?;
@@ -140,7 +145,8 @@ impl Asm {
     /// their end.
     pub fn finish(self) -> Result<Code, Memory>
         requires { 4 * total self.items < 1073741824 }
-        ensures words { IfOk result (λ code. map Some code.words.items ≡ map encode (code_of self.items)) }
+        ensures words { IfOk result
+            (λ code. map Some code.words.items ≡ map encode (code_of self.items)) }
         ensures size { IfOk result (λ code. vec_len code.words ≡ total self.items) }
 
         // What a machine that runs these words does at the items.

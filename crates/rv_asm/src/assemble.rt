@@ -73,7 +73,8 @@ fn branch_over(op: BranchOp, rs1: Reg, rs2: Reg) -> Inst
 // Appends the word of an instruction.
 fn append(words: &mut Vec<u32>, instruction: Inst) -> Result<(), AllocError>
     requires { IsTrue (is_in_format instruction) }
-    ensures words { OnOk result (map Some words.new.items ≡ map Some words.old.items ++ encode instruction ∷ []) }
+    ensures words { OnOk result (map Some words.new.items
+        ≡ map Some words.old.items ++ encode instruction ∷ []) }
     ensures len { OnOk result (vec_len words.new ≡ vec_len words.old + 1) }
 {
     match encode(instruction) {
@@ -90,7 +91,8 @@ fn append(words: &mut Vec<u32>, instruction: Inst) -> Result<(), AllocError>
 fn append_jump(words: &mut Vec<u32>, to: u32) -> Result<(), AllocError>
     requires from { vec_len words.old + 2 ≤ 2 ^ 28 }
     requires to { to < 2 ^ 28 }
-    ensures words { OnOk result (map Some words.new.items ≡ map Some words.old.items ++ map encode (far_jump (vec_len words.old) to)) }
+    ensures words { OnOk result (map Some words.new.items
+        ≡ map Some words.old.items ++ map encode (far_jump (vec_len words.old) to)) }
     ensures len { OnOk result (vec_len words.new ≡ vec_len words.old + 2) }
 {
     let far = distance(words.len() as u32, to);
@@ -103,7 +105,8 @@ fn append_jump(words: &mut Vec<u32>, to: u32) -> Result<(), AllocError>
 fn append_address(words: &mut Vec<u32>, rd: Reg, to: u32) -> Result<(), AllocError>
     requires from { vec_len words.old + 2 ≤ 2 ^ 28 }
     requires to { to < 2 ^ 28 }
-    ensures words { OnOk result (map Some words.new.items ≡ map Some words.old.items ++ map encode (far_address rd (vec_len words.old) to)) }
+    ensures words { OnOk result (map Some words.new.items
+        ≡ map Some words.old.items ++ map encode (far_address rd (vec_len words.old) to)) }
     ensures len { OnOk result (vec_len words.new ≡ vec_len words.old + 2) }
 {
     let far = distance(words.len() as u32, to);
@@ -118,7 +121,9 @@ fn append_item(words: &mut Vec<u32>, spots: &[u32], item: Item) -> Result<(), Al
     requires labels { NamesBelow (length spots.now) item }
     requires room { vec_len words.old + size item < 2 ^ 28 }
     requires spots { (l : ℕ) → l < length spots.now → slice_index spots.now l < 2 ^ 28 }
-    ensures words { OnOk result (map Some words.new.items ≡ map Some words.old.items ++ map encode (instructions (slice_index spots.now) (vec_len words.old) item)) }
+    ensures words { OnOk result (map Some words.new.items
+        ≡ map Some words.old.items
+        ++ map encode (instructions (slice_index spots.now) (vec_len words.old) item)) }
     ensures len { OnOk result (vec_len words.new ≡ vec_len words.old + size item) }
 {
     match item {

@@ -111,9 +111,11 @@ pub fn copy_words(
 ) -> Result<(), Memory>
     requires from { from + n ≤ 256 }
     requires to { to + n ≤ 256 }
-    ensures ok { OnOk result (asm.new ≡ appended asm.old (copy_words n scratch source from target to)) }
+    ensures ok { OnOk result
+        (asm.new ≡ appended asm.old (copy_words n scratch source from target to)) }
     ensures copies { OnOk result (CopiesWords n scratch source from target to asm.old asm.new) }
-    ensures err { OnErr result (AppendsFrontOf (copy_words n scratch source from target to) asm.old asm.new) }
+    ensures err { OnErr result
+        (AppendsFrontOf (copy_words n scratch source from target to) asm.old asm.new) }
 {
     for i in 0..n {
         asm.emit(Inst::Load {

@@ -25,7 +25,8 @@ pub(crate) fn spots(alloc: Global, items: &[Item], labels: usize) -> Result<Vec<
     requires size { total items.now < 2 ^ 28 }
     requires labels { All (NamesBelow labels) items.now }
     ensures len { IfOk result (λ spots. vec_len spots ≡ labels) }
-    ensures spots { IfOk result (λ spots. (l : ℕ) → l < labels → slice_index spots.items l ≡ spot items.now l) }
+    ensures spots { IfOk result (λ spots. (l : ℕ) → l < labels
+        → slice_index spots.items l ≡ spot items.now l) }
 {
     let mut before = total_words(items);
     let mut spots = vec![in alloc; before; labels]?;

@@ -1,15 +1,16 @@
 -- The code of an action whose nodes are built has all that is asked of it: no node has data or bindings, and none is called.
-use Rattle.std.proofs.Common.{◌≡◌, ℕ, suc, ◌+◌, ◌-◌, ◌*◌, ◌^◌, ◌<◌, ◌≤◌, ℤ, true, false, List, [], ◌++◌, length, get_or, Option, Some, None, refl, sym, ap, ◌∙◌, subst, arith, inl, inr}
+use Rattle.std.proofs.Common.{◌≡◌, ℕ, suc, ◌+◌, ◌-◌, ◌*◌, ◌<◌, ◌≤◌, ℤ, true, false, List, [], ◌++◌, length, get_or, Option, Some, None, refl, sym, ap, ◌∙◌, subst, arith, inl, inr}
 use Rattle.std.specs.Prelude.{slice_get}
 use Rattle.std.proofs.lemmas.Option.{slice_get-get_or, slice_get_within}
 use Rattle.rv_asm.specs.Arrivals.{LabelsStand}
 use Rattle.rv_asm.specs.Assembly.{address_of, total, spot, code_of}
-use Rattle.rv_asm.specs.Conventions.{integer_word, region_address, region_size, region_words}
+use Rattle.rv_asm.specs.Conventions.{region_address, region_size, region_words}
 use Rattle.rv_asm.specs.Pieces.{exit_with}
 use Rattle.rv_asm.specs.WordMachine.{Has}
 use Rattle.rv_asm.proofs.Labels.{length-code}
 use Rattle.rv_asm.proofs.Regions.{compiled-below}
-use Rattle.action_terms.specs.Actions.{NumberLiteral, And, AndThen, Complete, Send, Join, Chain, Then, Hence, Before, Moreover, Node, Simple, Both, Phases, Either, Trapping, Action, node_at, node_or_stray}
+use Rattle.action_terms.specs.Actions.{And, AndThen, Complete, Join, Chain, Then, Hence, Before, Moreover, Node, Simple, Both, Phases, Either, Trapping, Action, node_at, node_or_stray}
+use Rattle.action_terms.specs.Literals.{NumbersFit}
 use Rattle.action_terms.specs.Need.{node_yielder_count}
 use Rattle.rv_codegen.specs.Blocks.{first_label, start_of, exits_of, action_items, opening, goes, body}
 use Rattle.rv_codegen.specs.RightImage.{Subject}
@@ -27,7 +28,7 @@ use Rattle.rv_codegen.proofs.Walk.{Cursor, way-stands}
 pub record IsCompilable (a : Action) : Type 0 where
   pub tree : HasTree a
   pub built : (k : ℕ) (n : Node) → slice_get a k ≡ Some n → is_built_node n ≡ true
-  pub fits : (k : ℕ) (z : ℤ) → slice_get a k ≡ Some (Simple (Send (NumberLiteral z))) → integer_word z < 2 ^ 64
+  pub numbers : NumbersFit a
   pub some : 0 < length a
 
 -- ---- nodes that are there
@@ -206,7 +207,7 @@ module _ (x : Subject) (ok : IsCompilable x.action) (labels : LabelsStand (actio
     labels = labels;
     each = each;
     built = λ k h. ok.built k (node_at x.action k) (here k h);
-    fits = λ k z e. ok.fits k z (node-there k (Simple (Send (NumberLiteral z))) e tt);
+    numbers = ok.numbers;
     within = λ k h. omega (arith, within k h);
     none = λ k p e. record { out = refl; bound_out = refl };
     closed = λ h. h;

@@ -1,22 +1,18 @@
 -- The image of the code that is generated for a graph is right.
-use Rattle.std.proofs.Common.{◌≡◌, ℕ, zero, suc, ◌^◌, ◌+◌, ◌*◌, ◌<◌, ◌≤◌, ℤ, List, [], ◌∷◌, length, map, Option, Some, Result, Ok, Err, IfOk, OnOk, sym, ap, ◌∙◌, subst, arith}
-use Rattle.std.specs.Prelude.{slice_get, IfSome}
-use Rattle.std.specs.Int.{w64}
-use Rattle.std.proofs.Math.Facts.{Fits-of_z}
+use Rattle.std.proofs.Common.{◌≡◌, ℕ, zero, suc, ◌+◌, ◌*◌, ◌≤◌, List, [], ◌∷◌, length, map, Some, Result, Ok, Err, IfOk, OnOk, sym, ap, ◌∙◌, subst, arith}
 use Rattle.std.proofs.Math.Nat.{mul-le-mul_left}
 use Rattle.rv_code.specs.Encode.{encode}
 use Rattle.rv_asm.specs.Arrivals.{LabelsStand}
 use Rattle.rv_asm.specs.Assembly.{code_of, spot, total}
-use Rattle.rv_asm.specs.Conventions.{instruction_bytes, code_bytes, integer_word}
+use Rattle.rv_asm.specs.Conventions.{instruction_bytes, code_bytes}
 use Rattle.rv_asm.proofs.Encodings.{words-encoded}
 use Rattle.rv_asm.proofs.Labels.{length-code}
 use Rattle.rv_asm.proofs.Places.{length-code_bytes}
-use Rattle.action_terms.specs.Actions.{NumberLiteral, Send, Simple, Node, Action, node_at}
-use Rattle.action_terms.specs.Literals.{NodeFits, NumbersFit}
+use Rattle.action_terms.specs.Actions.{Action, node_at}
+use Rattle.action_terms.specs.Literals.{NumbersFit}
 use Rattle.action_terms.specs.Meaning.{action_of}
 use Rattle.action_terms.specs.Need.{node_yielder_count, most_yielders, factor}
 use Rattle.action_terms.specs.Numbering.{Listed, IsGraph}
-use Rattle.action_terms.proofs.AllLaws.{All-at}
 use Rattle.action_terms.proofs.GraphLaws.{length-nodes_some, length-nodes_few}
 use Rattle.rv_codegen.specs.Blocks.{action_items}
 use Rattle.rv_codegen.specs.Measures.{subject_of, node_count}
@@ -48,17 +44,11 @@ factor-covers w z n y a b =
     omega (arith, first, second)
 
 module _ (g : Listed) (graph : IsGraph g) (numbers : NumbersFit (action_of g)) (none : unbuilt (action_of g) ≡ []) where
-  -- an integer that is sent is one of 64 bits
-  sent-fits : (k : ℕ) (z : ℤ) → slice_get (action_of g) k ≡ Some (Simple (Send (NumberLiteral z))) → integer_word z < 2 ^ 64
-  sent-fits k z e =
-      let P : Option Node → Type 0 = λ o. IfSome o NodeFits in
-      (Fits-of_z {w = w64} {z = z} (subst P e (All-at NodeFits (action_of g) k numbers))).fits
-
   compilable : IsCompilable (action_of g)
   compilable = record {
     tree = tree-of-graph g graph;
     built = λ k n e. built-of-graph (action_of g) none k n e;
-    fits = sent-fits;
+    numbers = numbers;
     some = omega (arith, length-action_of g, length-nodes_some g graph);
   }
 

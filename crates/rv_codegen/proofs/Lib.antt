@@ -34,6 +34,7 @@ pub mod Joins
 pub mod Ending
 pub mod SendEntry
 pub mod Sending
+pub mod NumberWords
 pub mod Turns
 pub mod Compiling
 pub mod Right

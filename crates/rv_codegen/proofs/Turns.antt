@@ -1,9 +1,8 @@
 -- The machine performs the action: from each rest point a stretch of code leads to the next, or to the exit.
-use Rattle.std.proofs.Common.{◌≡◌, ℕ, ◌^◌, ◌<◌, ℤ, true, false, List, [], ◌∷◌, refl, sym, ap, ◌∙◌, subst, arith, inl, inr, append-nil}
+use Rattle.std.proofs.Common.{◌≡◌, ℕ, ◌<◌, true, false, List, [], ◌∷◌, refl, sym, ap, ◌∙◌, subst, arith, inl, inr, append-nil}
 use Rattle.std.proofs.Math.Nat.{mul-le-mul_left}
 use Rattle.rv_asm.specs.Arrivals.{LabelsStand}
 use Rattle.rv_asm.specs.Assembly.{address_of}
-use Rattle.rv_asm.specs.Conventions.{integer_word}
 use Rattle.rv_asm.specs.DataWords.{Heap}
 use Rattle.rv_asm.specs.Pieces.{exit_with}
 use Rattle.rv_asm.specs.WordMachine.{WordState, Has}
@@ -11,6 +10,7 @@ use Rattle.rv_asm.proofs.Calls.{before_exit, before_exit-runs, exit-stops}
 use Rattle.rv_asm.proofs.Moments.{quiet-stop}
 use Rattle.action_terms.specs.Information.{Binds, Data, World}
 use Rattle.action_terms.specs.Actions.{NumberLiteral, And, AndThen, Primitive, Complete, Failing, Send, Node, Simple, Enact, Apply, Unfolding, Unfold, Furthermore, Both, Phases, Either, Trapping, Branch, node_at}
+use Rattle.action_terms.specs.Literals.{NodeFits, NumbersFit}
 use Rattle.action_terms.specs.Acting.{Done, End, Esc, Fail, Tree, Run, Ended}
 use Rattle.action_terms.specs.Performances.{messages_bytes}
 use Rattle.action_terms.specs.Steps.{Step, failed}
@@ -24,6 +24,7 @@ use Rattle.rv_codegen.proofs.Ending.{LeavesNone, complete-goes, fail-goes}
 use Rattle.rv_codegen.proofs.InputLeft.{Left}
 use Rattle.rv_codegen.proofs.Joins.{both-start, left-done, right-done}
 use Rattle.rv_codegen.proofs.NodeParts.{IsNode, IsTailOf, Calls, tail-part, part-node}
+use Rattle.rv_codegen.proofs.NumberWords.{node-fits, word-fits}
 use Rattle.rv_codegen.proofs.Phases.{phases-start, first-done, second-done}
 use Rattle.rv_codegen.proofs.RestPoints.{Laid, RestsAt, RunsAt, DoneAt, FailsAt, EscapesAt, IsAt, GoesOn, Starting, StartGoesOn}
 use Rattle.rv_codegen.proofs.Sending.{send-goes}
@@ -52,7 +53,7 @@ module _ (s : Setting) where
     pub labels : LabelsStand s.items
     pub each : (k : ℕ) → IsNode (node_at s.action k) → NodeStands s.items s.exits k (node_at s.action k)
     pub built : (k : ℕ) → IsNode (node_at s.action k) → is_built_node (node_at s.action k) ≡ true
-    pub fits : (k : ℕ) (z : ℤ) → node_at s.action k ≡ Simple (Send (NumberLiteral z)) → integer_word z < 2 ^ 64
+    pub numbers : NumbersFit s.action
     pub within : (k : ℕ) → IsNode (node_at s.action k) → stop_of k < s.labels
     -- the primitives that are built leave nothing, and no alternatives or traps are opened
     pub none : (k : ℕ) (p : Primitive) → node_at s.action k ≡ Simple p → LeavesNone s k
@@ -80,7 +81,7 @@ module _ (s : Setting) where
     run-goes : (x : Starting s) (n : Node) → node_at s.action x.k ≡ n → NodeStands s.items s.exits x.k n → is_built_node n ≡ true → StartGoesOn s x
     run-goes x (Simple Complete) e stands b = complete-goes s it.laid x it.labels (omega (arith, it.within x.k x.runs.here.node)) (it.none x.k Complete e) e stands
     run-goes x (Simple Failing) e stands b = fail-goes s it.laid x e stands
-    run-goes x (Simple (Send (NumberLiteral z))) e stands b = send-goes s it.laid it.send x it.closed it.labels (it.within x.k x.runs.here.node) (it.none x.k (Send (NumberLiteral z)) e) z (it.fits x.k z e) e stands
+    run-goes x (Simple (Send (NumberLiteral z))) e stands b = send-goes s it.laid it.send x it.closed it.labels (it.within x.k x.runs.here.node) (it.none x.k (Send (NumberLiteral z)) e) z (word-fits z (subst NodeFits e (node-fits s.action x.k it.numbers))) e stands
     run-goes x (Both And l r) e stands b = both-start s it.laid x And l r e
     run-goes x (Phases AndThen l r) e stands b = phases-start s it.laid x AndThen l r e
     run-goes x _ e stands b = absurd (let r : false ≡ true = b in cc)
