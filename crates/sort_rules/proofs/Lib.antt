@@ -47,3 +47,10 @@ pub mod ComputedTables
 pub mod Misfits
 pub mod InSort
 pub mod Listing
+pub mod ItemsJudged
+pub mod AskedLaws
+pub mod Reaches
+pub mod HoldLaws
+pub mod MarkedLaws
+pub mod NodeWalks
+pub mod ValueMembers

@@ -9,11 +9,12 @@ use Rattle.action_terms.specs.Actions.{Them, Yielder}
 use Rattle.action_terms.specs.Forms.{HasArguments, IsDatum, IsYielderView, item_viewed, yielder_at, yielder_in}
 use Rattle.action_terms.specs.Need.{yielder_count}
 use Rattle.action_terms.specs.Numbering.{Listed, ListedYielder}
+use Rattle.action_terms.specs.Steps.{closures_in}
 use Rattle.action_terms.specs.declared.view.YielderView.{YielderView}
 use Rattle.action_terms.specs.declared.view.YielderView.TheVariants as yielder
 use Rattle.sort_rules.specs.Judgements.{Judgement, judgement}
 use Rattle.sort_rules.specs.Parts.{Part}
-use Rattle.sort_rules.specs.Postorder.{arguments_of, judged_by, judged_by_all}
+use Rattle.sort_rules.specs.Postorder.{arguments_of, listed_closures, own_closures, judged_by, judged_by_all}
 
 -- how many yielders are still to be listed
 abbrev pub left_count : List ListedYielder → List ℕ → ℕ
@@ -117,3 +118,49 @@ module _ (g : Listed) (left rest left2 : List ℕ) (next : ℕ) (views views2 : 
 
   pub listed-data : All (IsDatum g.yielders) rest → All (IsDatum g.yielders) left2
   listed-data h = subst (All (IsDatum g.yielders)) (sym put) (All-append (IsDatum g.yielders) rest (arguments_of v) h (arguments-data g next v view datum))
+
+-- ---- closures
+
+-- the closures in yielders by number
+abbrev pub closures_at : List ListedYielder → List ℕ → List ℕ
+closures_at ls [] = []
+closures_at ls (y ∷ ys) = closures_in (yielder_at ls y) ++ closures_at ls ys
+
+closures_at-append : (ls : List ListedYielder) (xs ys : List ℕ) → closures_at ls (xs ++ ys) ≡ closures_at ls xs ++ closures_at ls ys
+closures_at-append ls [] ys = refl
+closures_at-append ls (x ∷ xs) ys = ap (λ (zs : List ℕ). closures_in (yielder_at ls x) ++ zs) (closures_at-append ls xs ys) ∙ sym (append_assoc (closures_in (yielder_at ls x)) (closures_at ls xs) (closures_at ls ys))
+
+-- those in a yielder, the last one first: its own, and those in its arguments
+closures-next : (ls : List ListedYielder) (v : YielderView) → (item_viewed ls v ≡ Them → ⊥) → reverse (closures_in (yielder_in (item_viewed ls v))) ≡ own_closures v ++ reverse (closures_at ls (arguments_of v))
+closures-next ls (yielder.Number n) f = refl
+closures-next ls (yielder.Truth b) f = refl
+closures-next ls yielder.Them f = absurd (f refl)
+closures-next ls (yielder.Given s) f = refl
+closures-next ls (yielder.GivenAt s n) f = refl
+closures-next ls (yielder.BoundTo s t) f = refl
+closures-next ls (yielder.StoredIn s y) f = ap reverse (sym (append-nil (closures_in (yielder_at ls y))))
+closures-next ls (yielder.OnTwo o y1 y2) f = ap (λ (zs : List ℕ). reverse (closures_in (yielder_at ls y1) ++ zs)) (sym (append-nil (closures_in (yielder_at ls y2))))
+closures-next ls (yielder.OnOne o y) f = ap reverse (sym (append-nil (closures_in (yielder_at ls y))))
+closures-next ls (yielder.ClosureOf k) f = refl
+
+module _ (g : Listed) (left rest left2 : List ℕ) (next : ℕ) (views views2 : List YielderView) (v : YielderView) (view : IsYielderView g next v) (datum : IsDatum g.yielders next)
+    (taken : left ≡ rest ++ next ∷ []) (put : left2 ≡ rest ++ arguments_of v) (listed : views2 ≡ views ++ v ∷ []) where
+  pub listed-closures : (m : List ℕ)
+      → ((more : List YielderView) → listed_closures more ≡ reverse (closures_at g.yielders left) → listed_closures (views ++ more) ≡ m)
+      → (more : List YielderView) → listed_closures more ≡ reverse (closures_at g.yielders left2) → listed_closures (views2 ++ more) ≡ m
+  listed-closures m inv more e =
+      let ls = g.yielders in
+      let before : List ℕ = closures_at g.yielders rest in
+      let own : List ℕ = closures_at g.yielders (arguments_of v) in
+      let new : reverse (closures_at g.yielders left2) ≡ reverse (closures_at g.yielders (arguments_of v)) ++ reverse (closures_at g.yielders rest) =
+      ap (λ (zs : List ℕ). reverse (closures_at g.yielders zs)) put ∙ ap reverse (closures_at-append g.yielders rest (arguments_of v)) ∙ reverse-append (closures_at g.yielders rest) (closures_at g.yielders (arguments_of v)) in
+      let old : reverse (closures_at g.yielders left) ≡ reverse (closures_in (yielder_at g.yielders next)) ++ reverse (closures_at g.yielders rest) =
+      ap (λ (zs : List ℕ). reverse (closures_at g.yielders zs)) taken ∙ ap reverse (closures_at-append g.yielders rest (next ∷ [])) ∙ reverse-append (closures_at g.yielders rest) (closures_at g.yielders (next ∷ []))
+      ∙ ap (λ (zs : List ℕ). reverse zs ++ reverse (closures_at g.yielders rest)) (append-nil (closures_in (yielder_at g.yielders next))) in
+      let here : reverse (closures_in (yielder_at g.yielders next)) ≡ own_closures v ++ reverse (closures_at g.yielders (arguments_of v)) =
+      ap (λ (y : Yielder). reverse (closures_in y)) (viewed g next v view datum) ∙ closures-next g.yielders v (no_them g next v view datum) in
+      let step : listed_closures (v ∷ more) ≡ reverse (closures_at g.yielders left) =
+      ap (λ (zs : List ℕ). own_closures v ++ zs) (e ∙ new)
+      ∙ sym (append_assoc (own_closures v) (reverse (closures_at g.yielders (arguments_of v))) (reverse (closures_at g.yielders rest)))
+      ∙ sym (old ∙ ap (λ (zs : List ℕ). zs ++ reverse (closures_at g.yielders rest)) here) in
+      ap (λ (vs : List YielderView). listed_closures (vs ++ more)) listed ∙ ap listed_closures (append-one views v more) ∙ inv (v ∷ more) step

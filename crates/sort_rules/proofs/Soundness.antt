@@ -1,9 +1,9 @@
 -- The laws of admissible tables.
 use Rattle.std.proofs.Common.{List, refl, ℕ}
 use Rattle.action_terms.specs.Actions.{Action, node_at}
-use Rattle.sort_rules.specs.Admissible.{IsAdmissible, IsLeast}
+use Rattle.sort_rules.specs.Admissible.{IsAdmissible}
 use Rattle.sort_rules.specs.Soundness.{EndsInShape, NodesRunInSort, UnionsComplete}
-use Rattle.sort_rules.specs.Tables.{IsUnder, MarkedTable}
+use Rattle.sort_rules.specs.Tables.{MarkedTable}
 use Rattle.sort_rules.proofs.OperandsYield.{yielders_block}
 use Rattle.sort_rules.proofs.Shapes.{completes_in_shape, enters_in_shape, escapes_in_shape, united_completes}
 use Rattle.sort_rules.proofs.SoundStates.{stands}
@@ -24,7 +24,3 @@ ends_in_shape a t h w k = record {
 
 pub unions_complete : (a : Action) (t : MarkedTable) → UnionsComplete a t
 unions_complete a t = λ w b b2 x y f g e. united_completes f g e
-
--- two least tables lie below each other
-pub least-unique : (a : Action) (t u : MarkedTable) → IsLeast a t → IsLeast a u → IsUnder t u
-least-unique a t u h g = h.least u g.admissible

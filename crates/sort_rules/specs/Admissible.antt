@@ -36,6 +36,10 @@ pub record IsAdmissible (a : Action) (t : MarkedTable) : Type 0 where
   pub meets : Meets a t
   pub clear : (k : ℕ) → IsClear t k
 
+-- the action has an admissible table
+abbrev pub IsWellSorted : Action → Type 0
+IsWellSorted a = (t : MarkedTable) × IsAdmissible a t
+
 -- the admissible table that lies below every admissible one
 pub record IsLeast (a : Action) (t : MarkedTable) : Type 0 where
   pub admissible : IsAdmissible a t

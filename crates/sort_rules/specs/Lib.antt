@@ -21,3 +21,6 @@ pub mod Views
 pub mod TokenOrder
 pub mod Puts
 pub mod MarkedRows
+pub mod DemandViews
+pub mod Reached
+pub mod Asked

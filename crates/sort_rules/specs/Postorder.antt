@@ -1,5 +1,5 @@
 -- A yielder as the list of the yielders in it, each before its arguments, the second argument's before the first's: from its end, it is evaluated with a stack.
-use Rattle.std.specs.Prelude.{ℕ, List, [], ◌∷◌}
+use Rattle.std.specs.Prelude.{ℕ, List, [], ◌∷◌, ◌++◌}
 use Rattle.action_terms.specs.Forms.{two_viewed, one_viewed}
 use Rattle.action_terms.specs.declared.view.YielderView.{YielderView}
 use Rattle.action_terms.specs.declared.view.YielderView.TheVariants as yielder
@@ -46,3 +46,13 @@ arguments_of (yielder.StoredIn s y) = y ∷ []
 arguments_of (yielder.OnTwo f y1 y2) = y1 ∷ y2 ∷ []
 arguments_of (yielder.OnOne f y) = y ∷ []
 arguments_of _ = []
+
+-- the body of a closure
+abbrev pub own_closures : YielderView → List ℕ
+own_closures (yielder.ClosureOf k) = k ∷ []
+own_closures _ = []
+
+-- the bodies of the closures in a list of yielders
+abbrev pub listed_closures : List YielderView → List ℕ
+listed_closures [] = []
+listed_closures (v ∷ vs) = own_closures v ++ listed_closures vs

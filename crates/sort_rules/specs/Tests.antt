@@ -1,10 +1,11 @@
 -- Tests of the order of parts, and of the demands at a node.
-use Rattle.std.specs.Prelude.{ℕ, Bool, true, false, ◌&&◌, List, [], ◌∷◌}
+use Rattle.std.specs.Prelude.{ℕ, zero, suc, Bool, true, false, ◌&&◌, List, [], ◌∷◌}
 use Rattle.action_terms.specs.Actions.{Action}
 use Rattle.sort_rules.specs.Numbers.{are_listed}
 use Rattle.sort_rules.specs.Sets.{Set}
 use Rattle.sort_rules.specs.Parts.{Component, Part, Unreached, Listed, Clash, same_token}
-use Rattle.sort_rules.specs.Tables.{MarkedTable}
+use Rattle.sort_rules.specs.Tables.{BindsIn, DataIn, MarkedTable}
+use Rattle.sort_rules.specs.Values.{nothing}
 use Rattle.sort_rules.specs.Demands.{Demand, ◌⊒◌, demands}
 
 -- not the first without the second
@@ -42,3 +43,12 @@ are_met t (d ∷ ds) = is_met t d && are_met t ds
 -- whether the demands at node k hold
 abbrev pub holds : Action → MarkedTable → ℕ → Bool
 holds a t k = are_met t (demands a t k)
+
+-- whether the root's demand is met: it is given nothing and receives nothing
+abbrev pub root_is_met : MarkedTable → Bool
+root_is_met t = are_met t (DataIn 0 ⊒ nothing ∷ BindsIn 0 ⊒ nothing ∷ [])
+
+-- whether the demands at the first so many nodes hold
+abbrev pub all_hold : Action → MarkedTable → (nodes : ℕ) → Bool
+all_hold a t zero = true
+all_hold a t (suc k) = holds a t k && all_hold a t k

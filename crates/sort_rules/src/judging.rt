@@ -1,11 +1,12 @@
 //! Whether a yielder of a graph fits, and what it may yield.
-ghost use Rattle.std.specs.Prelude.{◌≡◌, ◌∷◌, IfOk, OnOk, map, reverse};
+ghost use Rattle.std.specs.Prelude.{◌≡◌, ◌∷◌, ◌++◌, IfOk, OnOk, map, reverse};
 ghost use Rattle.action_terms.specs.Forms.{IsDatum, yielder_at, one_viewed, two_viewed};
+ghost use Rattle.action_terms.specs.Steps.{closures_in};
 ghost use Rattle.sort_rules.specs.Sets.{closures_of_body};
 ghost use Rattle.sort_rules.specs.Parts.{join};
 ghost use Rattle.sort_rules.specs.Values.{all_contents, stored_value};
 ghost use Rattle.sort_rules.specs.Judgements.{judgement, stored_judged, one_judged, two_judged};
-ghost use Rattle.sort_rules.specs.Postorder.{judged_by, settled, on_one_judged, on_two_judged};
+ghost use Rattle.sort_rules.specs.Postorder.{judged_by, listed_closures, settled, on_one_judged, on_two_judged};
 ghost use Rattle.sort_rules.specs.MarkedRows.{contents_in};
 ghost use Rattle.sort_rules.specs.Views.{set_of, marked_tuple_of, marked_binds_of, value_part, judgement_of};
 
@@ -64,7 +65,8 @@ fn content<'a>(
     rows: &[MarkedRow<'a>],
     cell: Value<'a>,
 ) -> Result<Value<'a>, AllocError>
-    ensures { IfOk result (λ r. value_part r ≡ stored_value (contents_in rows.now) (value_part cell.entry)) }
+    ensures { IfOk result (λ r. value_part r
+        ≡ stored_value (contents_in rows.now) (value_part cell.entry)) }
 {
     match cell {
         Value::Unreached => Ok(Value::Unreached),
@@ -85,14 +87,15 @@ fn settled(set: Set<'_>) -> Judged<'_>
 
 // puts a judgement on the stack
 fn push<'a>(stack: &mut Vec<Judged<'a>>, judged: Judged<'a>) -> Result<(), Memory>
-    ensures { OnOk result (map judgement_of (reverse stack.new.items) ≡ judgement_of judged.entry ∷ map judgement_of (reverse stack.old.items)) }
+    ensures { OnOk result (map judgement_of (reverse stack.new.items) ≡ judgement_of judged.entry
+        ∷ map judgement_of (reverse stack.old.items)) }
 {
     stack.push(judged)?;
     Ok(())
 }
 
-// the closures of a body
-fn closures_of<'a>(arena: &'a Bump, body: u32) -> Result<Set<'a>, Memory>
+/// The closures of a body.
+pub fn closures_of<'a>(arena: &'a Bump, body: u32) -> Result<Set<'a>, Memory>
     ensures { IfOk result (λ r. set_of r ≡ closures_of_body body) }
 {
     let bodies = arena.try_alloc_slice_copy(&[body])?;
@@ -106,7 +109,9 @@ fn judge_stored<'a>(
     sort: Sort,
     stack: &mut Vec<Judged<'a>>,
 ) -> Result<(), Memory>
-    ensures { OnOk result (map judgement_of (reverse stack.new.items) ≡ on_one_judged (stored_judged (contents_in rows.now) sort) (map judgement_of (reverse stack.old.items))) }
+    ensures { OnOk result (map judgement_of (reverse stack.new.items)
+        ≡ on_one_judged (stored_judged (contents_in rows.now) sort)
+        (map judgement_of (reverse stack.old.items))) }
 {
     let Some(cell) = stack.pop() else {
         return Ok(());
@@ -117,7 +122,9 @@ fn judge_stored<'a>(
 
 // judges an operation on one datum
 fn judge_one<'a>(operation: One, stack: &mut Vec<Judged<'a>>) -> Result<(), Memory>
-    ensures { OnOk result (map judgement_of (reverse stack.new.items) ≡ on_one_judged (one_judged (one_viewed operation)) (map judgement_of (reverse stack.old.items))) }
+    ensures { OnOk result (map judgement_of (reverse stack.new.items)
+        ≡ on_one_judged (one_judged (one_viewed operation))
+        (map judgement_of (reverse stack.old.items))) }
 {
     let Some(argument) = stack.pop() else {
         return Ok(());
@@ -127,7 +134,9 @@ fn judge_one<'a>(operation: One, stack: &mut Vec<Judged<'a>>) -> Result<(), Memo
 
 // judges an operation on two data
 fn judge_two<'a>(operation: Two, stack: &mut Vec<Judged<'a>>) -> Result<(), Memory>
-    ensures { OnOk result (map judgement_of (reverse stack.new.items) ≡ on_two_judged (two_judged (two_viewed operation)) (map judgement_of (reverse stack.old.items))) }
+    ensures { OnOk result (map judgement_of (reverse stack.new.items)
+        ≡ on_two_judged (two_judged (two_viewed operation))
+        (map judgement_of (reverse stack.old.items))) }
 {
     let Some(second) = stack.pop() else {
         return Ok(());
@@ -145,7 +154,9 @@ fn judge_next<'a>(
     view: YielderView<'a>,
     stack: &mut Vec<Judged<'a>>,
 ) -> Result<(), Memory>
-    ensures { OnOk result (map judgement_of (reverse stack.new.items) ≡ judged_by (contents_in context.now.rows.now) (marked_tuple_of context.now.g) (marked_binds_of context.now.h) view.entry (map judgement_of (reverse stack.old.items))) }
+    ensures { OnOk result (map judgement_of (reverse stack.new.items)
+        ≡ judged_by (contents_in context.now.rows.now) (marked_tuple_of context.now.g)
+        (marked_binds_of context.now.h) view.entry (map judgement_of (reverse stack.old.items))) }
 {
     match view {
         YielderView::Number(_) => push(stack, settled(atoms(true, false))),
@@ -161,18 +172,37 @@ fn judge_next<'a>(
     }
 }
 
-/// What the yielder of this number may yield, and whether it fits.
+/// Puts the bodies of the closures among the yielders behind a list.
+pub fn push_closures(closures: &mut Vec<u32>, views: &[YielderView<'_>]) -> Result<(), Memory>
+    ensures { OnOk result (closures.new.items ≡ closures.old.items ++ listed_closures views.now) }
+{
+    for i in 0..views.len() {
+        if let YielderView::ClosureOf { body } = views[i] {
+            closures.push(body)?;
+        }
+    }
+    Ok(())
+}
+
+/// What the yielder of this number may yield, and whether it fits. The bodies of the closures in it
+/// are put behind a list, the last one first.
 pub fn judge<'a>(
     alloc: Global,
     arena: &'a Bump,
     graph: &Graph<'a>,
     context: &Context<'_, 'a>,
     number: u32,
+    closures: &mut Vec<u32>,
 ) -> Result<Judged<'a>, Memory>
     requires { IsDatum graph.now.yielders number }
-    ensures { IfOk result (λ j. judgement_of j ≡ judgement (contents_in context.now.rows.now) (marked_tuple_of context.now.g) (marked_binds_of context.now.h) (yielder_at graph.now.yielders number)) }
+    ensures judged { IfOk result (λ j. judgement_of j
+        ≡ judgement (contents_in context.now.rows.now) (marked_tuple_of context.now.g)
+        (marked_binds_of context.now.h) (yielder_at graph.now.yielders number)) }
+    ensures closures { OnOk result (closures.new.items ≡ closures.old.items
+        ++ reverse (closures_in (yielder_at graph.now.yielders number))) }
 {
     let views = listed(alloc, graph, number)?;
+    push_closures(closures, views.as_slice())?;
     let mut stack = Vec::new(alloc);
     for i in (0..views.len()).rev() {
         judge_next(arena, context, views[i], &mut stack)?;

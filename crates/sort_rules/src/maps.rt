@@ -91,7 +91,8 @@ fn joined<'a>(
     xs: &'a [BoundSet<'a>],
     ys: &'a [BoundSet<'a>],
 ) -> Result<MarkedBinds<'a>, AllocError>
-    ensures { IfOk result (λ r. marked_binds_of r ≡ joined_components (map pair_of xs.now) (map pair_of ys.now)) }
+    ensures { IfOk result (λ r. marked_binds_of r
+        ≡ joined_components (map pair_of xs.now) (map pair_of ys.now)) }
 {
     if xs.len() != ys.len() {
         return Ok(MarkedBinds::Clash);
@@ -115,7 +116,8 @@ pub fn join<'a>(
     x: MarkedBinds<'a>,
     y: MarkedBinds<'a>,
 ) -> Result<MarkedBinds<'a>, AllocError>
-    ensures { IfOk result (λ r. marked_binds_of r ≡ join (marked_binds_of x.entry) (marked_binds_of y.entry)) }
+    ensures { IfOk result (λ r. marked_binds_of r
+        ≡ join (marked_binds_of x.entry) (marked_binds_of y.entry)) }
 {
     match (x, y) {
         (MarkedBinds::Unreached, _) => Ok(y),
@@ -128,9 +130,11 @@ pub fn join<'a>(
 // the place where the token stands, or else where it is to be put in
 fn place(pairs: &[BoundSet<'_>], token: &[u8]) -> Result<usize, usize>
     ensures bound_in { IfOk result (λ i. i < length pairs.now) }
-    ensures bound_at { IfOk result (λ i. Puts pairs.now token.now (take i pairs.now) (drop (suc i) pairs.now)) }
+    ensures bound_at { IfOk result (λ i. Puts pairs.now token.now (take i pairs.now)
+        (drop (suc i) pairs.now)) }
     ensures in_range { IfErr result (λ i. i ≤ length pairs.now) }
-    ensures put_at { IfErr result (λ i. Puts pairs.now token.now (take i pairs.now) (drop i pairs.now)) }
+    ensures put_at { IfErr result (λ i. Puts pairs.now token.now (take i pairs.now)
+        (drop i pairs.now)) }
 {
     for i in 0..pairs.len() {
         let pair = pairs[i];
@@ -145,7 +149,8 @@ fn place(pairs: &[BoundSet<'_>], token: &[u8]) -> Result<usize, usize>
 
 // binds a token in the list
 fn put<'a>(list: &mut Vec<BoundSet<'a>, &'a Bump>, pair: BoundSet<'a>) -> Result<(), AllocError>
-    ensures { OnOk result (map pair_of list.new.items ≡ bind_component (pair_of pair.entry) (map pair_of list.old.items)) }
+    ensures { OnOk result (map pair_of list.new.items
+        ≡ bind_component (pair_of pair.entry) (map pair_of list.old.items)) }
 {
     match place(list.as_slice(), pair.0) {
         Ok(i) => list[i] = pair,
@@ -160,7 +165,8 @@ fn overlaid<'a>(
     under: &'a [BoundSet<'a>],
     over: &'a [BoundSet<'a>],
 ) -> Result<&'a [BoundSet<'a>], AllocError>
-    ensures { IfOk result (λ r. map pair_of r.now ≡ overlaid_components (map pair_of under.now) (map pair_of over.now)) }
+    ensures { IfOk result (λ r. map pair_of r.now
+        ≡ overlaid_components (map pair_of under.now) (map pair_of over.now)) }
 {
     if under.is_empty() {
         return Ok(over);
@@ -193,7 +199,8 @@ pub fn overlay<'a>(
     x: MarkedBinds<'a>,
     y: MarkedBinds<'a>,
 ) -> Result<MarkedBinds<'a>, AllocError>
-    ensures { IfOk result (λ r. marked_binds_of r ≡ overlay (marked_binds_of x.entry) (marked_binds_of y.entry)) }
+    ensures { IfOk result (λ r. marked_binds_of r
+        ≡ overlay (marked_binds_of x.entry) (marked_binds_of y.entry)) }
 {
     match (x, y) {
         (MarkedBinds::Unreached, _) | (_, MarkedBinds::Unreached) => Ok(MarkedBinds::Unreached),
@@ -211,7 +218,8 @@ fn united<'a>(
     xs: &'a [BoundSet<'a>],
     ys: &'a [BoundSet<'a>],
 ) -> Result<MarkedBinds<'a>, AllocError>
-    ensures { IfOk result (λ r. marked_binds_of r ≡ apart (map pair_of xs.now) (map pair_of ys.now)) }
+    ensures { IfOk result (λ r. marked_binds_of r
+        ≡ apart (map pair_of xs.now) (map pair_of ys.now)) }
 {
     if meet(xs, ys) {
         return Ok(MarkedBinds::Clash);
@@ -226,7 +234,8 @@ pub fn union<'a>(
     x: MarkedBinds<'a>,
     y: MarkedBinds<'a>,
 ) -> Result<MarkedBinds<'a>, AllocError>
-    ensures { IfOk result (λ r. marked_binds_of r ≡ union (marked_binds_of x.entry) (marked_binds_of y.entry)) }
+    ensures { IfOk result (λ r. marked_binds_of r
+        ≡ union (marked_binds_of x.entry) (marked_binds_of y.entry)) }
 {
     match (x, y) {
         (MarkedBinds::Unreached, _) | (_, MarkedBinds::Unreached) => Ok(MarkedBinds::Unreached),

@@ -1,10 +1,11 @@
 //! The yielders in a yielder, one after the other.
-ghost use Rattle.std.specs.Prelude.{ℕ, ◌≡◌, [], ◌∷◌, ◌++◌, length, IfOk, OnOk};
+ghost use Rattle.std.specs.Prelude.{ℕ, ◌≡◌, [], ◌∷◌, ◌++◌, length, reverse, IfOk, OnOk};
 ghost use Rattle.action_terms.specs.Forms.{IsDatum, yielder_at};
 ghost use Rattle.action_terms.specs.Need.{yielder_count};
+ghost use Rattle.action_terms.specs.Steps.{closures_in};
 ghost use Rattle.sort_rules.specs.Parts.{Part};
 ghost use Rattle.sort_rules.specs.Judgements.{judgement};
-ghost use Rattle.sort_rules.specs.Postorder.{judged_by_all, arguments_of};
+ghost use Rattle.sort_rules.specs.Postorder.{judged_by_all, listed_closures, arguments_of};
 
 use action_terms::{Graph, YielderView};
 use std::alloc::{AllocError, Global};
@@ -17,8 +18,13 @@ pub fn listed<'a>(
     number: u32,
 ) -> Result<Vec<YielderView<'a>>, AllocError>
     requires { IsDatum graph.now.yielders number }
-    ensures judged { IfOk result (λ views. (c : ℕ → Part) → (g : Part) → (h : Part) → judged_by_all c g h views.items ≡ judgement c g h (yielder_at graph.now.yielders number) ∷ []) }
-    ensures count { IfOk result (λ views. length views.items ≡ yielder_count (yielder_at graph.now.yielders number)) }
+    ensures judged { IfOk result (λ views. (c : ℕ → Part) → (g : Part) → (h : Part)
+        → judged_by_all c g h views.items ≡ judgement c g h (yielder_at graph.now.yielders number)
+        ∷ []) }
+    ensures closures { IfOk result (λ views. listed_closures views.items
+        ≡ reverse (closures_in (yielder_at graph.now.yielders number))) }
+    ensures count { IfOk result (λ views. length views.items
+        ≡ yielder_count (yielder_at graph.now.yielders number)) }
 {
     let mut left = Vec::new(alloc);
     let mut views = Vec::new(alloc);

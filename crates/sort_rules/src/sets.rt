@@ -51,7 +51,8 @@ pub fn is_empty(x: Set<'_>) -> bool
 
 /// The integers, the truth-values, or both.
 pub fn atoms(integer: bool, truth: bool) -> Set<'static>
-    ensures { set_of result ≡ record { integer = integer; truth = truth; cells = []; abstractions = [] } }
+    ensures { set_of result ≡ record
+        { integer = integer; truth = truth; cells = []; abstractions = [] } }
 {
     Set {
         integer,
@@ -65,7 +66,8 @@ pub fn atoms(integer: bool, truth: bool) -> Set<'static>
 pub fn numbered<'a>(cells: &'a [u32], abstractions: &'a [u32]) -> Set<'a>
     requires cells { IsTrue (ascends cells.now) }
     requires abstractions { IsTrue (ascends abstractions.now) }
-    ensures { set_of result ≡ record { integer = false; truth = false; cells = cells.now; abstractions = abstractions.now } }
+    ensures { set_of result ≡ record
+        { integer = false; truth = false; cells = cells.now; abstractions = abstractions.now } }
 {
     Set {
         integer: false,

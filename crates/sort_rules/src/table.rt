@@ -1,11 +1,17 @@
 //! Tables of sorts: what each action node may be given, receive, complete and escape with.
-ghost use Rattle.std.specs.Prelude.{◌≡◌, ◌<◌, ◌≤◌, length, max, slice_get, Some};
+ghost use Rattle.std.specs.Prelude.{◌≡◌, ◌<◌, ◌≤◌, length, max, slice_get, Some, IfOk};
+ghost use Rattle.sort_rules.specs.Tables.{Entry};
+ghost use Rattle.sort_rules.specs.MarkedRows.{marked_table};
 ghost use Rattle.sort_rules.specs.Rows.{IsTable, unmarked, row_length};
 ghost use Rattle.sort_rules.specs.Shapes.{part_length};
 ghost use Rattle.sort_rules.specs.Measures.{width};
 ghost use Rattle.sort_rules.specs.Views.{set_of, tuple_of, binds_of, row_of, sort_table};
 
+use crate::marking::marked_rows;
+use crate::rows::MarkedRow;
 use crate::set::Set;
+use acg_base::Memory;
+use std::alloc::Global;
 use std::cmp::max;
 use std::marker::Model;
 
@@ -119,6 +125,15 @@ impl<'a> Table<'a> {
         ensures contents { slice_get self.now.contents node ≡ Some (set_of result) }
     {
         self.contents[node as usize]
+    }
+
+    /// Its rows and contents in a marked table, where no mark is set.
+    pub fn marked_rows(&self, alloc: Global) -> Result<Vec<MarkedRow<'a>>, Memory>
+        ensures rows { IfOk result (λ rows. (x : Entry) → marked_table rows.items x
+            ≡ unmarked self.now x) }
+        ensures table { IsTable self.now }
+    {
+        marked_rows(alloc, self.rows, self.contents)
     }
 
     /// The greatest length of a tuple or of bindings.

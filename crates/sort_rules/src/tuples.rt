@@ -44,7 +44,8 @@ fn joined<'a>(
     xs: &'a [Set<'a>],
     ys: &'a [Set<'a>],
 ) -> Result<MarkedTuple<'a>, AllocError>
-    ensures { IfOk result (λ r. marked_tuple_of r ≡ joined_components (map place_of xs.now) (map place_of ys.now)) }
+    ensures { IfOk result (λ r. marked_tuple_of r
+        ≡ joined_components (map place_of xs.now) (map place_of ys.now)) }
 {
     if xs.len() != ys.len() {
         return Ok(MarkedTuple::Clash);
@@ -63,7 +64,8 @@ pub fn join<'a>(
     x: MarkedTuple<'a>,
     y: MarkedTuple<'a>,
 ) -> Result<MarkedTuple<'a>, AllocError>
-    ensures { IfOk result (λ r. marked_tuple_of r ≡ join (marked_tuple_of x.entry) (marked_tuple_of y.entry)) }
+    ensures { IfOk result (λ r. marked_tuple_of r
+        ≡ join (marked_tuple_of x.entry) (marked_tuple_of y.entry)) }
 {
     match (x, y) {
         (MarkedTuple::Unreached, _) => Ok(y),
@@ -79,7 +81,8 @@ fn appended<'a>(
     xs: &'a [Set<'a>],
     ys: &'a [Set<'a>],
 ) -> Result<MarkedTuple<'a>, AllocError>
-    ensures { IfOk result (λ r. marked_tuple_of r ≡ limited (map place_of xs.now ++ map place_of ys.now)) }
+    ensures { IfOk result (λ r. marked_tuple_of r
+        ≡ limited (map place_of xs.now ++ map place_of ys.now)) }
 {
     let count = xs.len() + ys.len();
     if count > MOST_COMPONENTS {
@@ -103,7 +106,8 @@ pub fn concatenation<'a>(
     x: MarkedTuple<'a>,
     y: MarkedTuple<'a>,
 ) -> Result<MarkedTuple<'a>, AllocError>
-    ensures { IfOk result (λ r. marked_tuple_of r ≡ concatenation (marked_tuple_of x.entry) (marked_tuple_of y.entry)) }
+    ensures { IfOk result (λ r. marked_tuple_of r
+        ≡ concatenation (marked_tuple_of x.entry) (marked_tuple_of y.entry)) }
 {
     match (x, y) {
         (MarkedTuple::Unreached, _) | (_, MarkedTuple::Unreached) => Ok(MarkedTuple::Unreached),

@@ -109,7 +109,8 @@ pub fn given_at<'a>(sort: Sort, place: u32, g: MarkedTuple<'a>) -> Judged<'a>
 
 /// Of `the S bound to T`, where this is received.
 pub fn bound_to<'a>(sort: Sort, token: &[u8], h: MarkedBinds<'a>) -> Judged<'a>
-    ensures { judgement_of result ≡ looked_up sort (lookup_set token.now) (marked_binds_of h.entry) }
+    ensures { judgement_of result ≡ looked_up sort (lookup_set token.now)
+        (marked_binds_of h.entry) }
 {
     match h {
         MarkedBinds::Unreached => nothing(),
@@ -159,8 +160,12 @@ pub fn is_no_clash(value: Value<'_>) -> bool
 /// Of what is stored in a cell, from the judgement of the cell and what its cells may hold.
 #[tactic(auto, using(crate::proofs::Misfits::misfits))]
 pub fn stored<'a>(sort: Sort, cell: Judged<'a>, content: Value<'a>) -> Judged<'a>
-    ensures value { value_part result.value ≡ on_list (λ ps. found sort (first_set ps)) (value_part content.entry) }
-    ensures wrong { misfit_unless result.fits ≡ join (misfit_unless cell.entry.fits) (join (strays Sort.Cell (value_part cell.entry.value)) (strays sort (value_part content.entry))) }
+    ensures value { value_part result.value ≡ on_list
+        (λ ps. found sort (first_set ps)) (value_part content.entry) }
+    ensures wrong { misfit_unless result.fits
+        ≡ join (misfit_unless cell.entry.fits)
+        (join (strays Sort.Cell (value_part cell.entry.value))
+        (strays sort (value_part content.entry))) }
 {
     let value = match content {
         Value::Unreached => Value::Unreached,
@@ -182,7 +187,8 @@ fn both_lie(sort: Sort, x: Value<'_>, y: Value<'_>) -> bool
 // whether the arguments of an operation on two data are of the sorts that it wants
 #[tactic(auto, using(crate::proofs::Misfits::misfits))]
 fn two_fit(operation: Two, x: Value<'_>, y: Value<'_>) -> bool
-    ensures { misfit_unless result ≡ misfit_two (two_viewed operation) (value_part x.entry) (value_part y.entry) }
+    ensures { misfit_unless result ≡ misfit_two (two_viewed operation) (value_part x.entry)
+        (value_part y.entry) }
 {
     match operation {
         Two::Is => {
@@ -228,7 +234,8 @@ fn where_reached<'a>(x: Value<'_>, value: Value<'a>) -> Value<'a>
 /// Of an operation on two data.
 #[tactic(auto, using(crate::proofs::Misfits::misfits))]
 pub fn on_two<'a>(operation: Two, x: Judged<'a>, y: Judged<'a>) -> Judged<'a>
-    ensures { judgement_of result ≡ two_judged (two_viewed operation) (judgement_of x.entry) (judgement_of y.entry) }
+    ensures { judgement_of result ≡ two_judged (two_viewed operation) (judgement_of x.entry)
+        (judgement_of y.entry) }
 {
     let value = Value::One(result_of_two(operation));
     Judged {
