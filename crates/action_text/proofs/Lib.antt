@@ -42,5 +42,6 @@ pub mod SpacedTokens
 pub mod DueItems
 pub mod LabelsOfNodes
 pub mod PrintWalk
+mod ViewLabels
 pub mod PrintedGraphs
 pub mod ReadableGraphs

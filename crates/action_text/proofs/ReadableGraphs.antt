@@ -1,22 +1,24 @@
 -- The text of a graph without a branch is read as that graph.
-use Rattle.std.proofs.Common.{◌≡◌, ◌≢◌, ℕ, ◌+◌, ◌<◌, List, [], ◌∷◌, ◌++◌, length, map, drop, get_or, None, refl, sym, ap, subst, ◌∙◌, arith}
-use Rattle.std.proofs.lemmas.List.{drop_more}
+use Rattle.std.proofs.Common.{◌≡◌, ◌≢◌, ℕ, ◌+◌, ◌<◌, List, [], ◌∷◌, ◌++◌, length, map, drop, None, refl, sym, ap, subst, ◌∙◌, arith}
+use Rattle.std.proofs.lemmas.List.{drop_more, length-map}
 use Rattle.std.specs.Prelude.{All}
 use Rattle.std.proofs.lemmas.List.Elements.{All-head, All-tail}
-use Rattle.action_terms.specs.declared.graph.Node.{Node}
-use Rattle.action_terms.specs.declared.graph.YNode.{YNode}
+use Rattle.action_terms.specs.declared.view.YielderView.{YielderView}
+use Rattle.action_terms.specs.declared.kinds.YKind.TheVariants as ykind
+use Rattle.action_terms.specs.Forms.{IsYielderView}
 use Rattle.action_terms.specs.declared.kinds.Kind.{Kind}
 use Rattle.action_terms.specs.declared.kinds.Kind.TheVariants as kind
 use Rattle.action_terms.specs.Labels.{Label, ActionNode, YielderNode, AnAction}
 use Rattle.action_terms.specs.Trees.{Tree, tree, Trees, none, more}
-use Rattle.action_terms.specs.Nodes.{listed_node, listed_yielder}
-use Rattle.action_terms.specs.Numbering.{Listed, ListedNode, IsGraphOf}
+use Rattle.action_terms.specs.Numbering.{Listed, ListedNode, IsGraph, IsGraphOf}
 use Rattle.action_text.specs.Answers.{IsTextOf, IsReadAs}
 use Rattle.action_text.specs.Canonical.{canonical_text, IsReadableLabel, IsReadable, AreReadable, HasNoBranch}
 use Rattle.action_text.specs.Printing.{items_in, node_label, yielder_label}
+use Rattle.action_text.specs.ViewLabels.{yielder_view_label}
+use Rattle.action_text.proofs.ViewLabels.{yielder_view_fits}
 use Rattle.action_text.proofs.LabelsOfNodes.{action_labels, action_labels_all, yielder_labels, yielder_labels_all, node_labels, labels_of_yielders}
 use Rattle.action_text.proofs.PrintableTexts.{canonical_is_text}
-use Rattle.action_text.proofs.PrintedGraphs.{yielder_labels_at, length_yielder_labels, yielder_label_there}
+use Rattle.action_text.proofs.PrintedGraphs.{yielder_labels_at, yielder_there}
 
 -- labels that a text can give
 abbrev pub AllReadable : List Label → Type 0
@@ -55,18 +57,18 @@ actions_readable (n ∷ ns) h = (
 )
 
 -- one label more can be read
-pub readable_more : (yielders : List YNode) (yielder : ℕ) (d : YNode) → yielder < length yielders → IsReadableLabel (yielder_label (listed_yielder (get_or yielders yielder d)))
-    → (AllReadable (drop yielder (yielder_labels_at yielders)) → AllReadable (yielder_labels_at yielders)) → AllReadable (drop (yielder + 1) (yielder_labels_at yielders)) → AllReadable (yielder_labels_at yielders)
-readable_more yielders yielder d h fits so rest =
-    let same = length_yielder_labels yielders in
-    let lt : yielder < length (yielder_labels_at yielders) = omega (arith, same) in
-    let here = subst IsReadableLabel (sym (yielder_label_there yielders yielder d)) fits in
-    so (subst AllReadable (sym (drop_more (yielder_labels_at yielders) yielder (yielder_label (listed_yielder d)) lt)) (here, rest))
+pub readable_more : (g : Listed) → IsGraph g → (yielder : ℕ) (v : YielderView) → yielder < length g.yielders → IsYielderView g yielder v → IsReadableLabel (yielder_view_label v)
+    → (AllReadable (drop yielder (yielder_labels_at g)) → AllReadable (yielder_labels_at g)) → AllReadable (drop (yielder + 1) (yielder_labels_at g)) → AllReadable (yielder_labels_at g)
+readable_more g w yielder v h is fits so rest =
+    let same = length-map g.yielders yielder_label in
+    let lt : yielder < length (yielder_labels_at g) = omega (arith, same) in
+    let there = yielder_there g yielder h in
+    let here = subst IsReadableLabel (sym there.2) (yielder_view_fits g w yielder there.0 v there.1 is fits) in
+    so (subst AllReadable (sym (drop_more (yielder_labels_at g) yielder (YielderNode ykind.Them []) lt)) (here, rest))
 
 -- the text of a graph without a branch is read as that graph
-pub text_read : (nodes : List Node) (yielders : List YNode) (g : Listed) (t : Tree) (text : List ℕ) → map listed_node nodes ≡ g.nodes → map listed_yielder yielders ≡ g.yielders → IsGraphOf g t → HasNoBranch g
-    → AllReadable (yielder_labels_at yielders) → text ≡ canonical_text t → IsReadAs text g
-text_read nodes yielders g t text e f is none_branch fits same =
-    let a : AllReadable (action_labels t) = subst AllReadable (ap (map node_label) (ap (λ (l : Listed). l.nodes) is.numbered) ∙ node_labels t AnAction is.action None 0 0) (actions_readable g.nodes none_branch) in
-    let y : AllReadable (yielder_labels t) = subst AllReadable (ap (map yielder_label) (f ∙ ap (λ (l : Listed). l.yielders) is.numbered) ∙ labels_of_yielders t 0 0) fits in
+pub text_read : (g : Listed) (t : Tree) (text : List ℕ) → IsGraphOf g t → HasNoBranch g → AllReadable (yielder_labels_at g) → text ≡ canonical_text t → IsReadAs text g
+text_read g t text is none_branch fits same =
+    let a : AllReadable (action_labels t) = subst AllReadable (ap (λ (l : Listed). map node_label l.nodes) is.numbered ∙ node_labels t AnAction is.action None 0 0) (actions_readable g.nodes none_branch) in
+    let y : AllReadable (yielder_labels t) = subst AllReadable (ap (λ (l : Listed). map yielder_label l.yielders) is.numbered ∙ labels_of_yielders t 0 0) fits in
     (t, subst (λ bytes. IsTextOf bytes t) (sym same) (canonical_is_text t is.action (tree_readable t a y)), is)

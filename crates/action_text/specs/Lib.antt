@@ -16,3 +16,4 @@ pub mod Sizes
 pub mod Answers
 pub mod Canonical
 pub mod Printing
+pub mod ViewLabels

@@ -5,8 +5,6 @@ use Rattle.action_terms.specs.Labels.{Label, ActionNode, YielderNode, Wanted, An
 use Rattle.action_terms.specs.Numbering.{ListedNode, ListedYielder}
 use Rattle.action_terms.specs.declared.kinds.Kind.{Kind}
 use Rattle.action_terms.specs.declared.kinds.Kind.TheVariants as kind
-use Rattle.action_terms.specs.declared.kinds.YKind.{YKind}
-use Rattle.action_terms.specs.declared.kinds.YKind.TheVariants as ykind
 use Rattle.action_text.specs.declared.print_jobs.Side.{Side}
 use Rattle.action_text.specs.declared.print_jobs.Side.TheVariants.{Whole, Operand, LeftOf}
 use Rattle.action_text.specs.declared.print_jobs.Part.{Part}
@@ -91,23 +89,6 @@ node_label n = ActionNode n.kind (items_in n.kind n.operands) n.token
 abbrev pub yielder_label : ListedYielder → Label
 yielder_label y = YielderNode y.kind y.token
 
--- the kinds without data and token that are no operators
-abbrev pub is_fixed : Kind → Bool
-is_fixed kind.Give = false
-is_fixed kind.EscapeWith = false
-is_fixed kind.Apply = false
-is_fixed kind.Bind = false
-is_fixed kind.BindRec = false
-is_fixed kind.Or = false
-is_fixed kind.And = false
-is_fixed kind.AndThen = false
-is_fixed kind.Then = false
-is_fixed kind.Trap = false
-is_fixed kind.Hence = false
-is_fixed kind.Moreover = false
-is_fixed kind.Before = false
-is_fixed _ = true
-
 -- the last token of a text in the making begins there, if there is one
 abbrev pub IsLastAt : List ℕ → Option ℕ → List (List ℕ) → Type 0
 IsLastAt bytes None tokens = tokens ≡ []
@@ -139,19 +120,6 @@ SaysNext old new jobs rest next = (said : List (List ℕ)) → Says old said →
 -- the jobs put the words and two arguments before what was due
 abbrev pub PutsCall : (old new words : List Job) → Type 0
 PutsCall old new words = due_on new ≡ map due words ++ (pieces_due shapes.two_arguments (AYielder ∷ AYielder ∷ []) ++ due_on old)
-
--- the functions of two arguments
-abbrev pub is_function : YKind → Bool
-is_function ykind.Sum = true
-is_function ykind.Difference = true
-is_function ykind.Product = true
-is_function ykind.Quotient = true
-is_function ykind.Remainder = true
-is_function ykind.Is = true
-is_function ykind.Less = true
-is_function ykind.Both = true
-is_function ykind.Either = true
-is_function _ = false
 
 -- the bytes between the tokens and the next one
 abbrev pub gap_behind : List (List ℕ) → List ℕ → List ℕ

@@ -1,16 +1,17 @@
 //! The jobs that print an action node.
-ghost use Rattle.std.specs.Prelude.{◌≡◌, ◌≤◌, [], OnOk, map, true, false};
+ghost use Rattle.std.specs.Prelude.{◌≡◌, ◌≤◌, [], OnOk, map, true};
 ghost use Rattle.action_terms.specs.Labels.{ActionNode, AnItem, copies};
-ghost use Rattle.action_terms.specs.Nodes.{listed_node};
 ghost use Rattle.action_terms.specs.declared.kinds.Kind.TheVariants as kind;
+ghost use Rattle.action_text.specs.declared.print_jobs.Side.{Side};
 ghost use Rattle.action_text.specs.Shapes.{items, operator};
 ghost use Rattle.action_text.specs.Canonical.{is_some_word};
-ghost use Rattle.action_text.specs.Printing.{Puts, Token, pieces_due, shape_due, is_bare, sides_due, chain_due, action_due, operand_length, node_label, is_fixed};
+ghost use Rattle.action_text.specs.Printing.{Puts, Token, pieces_due, shape_due, is_bare, sides_due, chain_due, action_due};
+ghost use Rattle.action_text.specs.ViewLabels.{join_kind, chain_kind, primitive_label, view_label};
 
 use crate::print_jobs::Job::{Quoted, Word};
 use crate::print_jobs::{CLOSE, COMMA, Job, OPEN, OPERAND, Part, Side, YIELDER, push_jobs};
-use action_terms::graph::Node;
 use action_terms::kinds::Kind;
+use action_terms::{Chain, Join, NodeView, PrimitiveView};
 use std::alloc::AllocError;
 
 // Data of two items or more.
@@ -39,43 +40,6 @@ fn push_items(stack: &mut Vec<Job<'_>>, count: usize) -> Result<(), AllocError>
     }
 }
 
-// How many items the operand at the place has.
-fn operand_length(node: &Node<'_>, place: usize) -> usize
-    ensures { result ≡ operand_length (listed_node node.now).operands place }
-{
-    match node.operands.get(place) {
-        Some(items) => items.len(),
-        None => 0,
-    }
-}
-
-// An action without data and token that is no chain.
-fn push_fixed(stack: &mut Vec<Job<'_>>, kind: Kind) -> Result<(), AllocError>
-    requires { is_fixed kind ≡ true }
-    ensures { OnOk result
-        (Puts stack.old.items stack.new.items (shape_due (ActionNode kind 0 []))) }
-{
-    match kind {
-        Kind::Complete => push_jobs(stack, &[Word(b"complete")]),
-        Kind::Fail => push_jobs(stack, &[Word(b"fail")]),
-        Kind::Escape => push_jobs(stack, &[Word(b"escape")]),
-        Kind::Commit => push_jobs(stack, &[Word(b"commit")]),
-        Kind::Regive => push_jobs(stack, &[Word(b"regive")]),
-        Kind::Rebind => push_jobs(stack, &[Word(b"rebind")]),
-        Kind::Unfold => push_jobs(stack, &[Word(b"unfold")]),
-        Kind::Allocate => push_jobs(stack, &[Word(b"allocate"), Word(b"a"), Word(b"cell")]),
-        Kind::Receive => push_jobs(stack, &[Word(b"receive"), Word(b"an"), Word(b"integer")]),
-        Kind::Check => push_jobs(stack, &[Word(b"check"), YIELDER]),
-        Kind::Send => push_jobs(stack, &[Word(b"send"), YIELDER]),
-        Kind::Enact => push_jobs(stack, &[Word(b"enact"), YIELDER]),
-        Kind::Store => push_jobs(stack, &[Word(b"store"), YIELDER, Word(b"in"), YIELDER]),
-        Kind::Unfolding => push_jobs(stack, &[Word(b"unfolding"), OPERAND]),
-        Kind::Furthermore => push_jobs(stack, &[Word(b"furthermore"), OPERAND]),
-        Kind::Branch => push_branch(stack),
-        _ => Ok(()),
-    }
-}
-
 // `branch(Y, A, A)`
 fn push_branch(stack: &mut Vec<Job<'_>>) -> Result<(), AllocError>
     ensures { OnOk result
@@ -83,35 +47,6 @@ fn push_branch(stack: &mut Vec<Job<'_>>) -> Result<(), AllocError>
 {
     push_jobs(stack, &[COMMA, OPERAND, COMMA, OPERAND, CLOSE])?;
     push_jobs(stack, &[Word(b"branch"), OPEN, YIELDER])
-}
-
-// An action that is no chain.
-fn push_shape<'a>(stack: &mut Vec<Job<'a>>, node: &Node<'a>) -> Result<(), AllocError>
-    requires { is_some_word (operator node.now.kind) ≡ false }
-    ensures { OnOk result
-        (Puts stack.old.items stack.new.items (shape_due (node_label (listed_node node.now)))) }
-{
-    match node.kind {
-        Kind::Give => {
-            push_items(stack, operand_length(node, 0))?;
-            push_jobs(stack, &[Word(b"give")])
-        }
-        Kind::EscapeWith => {
-            push_items(stack, operand_length(node, 0))?;
-            push_jobs(stack, &[Word(b"escape"), Word(b"with")])
-        }
-        Kind::Apply => {
-            push_items(stack, operand_length(node, 1))?;
-            push_jobs(stack, &[YIELDER, Word(b"to")])?;
-            push_jobs(stack, &[Word(b"enact"), Word(b"application"), Word(b"of")])
-        }
-        Kind::Bind => push_binding(stack, node.token),
-        Kind::BindRec => {
-            push_binding(stack, node.token)?;
-            push_jobs(stack, &[Word(b"recursively")])
-        }
-        kind => push_fixed(stack, kind),
-    }
 }
 
 // `bind T to Y`
@@ -137,23 +72,6 @@ fn push_operator(stack: &mut Vec<Job<'_>>, kind: Kind) -> Result<(), AllocError>
         Kind::Before => push_jobs(stack, &[Word(b"before")]),
         _ => Ok(()),
     }
-}
-
-// Whether an action of the kind is a chain.
-fn is_operator(kind: Kind) -> bool
-    ensures { result ≡ is_some_word (operator kind) }
-{
-    matches!(
-        kind,
-        Kind::Or
-            | Kind::And
-            | Kind::AndThen
-            | Kind::Then
-            | Kind::Trap
-            | Kind::Hence
-            | Kind::Moreover
-            | Kind::Before
-    )
 }
 
 // Whether a chain of the kind stands there without parentheses.
@@ -191,18 +109,102 @@ fn push_chain(stack: &mut Vec<Job<'_>>, side: Side, kind: Kind) -> Result<(), Al
     }
 }
 
+// The kind of a node with two parts.
+fn join_kind(join: Join) -> Kind
+    ensures kind { result ≡ join_kind join }
+    ensures operator { is_some_word (operator result) ≡ true }
+{
+    match join {
+        Join::And => Kind::And,
+        Join::Moreover => Kind::Moreover,
+    }
+}
+
+// The kind of a node with two parts in order.
+fn chain_kind(chain: Chain) -> Kind
+    ensures kind { result ≡ chain_kind chain }
+    ensures operator { is_some_word (operator result) ≡ true }
+{
+    match chain {
+        Chain::AndThen => Kind::AndThen,
+        Chain::Then => Kind::Then,
+        Chain::Hence => Kind::Hence,
+        Chain::Before => Kind::Before,
+    }
+}
+
+// An action that is done in one step.
+fn push_primitive<'a>(
+    stack: &mut Vec<Job<'a>>,
+    primitive: PrimitiveView<'a>,
+) -> Result<(), AllocError>
+    ensures { (side : Side) → OnOk result
+        (Puts stack.old.items stack.new.items (action_due side (primitive_label primitive.entry))) }
+{
+    match primitive {
+        PrimitiveView::Complete => push_jobs(stack, &[Word(b"complete")]),
+        PrimitiveView::Failing => push_jobs(stack, &[Word(b"fail")]),
+        PrimitiveView::Escape => push_jobs(stack, &[Word(b"escape")]),
+        PrimitiveView::Commit => push_jobs(stack, &[Word(b"commit")]),
+        PrimitiveView::Regive => push_jobs(stack, &[Word(b"regive")]),
+        PrimitiveView::Rebind => push_jobs(stack, &[Word(b"rebind")]),
+        PrimitiveView::Give { items } => {
+            push_items(stack, items.len())?;
+            push_jobs(stack, &[Word(b"give")])
+        }
+        PrimitiveView::EscapeWith { items } => {
+            push_items(stack, items.len())?;
+            push_jobs(stack, &[Word(b"escape"), Word(b"with")])
+        }
+        PrimitiveView::Check { .. } => push_jobs(stack, &[Word(b"check"), YIELDER]),
+        PrimitiveView::Bind { token, .. } => push_binding(stack, token),
+        PrimitiveView::BindRec { token, .. } => {
+            push_binding(stack, token)?;
+            push_jobs(stack, &[Word(b"recursively")])
+        }
+        PrimitiveView::Store { .. } => {
+            push_jobs(stack, &[Word(b"store"), YIELDER, Word(b"in"), YIELDER])
+        }
+        PrimitiveView::Allocate => {
+            push_jobs(stack, &[Word(b"allocate"), Word(b"a"), Word(b"cell")])
+        }
+        PrimitiveView::Receive => {
+            push_jobs(stack, &[Word(b"receive"), Word(b"an"), Word(b"integer")])
+        }
+        PrimitiveView::Send { .. } => push_jobs(stack, &[Word(b"send"), YIELDER]),
+    }
+}
+
+// `enact application of Y to Data`, with so many items
+fn push_application(stack: &mut Vec<Job<'_>>, count: usize) -> Result<(), AllocError>
+    ensures { OnOk result
+        (Puts stack.old.items stack.new.items (shape_due (ActionNode kind.Apply count []))) }
+{
+    push_items(stack, count)?;
+    push_jobs(stack, &[YIELDER, Word(b"to")])?;
+    push_jobs(stack, &[Word(b"enact"), Word(b"application"), Word(b"of")])
+}
+
 /// Puts the jobs of an action node on the stack.
 pub fn push_action<'a>(
     stack: &mut Vec<Job<'a>>,
     side: Side,
-    node: &Node<'a>,
+    node: NodeView<'a>,
 ) -> Result<(), AllocError>
     ensures { OnOk result
-        (Puts stack.old.items stack.new.items (action_due side (node_label (listed_node node.now)))) }
+        (Puts stack.old.items stack.new.items (action_due side (view_label node.entry))) }
 {
-    if is_operator(node.kind) {
-        push_chain(stack, side, node.kind)
-    } else {
-        push_shape(stack, node)
+    match node {
+        NodeView::Simple(primitive) => push_primitive(stack, primitive),
+        NodeView::Enact { .. } => push_jobs(stack, &[Word(b"enact"), YIELDER]),
+        NodeView::Apply { items, .. } => push_application(stack, items.len()),
+        NodeView::Unfolding { .. } => push_jobs(stack, &[Word(b"unfolding"), OPERAND]),
+        NodeView::Unfold { .. } => push_jobs(stack, &[Word(b"unfold")]),
+        NodeView::Furthermore { .. } => push_jobs(stack, &[Word(b"furthermore"), OPERAND]),
+        NodeView::Both { join, .. } => push_chain(stack, side, join_kind(join)),
+        NodeView::Phases { chain, .. } => push_chain(stack, side, chain_kind(chain)),
+        NodeView::Either { .. } => push_chain(stack, side, Kind::Or),
+        NodeView::Trapping { .. } => push_chain(stack, side, Kind::Trap),
+        NodeView::Branch { .. } => push_branch(stack),
     }
 }

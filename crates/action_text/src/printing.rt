@@ -41,8 +41,8 @@ pub fn print_action(alloc: Global, graph: &Graph<'_>) -> Result<Vec<u8>, Memory>
     ensures read_again { HasNoBranch graph.now
         → IfOk result (λ text. IsReadAs text.items graph.now) }
 {
-    let nodes = graph.nodes();
-    let yielders = graph.yielders();
+    // It is the graph of an action, so that each node has its place.
+    let _nodes = graph.nodes();
     let mut stack = Vec::new(alloc);
     stack.push(Job::Part(Part::Action(Side::Whole)))?;
     let mut text = Text::new(alloc);
@@ -51,11 +51,11 @@ pub fn print_action(alloc: Global, graph: &Graph<'_>) -> Result<Vec<u8>, Memory>
     while let Some(part) = print_tokens(&mut stack, &mut text)? {
         match part {
             Part::Action(side) => {
-                push_action(&mut stack, side, &nodes[action])?;
+                push_action(&mut stack, side, graph.view(action))?;
                 action += 1;
             }
             Part::Yielder => {
-                push_yielder(&mut stack, &yielders[yielder])?;
+                push_yielder(&mut stack, graph.yielder_view(yielder))?;
                 yielder += 1;
             }
         }

@@ -53,7 +53,8 @@ fn is_at(classes: &[Class], at: usize, class: Class) -> bool
 // Refuses the place where no token of the class stands there.
 fn expect(classes: &[Class], at: usize, class: Class) -> Result<(), PlaceError>
     ensures there { OnOk result (StandsAt (map class_number classes.now) at (class_number class)) }
-    ensures missing { OnErr result (¬ (StandsAt (map class_number classes.now) at (class_number class))) }
+    ensures missing { OnErr result
+        (¬ (StandsAt (map class_number classes.now) at (class_number class))) }
     ensures place { IfErr result (λ e. e ≡ At at) }
 {
     if is_at(classes, at, class) {
