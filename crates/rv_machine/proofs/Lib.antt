@@ -1,3 +1,4 @@
+pub mod FrontLaws
 pub mod GrowsLemmas
 pub mod IntegersLemmas
 pub mod MemoryLemmas

@@ -1,10 +1,14 @@
 -- The segment that has the bytes from an address on.
-use Rattle.std.proofs.Common.{◌≡◌, ℕ, ◌+◌, ◌-◌, ◌<◌, ◌≤◌, true, List, length, take, drop, Some, None, refl, sym, arith, slice_index_or, slice_set}
+use Rattle.std.proofs.Common.{◌≡◌, ℕ, ◌+◌, ◌-◌, ◌<◌, ◌≤◌, true, List, length, take, drop, Option, Some, None, refl, sym, arith, slice_index_or, slice_set}
 use Rattle.std.proofs.lemmas.Bool.Decides.{nat_tests}
 use Rattle.std.proofs.lemmas.List.Quantifiers.{position-Some}
+use Rattle.std.proofs.lemmas.List.{length-take, length-drop}
 use Rattle.std.proofs.lemmas.Option.{slice_get-get_or}
+use Rattle.std.specs.Bool.{OnTrue, OnFalse}
+use Rattle.std.specs.Option.{is_some}
 use Rattle.rv_code.specs.Bytes.{bytes_of, put_at}
 use Rattle.rv_code.specs.Machine.{Segment, holds, holder, empty_segment, read_bytes, write_bytes}
+use Rattle.rv_machine.specs.Memory.{AreRead}
 use Rattle.rv_code.proofs.ByteLaws.{length-bytes}
 
 -- the bytes lie in the segment
@@ -42,3 +46,24 @@ writes-none blocks address size number e = rw (length-bytes, sym e) refl
 pub reads : (blocks : List Segment) (flag address size i : ℕ) (d : Segment) → i < length blocks → Some i ≡ holder blocks flag address size →
     read_bytes blocks flag address size ≡ Some (take size (drop (address - (slice_index_or blocks i d).address) (slice_index_or blocks i d).bytes))
 reads blocks flag address size i d h e = rw (sym e, same-default blocks i d empty_segment h) refl
+
+-- the bytes that a readable segment has
+are-read : (blocks : List Segment) (address size i : ℕ) → Some i ≡ holder blocks 4 address size → AreRead blocks address size
+are-read blocks address size i e =
+    let s = slice_index_or blocks i empty_segment in
+    let room = holder-room blocks 4 address size i empty_segment e in
+    record {
+      bytes = take size (drop (address - s.address) s.bytes);
+      read = rw (← e) refl;
+      whole = rw (length-take, length-drop) (omega (arith, room.low, room.high));
+    }
+
+pub can-read : (blocks : List Segment) (address size : ℕ) (place : Option ℕ) → place ≡ holder blocks 4 address size →
+    OnTrue (is_some place) (AreRead blocks address size)
+can-read blocks address size None e = tt
+can-read blocks address size (Some i) e = are-read blocks address size i e
+
+pub cannot-read : (blocks : List Segment) (address size : ℕ) (place : Option ℕ) → place ≡ holder blocks 4 address size →
+    OnFalse (is_some place) (read_bytes blocks 4 address size ≡ None)
+cannot-read blocks address size None e = rw (← e) refl
+cannot-read blocks address size (Some i) e = tt

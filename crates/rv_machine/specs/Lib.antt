@@ -3,3 +3,5 @@ pub mod Effects
 pub mod Stepping
 pub mod Memory
 pub mod Kept
+pub mod Fronts
+pub mod Borrowed

@@ -10,6 +10,12 @@ use Rattle.rv_machine.specs.Effects.{AmountFits}
 abbrev pub IsSize : ℕ → Type 0
 IsSize size = (size ≡ 8) ⊎ ((size ≡ 4) ⊎ ((size ≡ 2) ⊎ (size ≡ 1)))
 
+-- so many bytes from an address on lie in one segment that can be read
+pub record AreRead (segments : List Segment) (address size : ℕ) : Type 0 where
+  pub bytes : List ℕ
+  pub read : Some bytes ≡ read_bytes segments 4 address size
+  pub whole : length bytes ≡ size
+
 -- the instruction of the word at an address is this one, or the word has none; the segment of the word can't be written
 pub record IsFixed (segments : List Segment) (address : ℕ) (entry : Option Inst) : Type 0 where
   pub place : ℕ

@@ -1,13 +1,14 @@
 //! The memory of a machine.
 
-ghost use Rattle.std.specs.Prelude.{◌≡◌, ◌+◌, ◌-◌, ◌*◌, ◌^◌, ◌<◌, ◌≤◌, Some, None, IfSome, IfNone, IfOk, min, All, length, map, take, drop, option_map};
+ghost use Rattle.std.specs.Prelude.{◌≡◌, ◌+◌, ◌-◌, ◌*◌, ◌^◌, ◌<◌, ◌≤◌, Some, None, IfSome, IfNone, IfOk, ℕ, min, All, length, map, take, drop, option_map, vec_capacity};
 ghost use Rattle.rv_code.specs.Bytes.{number_of, bytes_of, put_at};
 ghost use Rattle.rv_code.specs.Machine.{has_flag, holds, holder, read_bytes, written_in, write_bytes};
 ghost use Rattle.std.specs.Bool.{OnTrue, OnFalse};
 ghost use Rattle.rv_code.specs.Machine.{Segment as SegmentValue};
 ghost use Rattle.rv_code.specs.Images.{filled};
 ghost use Rattle.rv_machine.specs.Machines.{left};
-ghost use Rattle.rv_machine.specs.Memory.{IsSize, IsFixed};
+ghost use Rattle.rv_machine.specs.Memory.{AreRead, IsSize, IsFixed};
+ghost use Rattle.rv_machine.specs.Fronts.{padded, IsFront};
 
 use crate::image::Segment;
 use crate::input::Input;
@@ -16,34 +17,95 @@ use rv_code::{Inst, decode};
 use std::alloc::Global;
 use std::marker::Model;
 
-/// A segment of memory in a machine.
+// By how many bytes at least a front grows.
+const CHUNK: usize = 4096;
+
+/// A segment of memory in a machine. Its front is in memory; zeros behind the front have room there, and aren't written
+/// before a byte behind them is written or lent.
 #[derive(Debug, Drop)]
 pub(crate) struct Block {
     address: u64,
     flags: u32,
-    bytes: Vec<u8>,
+    // How many bytes it has.
+    size: u64,
+    front: Vec<u8>,
 }
 
 impl Model for Block {
+    ghost use Rattle.std.specs.Prelude.{length, vec_capacity};
     ghost use Rattle.rv_code.specs.Machine.{Segment as SegmentValue};
+    ghost use Rattle.rv_machine.specs.Fronts.{padded, IsFront};
 
     ghost Value = { SegmentValue };
 
-    ghost view = { λ block. record { address = block.address; flags = block.flags; bytes = block.bytes.items } };
+    ghost view = { λ block. record {
+      address = block.address;
+      flags = block.flags;
+      bytes = padded block.size block.front.items;
+    } };
+
+    ghost invariant = { λ block. IsFront block.size (length block.front.items) (vec_capacity block.front) };
+}
+
+// Makes a front longer, in the room that it has.
+#[cold]
+#[inline(never)]
+fn grow(front: &mut Vec<u8>, size: usize, to: usize)
+    requires within { to ≤ size }
+    requires kept { IsFront size (length front.old.items) (vec_capacity front.old) }
+    ensures same { padded size front.new.items ≡ padded size front.old.items }
+    ensures reaches { to ≤ length front.new.items }
+    ensures kept { IsFront size (length front.new.items) (vec_capacity front.new) }
+{
+    let chunk = size.min(front.len().saturating_add(CHUNK));
+    if front.resize(to.max(chunk), 0).is_err() {
+        unreachable!();
+    }
+}
+
+// Makes a front reach up to a place.
+#[inline(always)]
+fn reach(front: &mut Vec<u8>, size: usize, to: usize)
+    requires within { to ≤ size }
+    requires kept { IsFront size (length front.old.items) (vec_capacity front.old) }
+    ensures same { padded size front.new.items ≡ padded size front.old.items }
+    ensures reaches { to ≤ length front.new.items }
+    ensures kept { IsFront size (length front.new.items) (vec_capacity front.new) }
+{
+    if to > front.len() {
+        grow(front, size, to);
+    }
+}
+
+// The number that bytes of a segment spell, some of which stand behind its front.
+#[cold]
+#[inline(never)]
+fn number_behind(front: &[u8], from: usize, size: usize) -> u64
+    requires size { IsSize size }
+    requires behind { length front.now < from + size }
+    ensures is { (all : ℕ) → from + size ≤ all → result ≡ number_of (take size (drop from (padded all front.now))) }
+    ensures small { result < 2 ^ (8 * size) }
+{
+    let there = &front[from.min(front.len())..];
+    let mut bytes = [0; 8];
+    bytes[..there.len()].copy_from_slice(there);
+    number(&bytes[..size])
 }
 
 impl Block {
+    ghost use Rattle.std.specs.Borrow.{sem};
+    ghost use Rattle.rv_machine.specs.Borrowed.{BlockStays};
+
     // Whether the block has the flag, and the bytes from an address on.
     #[inline(always)]
     fn holds(&self, flag: u32, address: u64, size: u64) -> bool
         requires { 0 < flag }
         ensures { result ≡ holds flag address size self.now }
     {
-        let length = self.bytes.len() as u64;
         self.flags / flag % 2 == 1
             && self.address <= address
-            && size <= length
-            && address - self.address <= length - size
+            && size <= self.size
+            && address - self.address <= self.size - size
     }
 
     // Whether the block has the flag W.
@@ -53,17 +115,36 @@ impl Block {
         self.flags / 2 % 2 == 1
     }
 
-    // Lends the bytes from an address on.
+    // The number that the bytes from an address on spell.
     #[inline(always)]
-    fn bytes_at(&self, address: u64, size: u64) -> &[u8]
+    fn number_at(&self, address: u64, size: u64) -> u64
+        requires size { IsSize size }
         requires low { self.now.address ≤ address }
         requires high { address + size ≤ self.now.address + length self.now.bytes }
-        ensures bytes { result.now ≡ take size (drop (address - self.now.address) self.now.bytes) }
+        ensures is { result ≡ number_of (take size (drop (address - self.now.address) self.now.bytes)) }
+        ensures small { result < 2 ^ (8 * size) }
+    {
+        let from = (address - self.address) as usize;
+        let to = from + size as usize;
+        if to > self.front.len() {
+            number_behind(self.front.as_slice(), from, size as usize)
+        } else {
+            number(&self.front[from..to])
+        }
+    }
+
+    /// Lends the bytes from an address on, and stays what it is.
+    pub(crate) fn lent(&mut self, address: u64, size: u64) -> &[u8]
+        requires low { self.old.address ≤ address }
+        requires high { address + size ≤ self.old.address + length self.old.bytes }
+        ensures* stays { sem 𝓛 (BlockStays self.entry) }
+        ensures bytes { result.now ≡ take size (drop (address - self.old.address) self.old.bytes) }
         ensures length { length result.now ≡ size }
     {
         let from = (address - self.address) as usize;
         let to = from + size as usize;
-        &self.bytes[from..to]
+        reach(&mut self.front, self.size as usize, to);
+        &self.front[from..to]
     }
 
     // Writes the bytes that spell a number from an address on.
@@ -76,7 +157,8 @@ impl Block {
     {
         let from = (address - self.address) as usize;
         let to = from + size as usize;
-        spell(&mut self.bytes[from..to], number);
+        reach(&mut self.front, self.size as usize, to);
+        spell(&mut self.front[from..to], number);
     }
 
     // Takes so many bytes of an input to an address.
@@ -89,7 +171,8 @@ impl Block {
     {
         let from = (address - self.address) as usize;
         let to = from + count as usize;
-        input.take_into(&mut self.bytes[from..to]);
+        reach(&mut self.front, self.size as usize, to);
+        input.take_into(&mut self.front[from..to]);
     }
 }
 
@@ -98,12 +181,13 @@ fn filled(segment: Segment) -> Result<Block, Memory>
     requires { length segment.bytes ≤ segment.size }
     ensures { IfOk result (λ block. block ≡ filled segment) }
 {
-    let mut bytes = segment.bytes;
-    bytes.resize(segment.size as usize, 0)?;
+    let mut front = segment.bytes;
+    front.reserve_exact(segment.size as usize - front.len())?;
     Ok(Block {
         address: segment.address,
         flags: segment.flags,
-        bytes,
+        size: segment.size,
+        front,
     })
 }
 
@@ -140,18 +224,6 @@ fn number(bytes: &[u8]) -> u64
     }
 }
 
-// The number that four bytes spell, the lowest first.
-#[tactic(auto, using(crate::proofs::NumbersLemmas::words))]
-fn word(bytes: &[u8]) -> u32
-    requires { length bytes.now ≡ 4 }
-    ensures { result ≡ number_of bytes.now }
-{
-    u32::from(bytes[0])
-        + 0x100 * u32::from(bytes[1])
-        + 0x1_0000 * u32::from(bytes[2])
-        + 0x100_0000 * u32::from(bytes[3])
-}
-
 // Writes the one, two, four or eight bytes of a number, the lowest first.
 #[inline(always)]
 fn spell(out: &mut [u8], number: u64)
@@ -181,27 +253,25 @@ pub(crate) fn find(blocks: &[Block], flag: u32, address: u64, size: u64) -> Opti
         .position(|block| block.holds(flag, address, size))
 }
 
-/// Lends the bytes from an address on, where they lie in one block with the flag.
-#[inline(always)]
-pub(crate) fn bytes_at(blocks: &[Block], flag: u32, address: u64, size: u64) -> Option<&[u8]>
-    requires { 0 < flag }
-    ensures bytes { option_map (λ bytes. bytes.now) result ≡ read_bytes blocks.now flag address size }
-    ensures length { IfSome result (λ bytes. length bytes.now ≡ size) }
+/// Whether the bytes from an address on lie in one block with the flag R.
+pub(crate) fn can_read(blocks: &[Block], address: u64, size: u64) -> bool
+    ensures yes { OnTrue result (AreRead blocks.now address size) }
+    ensures no { OnFalse result (read_bytes blocks.now 4 address size ≡ None) }
 {
-    let index = find(blocks, flag, address, size)?;
-    Some(blocks[index].bytes_at(address, size))
+    find(blocks, 4, address, size).is_some()
 }
 
-/// The number that the bytes from an address on spell, where they lie in one block with the flag R.
+// The number that the bytes from an address on spell, where they lie in one block with the flag.
 #[inline(always)]
-pub(crate) fn read_number(blocks: &[Block], address: u64, size: u64) -> Option<u64>
-    requires { IsSize size }
-    ensures number { result ≡ option_map number_of (read_bytes blocks.now 4 address size) }
+fn number_at(blocks: &[Block], flag: u32, address: u64, size: u64) -> Option<u64>
+    requires flag { 0 < flag }
+    requires size { IsSize size }
+    ensures number { result ≡ option_map number_of (read_bytes blocks.now flag address size) }
     ensures small { IfSome result (λ number. number < 2 ^ (8 * size)) }
 {
-    match bytes_at(blocks, 4, address, size) {
+    match find(blocks, flag, address, size) {
         None => None,
-        Some(bytes) => Some(number(bytes)),
+        Some(index) => Some(blocks[index].number_at(address, size)),
     }
 }
 
@@ -209,9 +279,9 @@ pub(crate) fn read_number(blocks: &[Block], address: u64, size: u64) -> Option<u
 pub(crate) fn read_word(blocks: &[Block], address: u64) -> Option<u32>
     ensures { result ≡ option_map number_of (read_bytes blocks.now 1 address 4) }
 {
-    match bytes_at(blocks, 1, address, 4) {
+    match number_at(blocks, 1, address, 4) {
         None => None,
-        Some(bytes) => Some(word(bytes)),
+        Some(number) => Some(number as u32),
     }
 }
 
@@ -232,7 +302,8 @@ pub(crate) fn write_number(blocks: &mut [Block], address: u64, size: u64, number
     }
 }
 
-/// The same as `read_number`, by code of its own for each size.
+/// The number that the bytes from an address on spell, where they lie in one block with the flag R, by code of its own
+/// for each size.
 #[inline(always)]
 pub(crate) fn read_sized(blocks: &[Block], address: u64, size: u64) -> Option<u64>
     requires { IsSize size }
@@ -240,10 +311,10 @@ pub(crate) fn read_sized(blocks: &[Block], address: u64, size: u64) -> Option<u6
     ensures small { IfSome result (λ number. number < 2 ^ (8 * size)) }
 {
     match size {
-        8 => read_number(blocks, address, 8),
-        4 => read_number(blocks, address, 4),
-        2 => read_number(blocks, address, 2),
-        _ => read_number(blocks, address, 1),
+        8 => number_at(blocks, 4, address, 8),
+        4 => number_at(blocks, 4, address, 4),
+        2 => number_at(blocks, 4, address, 2),
+        _ => number_at(blocks, 4, address, 1),
     }
 }
 
@@ -297,14 +368,14 @@ pub(crate) fn fixed(blocks: &[Block], address: u64) -> Option<Option<Inst>>
     if block.is_writable() {
         return None;
     }
-    Some(decode(word(block.bytes_at(address, 4))))
+    Some(decode(block.number_at(address, 4) as u32))
 }
 
 /// The address of the first block with the flag X, and how many words it has.
 pub(crate) fn code_place(blocks: &[Block]) -> (u64, u64) {
     for block in blocks {
         if block.flags % 2 == 1 {
-            return (block.address, block.bytes.len() as u64 / 4);
+            return (block.address, block.size / 4);
         }
     }
     (0, 0)

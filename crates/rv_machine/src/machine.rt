@@ -44,8 +44,10 @@ impl Model for Machine {
 }
 
 impl Machine {
-    ghost use Rattle.std.specs.Prelude.{◌≡◌, ◌≢◌, ℕ, ◌+◌, ◌-◌, ◌*◌, ◌%◌, ◌^◌, ◌<◌, ◌≤◌, ◌&&◌, min, nat_eq, if◌then◌else◌, IfSome, IfNone, option_map, take, length, IfOk, IfErr, OnOk, OnErr, List, [], Some, None};
+    ghost use Rattle.std.specs.Prelude.{◌≡◌, ◌≢◌, ℕ, ◌+◌, ◌-◌, ◌*◌, ◌%◌, ◌^◌, ◌<◌, ◌≤◌, ◌&&◌, min, nat_eq, if◌then◌else◌, IfSome, IfNone, option_map, take, length, IfOk, IfErr, OnOk, OnErr, Ok, List, [], Some, None};
     ghost use Rattle.std.specs.Bool.{OnTrue, OnFalse};
+    ghost use Rattle.std.specs.Borrow.{sem};
+    ghost use Rattle.rv_machine.specs.Borrowed.{MachineStays};
     ghost use Rattle.acg_base.specs.Outside.{counted};
     ghost use Rattle.rv_code.specs.Arithmetic.{wrap, unsigned, load_size, extended, store_size};
     ghost use Rattle.rv_code.specs.Bytes.{number_of, bytes_of};
@@ -207,18 +209,29 @@ impl Machine {
         }
     }
 
-    // The instruction at the pc.
+    // The instruction at the pc, where the table has its word.
     #[inline(always)]
+    fn known(&self) -> Option<Result<Inst, Cause>>
+        ensures next { IfSome result (λ known. Fetches known self.now) }
+        ensures amount { IfSome result (λ known. IfOk known AmountFits) }
+    {
+        match table::place(self.pc, self.code_address, self.code.len()) {
+            None => None,
+            Some(place) => match self.code[place] {
+                None => Some(Err(Cause::Undefined)),
+                Some(inst) => Some(Ok(inst)),
+            },
+        }
+    }
+
+    // The instruction at the pc.
     fn fetch(&self) -> Result<Inst, Cause>
         ensures next { Fetches result self.now }
         ensures amount { IfOk result (λ inst. AmountFits inst) }
     {
-        match table::place(self.pc, self.code_address, self.code.len()) {
+        match self.known() {
             None => self.decode_next(),
-            Some(place) => match self.code[place] {
-                None => Err(Cause::Undefined),
-                Some(inst) => Ok(inst),
-            },
+            Some(known) => known,
         }
     }
 
@@ -291,12 +304,16 @@ impl Machine {
         block::receive(self.blocks.as_mut_slice(), address, size, input)
     }
 
-    // Lends the bytes from an address on, where they lie in one segment with the flag R.
-    fn readable(&self, address: u64, size: u64) -> Option<&[u8]>
-        ensures bytes { option_map (λ bytes. bytes.now) result ≡ read_bytes self.now.segments 4 address size }
+    // Lends the bytes from an address on, where they lie in one segment with the flag R, and stays what it is.
+    fn readable(&mut self, address: u64, size: u64) -> Option<&[u8]>
+        ensures* stays { sem 𝓛 (MachineStays self.entry) }
+        ensures bytes { option_map (λ bytes. bytes.now) result ≡ read_bytes self.old.segments 4 address size }
         ensures length { IfSome result (λ bytes. length bytes.now ≡ size) }
     {
-        block::bytes_at(self.blocks.as_slice(), 4, address, size)
+        match block::find(self.blocks.as_slice(), 4, address, size) {
+            None => None,
+            Some(index) => Some(self.blocks[index].lent(address, size)),
+        }
     }
 
     // Does the call 63.
@@ -331,12 +348,12 @@ impl Machine {
             self.set(Reg(10), 0);
             return Turn::Ran;
         }
-        match self.readable(address, size) {
-            None => Turn::Trapped {
+        if !block::can_read(self.blocks.as_slice(), address, size) {
+            return Turn::Trapped {
                 cause: Cause::Buffer,
-            },
-            Some(_) => Turn::Sends { address, size },
+            };
         }
+        Turn::Sends { address, size }
     }
 
     // Does a call, but doesn't send.
@@ -361,18 +378,42 @@ impl Machine {
         }
     }
 
+    // Does the instruction at the pc, which is this one, but doesn't send.
+    #[inline(always)]
+    fn obey(&mut self, inst: Inst, input: &mut Input<'_>) -> Turn
+        requires next { Fetches (Ok inst) self.old }
+        requires amount { AmountFits inst }
+        ensures { Turns result self.old input.old self.new input.new }
+    {
+        match inst {
+            Inst::Ecall => self.call(input),
+            inst => match self.execute(inst) {
+                Ok(()) => Turn::Ran,
+                Err(cause) => Turn::Trapped { cause },
+            },
+        }
+    }
+
+    // The same as `turn`, where the table lacks the instruction.
+    #[inline(never)]
+    fn turn_decoding(&mut self, input: &mut Input<'_>) -> Turn
+        ensures { Turns result self.old input.old self.new input.new }
+    {
+        match self.decode_next() {
+            Err(cause) => Turn::Trapped { cause },
+            Ok(inst) => self.obey(inst, input),
+        }
+    }
+
     // Does one instruction that sends nothing, and doesn't count it.
     #[inline(always)]
     fn turn(&mut self, input: &mut Input<'_>) -> Turn
         ensures { Turns result self.old input.old self.new input.new }
     {
-        match self.fetch() {
-            Err(cause) => Turn::Trapped { cause },
-            Ok(Inst::Ecall) => self.call(input),
-            Ok(inst) => match self.execute(inst) {
-                Ok(()) => Turn::Ran,
-                Err(cause) => Turn::Trapped { cause },
-            },
+        match self.known() {
+            None => self.turn_decoding(input),
+            Some(Err(cause)) => Turn::Trapped { cause },
+            Some(Ok(inst)) => self.obey(inst, input),
         }
     }
 
@@ -384,9 +425,10 @@ impl Machine {
     }
 
     // Lends the bytes that the next instruction sends.
-    fn lent(&self, address: u64, size: u64) -> &[u8]
-        requires { IsSend self.now address size }
-        ensures { result.now ≡ sent self.now }
+    fn lent(&mut self, address: u64, size: u64) -> &[u8]
+        requires { IsSend self.old address size }
+        ensures* stays { sem 𝓛 (MachineStays self.entry) }
+        ensures bytes { result.now ≡ sent self.old }
     {
         match self.readable(address, size) {
             None => unreachable!(),
@@ -415,9 +457,11 @@ impl Machine {
         }
     }
 
-    /// Lends the bytes that the next instruction sends: none, unless it is a call 64 that runs.
-    pub fn sending(&self) -> &[u8]
-        ensures { result.now ≡ sent self.now }
+    /// Lends the bytes that the next instruction sends: none, unless it is a call 64 that runs. The machine stays what
+    /// it is. It takes no memory.
+    pub fn sending(&mut self) -> &[u8]
+        ensures* stays { sem 𝓛 (MachineStays self.entry) }
+        ensures bytes { result.now ≡ sent self.old }
     {
         if !self.is_at_send() {
             return &[];

@@ -80,11 +80,11 @@ returns-then-is_err g c =
     let sends = quiet.ensures.sends c.in-Sends.is in
     let other : quiet.result.end ≢ quiet_end.Budget = λ e. let both = sym e ∙ c.in-Sends.is in cc in
     let says = says-at n c.args.budget m k (left quiet.new.input) c.requires (omega (arith, quiet.ensures.fewer other, before.within)) ran sends.0 sends.1 in
-    let piece : Broke g.K.Sink (output_lines (sent k)) c.runs.out c.print_messages.new.out = subst (λ bytes. Broke g.K.Sink (output_lines bytes) c.runs.out c.print_messages.new.out) c.sending.ensures broke in
+    let piece : Broke g.K.Sink (output_lines (sent k)) c.runs.out c.print_messages.new.out = subst (λ bytes. Broke g.K.Sink (output_lines bytes) c.runs.out c.print_messages.new.out) c.sending.ensures.bytes broke in
     said-broke {P = IsRunOf (run c.args.budget (state_of m [] []))} says.rest says.status (broke-then took piece) says.right
 
 pub pass_over-requires : goal.pass_over-requires
-pass_over-requires g c = (c.run_quietly-quiet.ensures.sends c.in-Sends.is).0
+pass_over-requires g c = rw c.sending.follows.holds-at-none (c.run_quietly-quiet.ensures.sends c.in-Sends.is).0
 
 pub runs-preserved : goal.runs-preserved
 runs-preserved g c =
@@ -98,9 +98,9 @@ runs-preserved g c =
     let same = quiet-behind c.runs.ran quiet.result.ran m c.runs.machine k (left c.runs.input) j before.ran quiet.ensures.ran quiet.ensures.silent in
     let took = subst (λ sent. Took g.K.Sink (output_lines sent) c.args.out.now c.runs.out) (sym same) before.took in
     let other : quiet.result.end ≢ quiet_end.Budget = λ e. let both = sym e ∙ c.in-Sends.is in cc in
-    let steps = c.pass_over.ensures.ran j in
+    let steps = (rw c.sending.follows.holds-at-none at c.pass_over.ensures).ran j in
     let sent_now = printed-whole c.print_messages.result (sym c.is_err.ensures.value ∙ c.if-is_err.false) c.print_messages.ensures in
-    let piece : Took g.K.Sink (output_lines (sent k)) c.runs.out c.print_messages.new.out = subst (λ bytes. Took g.K.Sink (output_lines bytes) c.runs.out c.print_messages.new.out) c.sending.ensures sent_now in
+    let piece : Took g.K.Sink (output_lines (sent k)) c.runs.out c.print_messages.new.out = subst (λ bytes. Took g.K.Sink (output_lines bytes) c.runs.out c.print_messages.new.out) c.sending.ensures.bytes sent_now in
     let lines = lines-more n m k c.pass_over.new.self j j c.requires ran steps in
     let count : n + 1 ≡ c.runs.ran + (quiet.result.ran + 1) = omega arith in
     let Ran : ℕ → Type 0 = λ i. Runs i m [] c.pass_over.new.self j in

@@ -13,7 +13,7 @@ lent-requires g c =
 pub pass_over-requires : goal.pass_over-requires
 pass_over-requires g c =
     let turn = c.in-Sends.ensures in
-    rw (turn.stays (λ e. cc)).0
+    rw (c.lent.follows.holds-at-none, (turn.stays (λ e. cc)).0)
     (is-send-not_empty c.args.self.now c.in-Sends.address c.in-Sends.size (turn.sends c.in-Sends.address c.in-Sends.size refl))
 
 pub returns-in-Err-Failed : goal.returns-in-Err-Failed
@@ -23,9 +23,9 @@ returns-in-Err-Failed g c =
     let send = turn.sends c.in-Sends.address c.in-Sends.size refl in
     let not_empty = is-send-not_empty c.args.self.now c.in-Sends.address c.in-Sends.size send in
     let sends = is-send-sends c.args.self.now c.in-Sends.address c.in-Sends.size (left c.args.input.now) send in
-    let lent : c.lent.result.now ≡ sent c.args.self.now = rw stays.0 at c.lent.ensures in
+    let lent : c.lent.result.now ≡ sent c.args.self.now = rw stays.0 at c.lent.ensures.bytes in
     let write = c.in-Err-Failed.ensures in
-    rw (stays.0, stays.1)
+    rw (c.lent.follows.holds-at-none, stays.0, stays.1)
     (record {
       ran = λ e. absurd (cc);
       exited = λ code e. absurd (cc);
@@ -52,8 +52,8 @@ returns-in-Ok g c =
     let stays = turn.stays (λ e. cc) in
     let send = turn.sends c.in-Sends.address c.in-Sends.size refl in
     let not_empty = is-send-not_empty c.args.self.now c.in-Sends.address c.in-Sends.size send in
-    let lent : c.lent.result.now ≡ sent c.args.self.now = rw stays.0 at c.lent.ensures in
-    let passed = rw stays.0 at c.pass_over.ensures in
+    let lent : c.lent.result.now ≡ sent c.args.self.now = rw stays.0 at c.lent.ensures.bytes in
+    let passed = rw (c.lent.follows.holds-at-none, stays.0) at c.pass_over.ensures in
     let write = c.in-Ok.ensures in
     rw stays.1
     (record {

@@ -1,7 +1,7 @@
 use Rattle.std.proofs.Common.{◌≡◌, ◌+◌, ◌*◌, ◌<◌, length, sym, ap, ◌∙◌, arith}
 use Rattle.rv_machine.proofs.TableLaws.{table-steps}
 use Rattle.rv_machine.specs.Memory.{IsTable}
-use Rattle.rv_machine.proofs.machine.Machine.fetch.Goals as goal
+use Rattle.rv_machine.proofs.machine.Machine.known.Goals as goal
 
 pub returns-in-None-index-clause-next : goal.returns-in-None-index-clause-next
 returns-in-None-index-clause-next c =
