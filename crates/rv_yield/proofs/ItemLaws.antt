@@ -1,0 +1,101 @@
+-- How much code there is for a yielder, and that it places no label.
+use Rattle.std.proofs.Common.{◌≡◌, ⊎_elim, ℕ, ◌+◌, ◌*◌, ◌≤◌, Bool, true, false, if◌then◌else◌, List, [], ◌∷◌, ◌++◌, map, Option, Some, None, ℤ, pos, int_lt, refl, sym, ap, ◌∙◌, arith, append_assoc, append-nil, ltb}
+use Rattle.rv_code.proofs.Bools.{true-or-false}
+use Rattle.rv_code.specs.declared.instruction.Inst.{Inst}
+use Rattle.rv_asm.specs.Assembly.{total, is_placed, is_mark}
+use Rattle.rv_asm.specs.Conventions.{integer_word}
+use Rattle.rv_asm.specs.Pieces.{load_constant}
+use Rattle.rv_asm.specs.declared.item.Item.{Item}
+use Rattle.rv_asm.specs.declared.item.Item.TheVariants.{Plain}
+use Rattle.rv_asm.proofs.Constants.{length-load_constant}
+use Rattle.rv_asm.proofs.Labels.{total-append}
+use Rattle.rv_asm.proofs.LabelsKept.{placed-push}
+use Rattle.rv_asm.proofs.Sending.{total-plain}
+use Rattle.action_terms.specs.Actions.{Two, Sum, Difference, Product, Quotient, Remainder, Is, Less, BothOf, EitherOf, One, Negation, Not, Yielder, NumberLiteral, TruthLiteral, Given, GivenAt, BoundTo, StoredIn, OnTwo, OnOne, ClosureOf}
+use Rattle.action_terms.specs.Need.{yielder_count}
+use Rattle.rv_yield.specs.Registers.{registers_needed}
+use Rattle.rv_yield.specs.YielderCode.{operation_items, negation_items, addition_items, second_constant, first_constant, of_literal, addend_for, either_adding, value_items}
+
+-- no label is placed
+abbrev pub Unmarked : List Item → Type 0
+Unmarked [] = Unit {0}
+Unmarked (x ∷ xs) = (is_mark x ≡ false) × Unmarked xs
+
+unmarked-append : (a b : List Item) → Unmarked a → Unmarked b → Unmarked (a ++ b)
+unmarked-append [] b h k = k
+unmarked-append (x ∷ a) b h k = (h.0, unmarked-append a b h.1 k)
+
+pub unmarked-plain : (is : List Inst) → Unmarked (map Plain is)
+unmarked-plain [] = tt
+unmarked-plain (i ∷ is) = (refl, unmarked-plain is)
+
+pub placed-unmarked : (a b : List Item) (l : ℕ) → Unmarked b → is_placed (a ++ b) l ≡ is_placed a l
+placed-unmarked a [] l h = ap (λ i. is_placed i l) (append-nil a)
+placed-unmarked a (x ∷ b) l h =
+    ap (λ i. is_placed i l) (sym (append_assoc a (x ∷ []) b)) ∙ placed-unmarked (a ++ x ∷ []) b l h.1 ∙ placed-push a x l h.0
+
+-- so few instructions, and no label
+pub record IsShort (limit : ℕ) (items : List Item) : Type 0 where
+  pub few : total items ≤ limit
+  pub unmarked : Unmarked items
+
+short-append : (m n k : ℕ) (a b : List Item) → m + n ≤ k → IsShort m a → IsShort n b → IsShort k (a ++ b)
+short-append m n k a b le h h' = record { few = omega (arith, total-append a b, h.few, h'.few, le); unmarked = unmarked-append a b h.unmarked h'.unmarked }
+
+short-if : (n : ℕ) (b : Bool) (x y : List Item) → IsShort n x → IsShort n y → IsShort n (if b then x else y)
+short-if n true x y h k = h
+short-if n false x y h k = k
+
+operation-short : (f : Two) (to a b l : ℕ) → IsShort 12 (operation_items f to a b l)
+operation-short Sum to a b l =
+    short-if 12 (ltb a b) _ _ (record { few = omega arith; unmarked = (refl, (refl, (refl, (refl, tt)))) }) (record { few = omega arith; unmarked = (refl, (refl, (refl, (refl, tt)))) })
+operation-short Difference to a b l = record { few = omega arith; unmarked = (refl, (refl, (refl, (refl, tt)))) }
+operation-short Product to a b l = record { few = omega arith; unmarked = (refl, (refl, (refl, (refl, tt)))) }
+operation-short Quotient to a b l = record { few = omega arith; unmarked = (refl, (refl, (refl, (refl, (refl, (refl, (refl, (refl, tt)))))))) }
+operation-short Remainder to a b l = record { few = omega arith; unmarked = (refl, (refl, tt)) }
+operation-short Is to a b l = record { few = omega arith; unmarked = tt }
+operation-short Less to a b l = record { few = omega arith; unmarked = tt }
+operation-short BothOf to a b l = record { few = omega arith; unmarked = tt }
+operation-short EitherOf to a b l = record { few = omega arith; unmarked = tt }
+
+negation-short : (o : One) (to a l : ℕ) → IsShort 12 (negation_items o to a l)
+negation-short Negation to a l = record { few = omega arith; unmarked = (refl, (refl, (refl, (refl, tt)))) }
+negation-short Not to a l = record { few = omega arith; unmarked = tt }
+
+addition-short : (to a : ℕ) (z : ℤ) (l : ℕ) → IsShort 12 (addition_items to a z l)
+addition-short to a z l =
+    ⊎_elim (λ e. rw e (record { few = omega arith; unmarked = (refl, (refl, tt)) })) (λ e. rw e (record { few = omega arith; unmarked = (refl, (refl, tt)) })) (true-or-false (int_lt z (pos 0)))
+
+either-short :
+    (n : ℕ) (o o' : Option ℤ) (to l : ℕ) (first second both : List Item) → ((z : ℤ) → IsShort n (first ++ addition_items to (addend_for to) z l)) →
+    ((z : ℤ) → IsShort n (second ++ addition_items to (addend_for to) z l)) → IsShort n both → IsShort n (either_adding o o' to l first second both)
+either-short n (Some z) o' to l first second both a b c = a z
+either-short n None (Some z) to l first second both a b c = b z
+either-short n None None to l first second both a b c = c
+
+none-short : (n : ℕ) → IsShort n []
+none-short n = record { few = omega arith; unmarked = tt }
+
+-- at most 12 instructions for each yielder
+pub value-short : (y : Yielder) (to free l : ℕ) → IsShort (12 * yielder_count y) (value_items to free l y)
+value-short (NumberLiteral z) to free l =
+    let piece = load_constant to (integer_word z) in
+    record { few = omega (arith, total-plain piece, length-load_constant to (integer_word z)); unmarked = unmarked-plain piece }
+value-short (OnTwo f y1 y2) to free l =
+    let c1 = yielder_count y1 in
+    let c2 = yielder_count y2 in
+    let n = 12 * yielder_count (OnTwo f y1 y2) in
+    either-short n (of_literal (second_constant f) y2) (of_literal (first_constant f) y1) to l _ _ _
+    (λ z. short-append (12 * c1) 12 n _ _ (omega arith) (value-short y1 (addend_for to) free l) (addition-short to (addend_for to) z l))
+    (λ z. short-append (12 * c2) 12 n _ _ (omega arith) (value-short y2 (addend_for to) free l) (addition-short to (addend_for to) z l))
+    (short-if n (ltb (registers_needed y1) (registers_needed y2)) _ _
+    (short-append (12 * c2) (12 * c1 + 12) n _ _ (omega arith) (value-short y2 free free l) (short-append (12 * c1) 12 (12 * c1 + 12) _ _ (omega arith) (value-short y1 (free + 1) (free + 1) l) (operation-short f to (free + 1) free l)))
+    (short-append (12 * c1) (12 * c2 + 12) n _ _ (omega arith) (value-short y1 free free l) (short-append (12 * c2) 12 (12 * c2 + 12) _ _ (omega arith) (value-short y2 (free + 1) (free + 1) l) (operation-short f to free (free + 1) l))))
+value-short (OnOne f y) to free l =
+    short-append (12 * yielder_count y) 12 (12 * yielder_count (OnOne f y)) _ _ (omega arith) (value-short y free free l) (negation-short f to free l)
+value-short (TruthLiteral t) to free l = none-short _
+value-short (Given s) to free l = none-short _
+value-short (GivenAt s k) to free l = none-short _
+value-short (BoundTo s t) to free l = none-short _
+value-short (StoredIn s y) to free l = none-short _
+value-short (ClosureOf k) to free l = none-short _

@@ -1,0 +1,14 @@
+mod Numbers
+mod Products
+mod Quotients
+mod Steps
+mod Checks
+mod Sums
+mod Divisions
+mod Additions
+mod Evaluation
+mod TaskLaws
+mod NeedLaws
+mod ItemLaws
+mod Evaluated
+mod Stored

@@ -1,0 +1,78 @@
+-- What the machine does at the code of a yielder, whatever is emitted behind it: the one interface of this code to that of nodes.
+use Rattle.std.specs.Prelude.{◌≡◌, ℕ, ◌+◌, ◌*◌, ◌%◌, ◌^◌, ◌<◌, ◌≤◌, List, ◌++◌, length, slice_set, Option, Some, None}
+use Rattle.rv_code.specs.declared.instruction.Inst.{Inst}
+use Rattle.rv_asm.specs.Assembly.{Listing, total, spot, address_of}
+use Rattle.rv_asm.specs.Conventions.{frame_register}
+use Rattle.rv_asm.specs.DataWords.{Heap, StandsFor}
+use Rattle.rv_asm.specs.PieceRuns.{LeadsAt, code_with, end_of, IsBefore}
+use Rattle.rv_asm.specs.WordMachine.{WordState}
+use Rattle.rv_asm.specs.declared.item.Item.{Item}
+use Rattle.action_terms.specs.Information.{Datum, Binds, Data, Storage}
+use Rattle.action_terms.specs.Actions.{Yielder}
+use Rattle.action_terms.specs.Need.{yielder_count}
+use Rattle.action_terms.specs.Yielding.{yields}
+
+-- the address of a label in all that was emitted
+abbrev pub label_address : Listing → (behind : List Item) → (label : ℕ) → ℕ
+label_address listing behind label = address_of (spot (listing.items ++ behind) label)
+
+-- at most so many instructions lead from a state to an address. The registers below `first` are as before, and so are all
+-- words of the region; nothing was read or sent
+pub record Comes (base : ℕ) (code : List Inst) (limit first : ℕ) (c : WordState) (address : ℕ) : Type 0 where
+  pub instructions : ℕ
+  pub few : instructions ≤ limit
+  pub end : WordState
+  pub leads : LeadsAt base code instructions c end
+  pub at : end.pc ≡ address
+  pub others : (k : ℕ) → k < first → end.registers k ≡ c.registers k
+  pub words : end.words ≡ c.words
+  pub input : end.input ≡ c.input
+  pub output : end.output ≡ c.output
+
+-- behind the code the datum's word is in the register; where nothing is yielded, the code has gone to the other address
+abbrev pub Evaluated : (base : ℕ) → Heap → (code : List Inst) → (limit register : ℕ) → WordState → (next nothing : ℕ) → Option Datum → Type 0
+Evaluated base heap code limit register c next nothing (Some x) = (g : Comes base code limit register c next) × StandsFor base heap (g.end.registers register) x
+Evaluated base heap code limit register c next nothing None = Comes base code limit register c nothing
+
+-- the code that was appended evaluates the yielder, by at most 12 instructions for each yielder in it
+abbrev pub Evaluates : (register nothing : ℕ) → Yielder → (old new : Listing) → Type 0
+Evaluates register nothing y old new =
+    (behind : List Item) (c : WordState) (base : ℕ) (heap : Heap) (d : Data) (b : Binds) (cells : Storage) →
+    total (new.items ++ behind) < 2 ^ 28 → IsBefore old c →
+    Evaluated base heap (code_with new behind) (12 * yielder_count y) register c (end_of new) (label_address new behind nothing) (yields y d b cells)
+
+-- ---- with a word of the frame in place of a register
+
+-- a frame begins at word f of the region, and the word at an offset of it is inside
+pub record HasFrame (base f offset : ℕ) (c : WordState) : Type 0 where
+  pub aligned : base % 8 ≡ 0
+  pub below : base + 8 * length c.words ≤ 2 ^ 32
+  pub frame : c.registers frame_register ≡ base + 8 * f
+  pub inside : f + offset < length c.words
+
+-- at most so many instructions leave a word at the offset and lead to an address. Registers 0 to 4 and all other words are as
+-- before, and nothing was read or sent
+pub record Leaves (base : ℕ) (code : List Inst) (limit f offset word : ℕ) (c : WordState) (address : ℕ) : Type 0 where
+  pub instructions : ℕ
+  pub few : instructions ≤ limit
+  pub end : WordState
+  pub leads : LeadsAt base code instructions c end
+  pub at : end.pc ≡ address
+  pub others : (k : ℕ) → k < 5 → end.registers k ≡ c.registers k
+  pub words : end.words ≡ slice_set c.words (f + offset) word
+  pub input : end.input ≡ c.input
+  pub output : end.output ≡ c.output
+
+-- the datum's word stands at the offset behind the code; where nothing is yielded, the code has gone to the other address and
+-- no word has changed
+abbrev pub Left : (base : ℕ) → Heap → (code : List Inst) → (limit f offset : ℕ) → WordState → (next nothing : ℕ) → Option Datum → Type 0
+Left base heap code limit f offset c next nothing (Some x) = (word : ℕ) × StandsFor base heap word x × Leaves base code limit f offset word c next
+Left base heap code limit f offset c next nothing None = Comes base code limit 5 c nothing
+
+-- the code that was appended evaluates the yielder and stores its datum at an offset of the frame, by at most 24 instructions
+-- for each yielder in it
+abbrev pub Stores : (offset nothing : ℕ) → Yielder → (old new : Listing) → Type 0
+Stores offset nothing y old new =
+    (behind : List Item) (c : WordState) (base f : ℕ) (heap : Heap) (d : Data) (b : Binds) (cells : Storage) →
+    total (new.items ++ behind) < 2 ^ 28 → IsBefore old c → HasFrame base f offset c →
+    Left base heap (code_with new behind) (24 * yielder_count y) f offset c (end_of new) (label_address new behind nothing) (yields y d b cells)

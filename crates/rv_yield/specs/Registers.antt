@@ -1,0 +1,80 @@
+-- How many registers a yielder needs, and those that its code uses.
+use Rattle.std.specs.Prelude.{◌≡◌, ℕ, ◌+◌, ◌<◌, min, max, Bool, true, false, ◌&&◌, ◌||◌, nat_eq, List, length, slice_index, FitsSigned, if◌then◌else◌}
+use Rattle.std.specs.Int.{w64}
+use Rattle.action_terms.specs.Actions.{Two, Sum, Difference, Product, Quotient, Remainder, Negation, Yielder, NumberLiteral, OnTwo, OnOne}
+use Rattle.action_terms.specs.Forms.{yielder_at}
+use Rattle.action_terms.specs.Numbering.{ListedYielder}
+
+-- ---- the yielders whose code can be made
+
+-- the operations on two integers
+abbrev pub is_arithmetic : Two → Bool
+is_arithmetic Sum = true
+is_arithmetic Difference = true
+is_arithmetic Product = true
+is_arithmetic Quotient = true
+is_arithmetic Remainder = true
+is_arithmetic _ = false
+
+-- numbers, and operations on integers
+abbrev pub is_built : Yielder → Bool
+is_built (NumberLiteral z) = true
+is_built (OnTwo f y1 y2) = is_arithmetic f && (is_built y1 && is_built y2)
+is_built (OnOne Negation y) = is_built y
+is_built _ = false
+
+-- ---- how many values stand at once
+
+-- the operand that needs more registers comes first, so that the other one has all but one of them
+abbrev pub registers_needed : Yielder → ℕ
+registers_needed (OnTwo f y1 y2) = max (max (registers_needed y1) (registers_needed y2)) (min (registers_needed y1) (registers_needed y2) + 1)
+registers_needed (OnOne f y) = registers_needed y
+registers_needed _ = 1
+
+-- the registers that a yielder needs, or 0 where its code can't be made
+abbrev pub need_of : Yielder → ℕ
+need_of y = if is_built y then registers_needed y else 0
+
+-- what an operation needs whose operands need so many, each of them 0 where its code can't be made
+abbrev pub both_needed : ℕ → ℕ → ℕ
+both_needed a b = if nat_eq a 0 || nat_eq b 0 then 0 else max (max a b) (min a b + 1)
+
+-- this is what the yielders need, by their numbers
+pub record AreNeeds (yielders : List ListedYielder) (needs : List ℕ) : Type 0 where
+  pub size : length needs ≡ length yielders
+  pub each : (k : ℕ) → k < length yielders → slice_index needs k ≡ need_of (yielder_at yielders k)
+
+-- ---- the registers
+
+-- the first of the 16 registers that hold values
+abbrev pub first_register : ℕ
+first_register = 10
+
+-- the register behind them
+abbrev pub registers_end : ℕ
+registers_end = 26
+
+-- a value to which a constant is added stands in one of two registers, since the sum goes to another: in this one
+abbrev pub addend : ℕ
+addend = 26
+
+-- the other one
+abbrev pub other_addend : ℕ
+other_addend = 27
+
+-- checks have two registers: this one
+abbrev pub check : ℕ
+check = 29
+
+-- the other one
+abbrev pub other_check : ℕ
+other_check = 28
+
+-- ---- literals
+
+-- the numbers in a yielder are those of 64 bits
+abbrev pub HasWords : Yielder → Type 0
+HasWords (NumberLiteral z) = FitsSigned w64 z
+HasWords (OnTwo f y1 y2) = HasWords y1 × HasWords y2
+HasWords (OnOne f y) = HasWords y
+HasWords _ = Unit {0}
