@@ -4,7 +4,7 @@ use Rattle.rv_code.specs.declared.cause.Cause.{Cause}
 use Rattle.rv_machine.specs.declared.answers.Turn.TheVariants as turn
 use Rattle.rv_machine.specs.declared.answers.QuietEnd.TheVariants as quiet
 use Rattle.rv_machine.specs.Machines.{MachineValue, InputValue, left, sent_in, Runs, IsCounted, StepExits, StepTraps}
-use Rattle.rv_machine.specs.Effects.{IsSend, Turns}
+use Rattle.rv_machine.specs.Effects.{IsSend, Turns, RunsPlainly}
 use Rattle.rv_machine.specs.Stepping.{RanQuietly}
 use Rattle.acg_base.specs.Outside.{counted}
 use Rattle.rv_machine.proofs.RunsLemmas.{runs-none, runs-more, sent_in-none, sent_in-more, counted-none, counted-more}
@@ -38,6 +38,15 @@ module _ (n : ℕ) (old : MachineValue) (input : InputValue) (m : MachineValue) 
         counted = counted-more n old m more before.counted taken;
         bytes = h.bytes ∙ before.bytes;
       }
+
+  -- one more instruction that sends nothing
+  pub goes-on-plainly : (new : MachineValue) → RunsPlainly m new → RanSilently (n + 1) old input new i
+  goes-on-plainly new h = record {
+    runs = runs-more n old (left input) m (left i) new (left i) before.runs (h.ran (left i));
+    silent = rw (sent_in-more n old (left input) m (left i) new (left i) before.runs (h.ran (left i)), before.silent, h.silent) refl;
+    counted = counted-more n old m new before.counted h.taken;
+    bytes = before.bytes;
+  }
 
   -- all instructions ran
   pub ends-all : RanQuietly n (record { end = quiet.Budget; ran = n }) old input m i

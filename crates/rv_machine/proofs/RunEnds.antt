@@ -6,6 +6,7 @@ use Rattle.rv_code.specs.declared.cause.Cause.{Cause}
 use Rattle.rv_machine.specs.declared.answers.Step.TheVariants as step
 use Rattle.rv_machine.specs.declared.answers.Run.TheVariants as run
 use Rattle.rv_machine.specs.Machines.{MachineValue, InputValue, left, sent, sent_in, write_counted, writes_behind, Runs, IsCounted}
+use Rattle.rv_machine.specs.Effects.{RunsPlainly}
 use Rattle.rv_machine.specs.Stepping.{Stepped, RanWithin}
 use Rattle.rv_machine.proofs.RunsLemmas.{runs-none, runs-more, sent_in-none, sent_in-more, sent_in-exit, sent_in-trap, run-exits, run-traps, writes_behind-none, writes_behind-more, writes_behind-end, counted-none, counted-more}
 
@@ -58,6 +59,22 @@ module _ {K : Type 0} (written : K → List ℕ) (faults writes : K → ℕ) (te
               append_assoc,
             )
             refl;
+      }
+
+  -- one more instruction that sends nothing
+  pub goes-on-plainly : (new : MachineValue) → RunsPlainly m new → RanSo written faults writes tells (n + 1) old input out new i k
+  goes-on-plainly new h =
+      let steps = h.ran (left i) in
+      let sent_more = sent_in-more n old (left input) m (left i) new (left i) before.runs steps in
+      let same : sent_in (n + 1) old (left input) ≡ sent_in n old (left input) = rw (sent_more, h.silent) (append-nil (sent_in n old (left input))) in
+      record {
+        runs = runs-more n old (left input) m (left i) new (left i) before.runs steps;
+        counted = counted-more n old m new before.counted h.taken;
+        bytes = before.bytes;
+        still = before.still;
+        telling = before.telling;
+        wrote = rw (writes_behind-more n old (left input) m (left i) new (left i) (writes out) before.runs steps, h.silent) before.wrote;
+        told = λ told. rw same (before.told told);
       }
 
   -- all instructions ran

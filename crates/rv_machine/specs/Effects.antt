@@ -1,5 +1,6 @@
 -- What the parts of a step say of one another.
 use Rattle.std.specs.Prelude.{◌≡◌, ◌≢◌, ℕ, ◌<◌, List, [], length, Some, Result, Ok, Err, ⊤}
+use Rattle.acg_base.specs.Outside.{counted}
 use Rattle.rv_code.specs.Machine.{State, Outcome, Ran, Trapped, read_bytes, receive_call, send_call, execute, step}
 use Rattle.rv_code.specs.declared.cause.Cause.{Cause}
 use Rattle.rv_code.specs.declared.instruction.Inst.{Inst}
@@ -54,3 +55,9 @@ pub record Turns (result : Turn) (old : MachineValue) (input : InputValue) (new 
 abbrev pub AmountFits : Inst → Type 0
 AmountFits (Shift op rd rs1 amount) = amount < 64
 AmountFits _ = ⊤
+
+-- the next instruction ran and was counted, whatever the input, and it sends nothing
+pub record RunsPlainly (old new : MachineValue) : Type 0 where
+  pub ran : (input : List ℕ) → Steps old input new input
+  pub silent : sent old ≡ []
+  pub taken : new.taken ≡ counted old.taken

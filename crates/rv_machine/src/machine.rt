@@ -55,7 +55,7 @@ impl Machine {
     ghost use Rattle.rv_code.specs.Images.{started};
     ghost use Rattle.rv_code.specs.declared.cause.Cause.{Cause as CauseValue};
     ghost use Rattle.rv_machine.specs.Machines.{left, state_of, loaded_machine, sent, Steps, StepTraps};
-    ghost use Rattle.rv_machine.specs.Effects.{Does, Fetches, AtCall, AtReceive, AtSend, IsSend, AmountFits, Turns};
+    ghost use Rattle.rv_machine.specs.Effects.{Does, Fetches, AtCall, AtReceive, AtSend, IsSend, AmountFits, Turns, RunsPlainly};
     ghost use Rattle.rv_machine.specs.Memory.{IsSize};
     ghost use Rattle.rv_machine.specs.Stepping.{Stepped, RanWithin, RanQuietly, PassedOver};
 
@@ -378,42 +378,18 @@ impl Machine {
         }
     }
 
-    // Does the instruction at the pc, which is this one, but doesn't send.
-    #[inline(always)]
-    fn obey(&mut self, inst: Inst, input: &mut Input<'_>) -> Turn
-        requires next { Fetches (Ok inst) self.old }
-        requires amount { AmountFits inst }
-        ensures { Turns result self.old input.old self.new input.new }
-    {
-        match inst {
-            Inst::Ecall => self.call(input),
-            inst => match self.execute(inst) {
-                Ok(()) => Turn::Ran,
-                Err(cause) => Turn::Trapped { cause },
-            },
-        }
-    }
-
-    // The same as `turn`, where the table lacks the instruction.
-    #[inline(never)]
-    fn turn_decoding(&mut self, input: &mut Input<'_>) -> Turn
-        ensures { Turns result self.old input.old self.new input.new }
-    {
-        match self.decode_next() {
-            Err(cause) => Turn::Trapped { cause },
-            Ok(inst) => self.obey(inst, input),
-        }
-    }
-
     // Does one instruction that sends nothing, and doesn't count it.
-    #[inline(always)]
+    #[inline(never)]
     fn turn(&mut self, input: &mut Input<'_>) -> Turn
         ensures { Turns result self.old input.old self.new input.new }
     {
-        match self.known() {
-            None => self.turn_decoding(input),
-            Some(Err(cause)) => Turn::Trapped { cause },
-            Some(Ok(inst)) => self.obey(inst, input),
+        match self.fetch() {
+            Err(cause) => Turn::Trapped { cause },
+            Ok(Inst::Ecall) => self.call(input),
+            Ok(inst) => match self.execute(inst) {
+                Ok(()) => Turn::Ran,
+                Err(cause) => Turn::Trapped { cause },
+            },
         }
     }
 
@@ -422,6 +398,27 @@ impl Machine {
         ensures { self.new ≡ record self.old { taken = counted self.old.taken } }
     {
         self.taken = self.taken.saturating_add(1);
+    }
+
+    // Does and counts the next instruction, where the table has it, it isn't a call and doesn't trap. False where nothing
+    // was done.
+    #[inline(always)]
+    fn plain(&mut self) -> bool
+        ensures ran { OnTrue result (RunsPlainly self.old self.new) }
+        ensures stays { OnFalse result (self.new ≡ self.old) }
+    {
+        match self.known() {
+            None => false,
+            Some(Err(_cause)) => false,
+            Some(Ok(Inst::Ecall)) => false,
+            Some(Ok(inst)) => match self.execute(inst) {
+                Err(_cause) => false,
+                Ok(()) => {
+                    self.count();
+                    true
+                }
+            },
+        }
     }
 
     // Lends the bytes that the next instruction sends.
@@ -519,6 +516,9 @@ impl Machine {
             self.old input.old out.old self.new input.new out.new }
     {
         for _i in 0..budget {
+            if self.plain() {
+                continue;
+            }
             match self.step(input, out) {
                 Step::Ran => {}
                 Step::Exited { code } => return Run::Exited { code },
@@ -537,6 +537,9 @@ impl Machine {
         ensures { RanQuietly budget result self.old input.old self.new input.new }
     {
         for ran in 0..budget {
+            if self.plain() {
+                continue;
+            }
             match self.turn(input) {
                 Turn::Ran => self.count(),
                 Turn::Exited { code } => return QuietEnd::Exited { code }.behind(ran),
