@@ -28,9 +28,13 @@ abbrev pub first_named : List Kind → (name : List ℕ) → Option Kind
 first_named [] name = None
 first_named (kind ∷ kinds) name = if bytes_eq (name_of kind) name then Some kind else first_named kinds name
 
+-- the commands that there are
+abbrev pub commands : List Kind
+commands = kind.Act ∷ kind.Perform ∷ kind.Help ∷ kind.Version ∷ []
+
 -- the command with the name
 abbrev pub kind_of : (name : List ℕ) → Option Kind
-kind_of name = first_named (kind.Act ∷ kind.Perform ∷ kind.Help ∷ kind.Version ∷ []) name
+kind_of name = first_named commands name
 
 -- a number of `perform`: one digit or more, below 2^63
 abbrev pub schedule_number : List ℕ → Option ℕ

@@ -1,5 +1,5 @@
 -- The printed lines, and the status that goes with each that ends an answer. Each ends with a line feed.
-use Rattle.std.specs.Prelude.{ℕ, ℤ, List, [], ◌∷◌, ◌++◌, codes}
+use Rattle.std.specs.Prelude.{ℕ, ℤ, Bool, true, false, List, [], ◌∷◌, ◌++◌, codes}
 use Rattle.acg_base.specs.Decimals.{decimal_of, unsigned_decimal_of}
 use Rattle.acg_base.specs.declared.limits.TheConstants.{LIMIT_ACTION, LIMIT_INPUT, LIMIT_NODES}
 use Rattle.acg_base.specs.declared.status.Status.{Status}
@@ -50,6 +50,11 @@ status_of Failed = status.Failed
 status_of Escaped = status.Escaped
 status_of Full = status.Full
 status_of Running = status.Running
+
+-- whether it is printed by one write: the name of a read fault may have any length
+abbrev pub is_one_piece : Line → Bool
+is_one_piece (ReadFault name) = false
+is_one_piece _ = true
 
 -- before a run: the words of the stack, the units, and the factor
 abbrev pub header_line : (stack units factor : ℕ) → List ℕ

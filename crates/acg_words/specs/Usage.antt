@@ -5,11 +5,10 @@ use Rattle.acg_base.specs.Decimals.{unsigned_decimal_of}
 use Rattle.acg_base.specs.Statuses.{code_of}
 use Rattle.acg_base.specs.declared.status.Status.{Status}
 use Rattle.acg_base.specs.declared.status.Status.TheVariants.{Done, Failed, Escaped, Full, Running, ExitAbove, Words, ReadFault, WriteFault, Description, Source, Uncovered, Numeral, IllSorted, Limit, Memory, Image, Trapped, Action}
-use Rattle.acg_words.specs.Commands.{name_of}
+use Rattle.acg_words.specs.Commands.{name_of, commands}
 use Rattle.acg_words.specs.declared.table.Kind.{Kind}
 use Rattle.acg_words.specs.declared.table.Kind.TheVariants.{Act, Perform, Help, Version}
 use Rattle.acg_words.specs.declared.table.Row.{Row}
-use Rattle.acg_words.specs.declared.table.TheConstants.{KINDS, STATUSES}
 
 -- the operands of a command
 abbrev pub operands_of : Kind → List ℕ
@@ -61,9 +60,13 @@ command_lines kind =
 abbrev pub status_line : Status → List ℕ
 status_line status = concat (codes "status " ∷ unsigned_decimal_of (code_of status) ∷ codes ": " ∷ meaning_of status ∷ codes "\n" ∷ [])
 
+-- the statuses with which commands end
+abbrev pub statuses : List Status
+statuses = Done ∷ Failed ∷ Escaped ∷ Full ∷ Running ∷ Words ∷ ReadFault ∷ WriteFault ∷ Limit ∷ Memory ∷ Action ∷ []
+
 -- each command that there is, and then each status with which they end
 unfoldable pub usage : List ℕ
-usage = flat_map command_lines KINDS ++ flat_map status_line STATUSES
+usage = flat_map command_lines commands ++ flat_map status_line statuses
 
 -- the name of the program, and its version
 abbrev pub version_line : List ℕ

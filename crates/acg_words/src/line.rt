@@ -70,8 +70,9 @@ impl From<Memory> for Line {
 }
 
 impl Line {
-    ghost use Rattle.std.specs.Prelude.{◌≡◌};
-    ghost use Rattle.acg_words.specs.Lines.{bytes_of, status_of};
+    ghost use Rattle.std.specs.Prelude.{◌≡◌, IsTrue};
+    ghost use Rattle.acg_base.specs.Outside.{counted};
+    ghost use Rattle.acg_words.specs.Lines.{bytes_of, status_of, is_one_piece};
     ghost use Rattle.acg_words.specs.Prints.{Printed, Answered};
 
     /// The status that goes with the line.
@@ -95,9 +96,10 @@ impl Line {
         }
     }
 
-    /// Prints the line. Answers `Failed` where the sink fails: it has a front of the line then.
+    /// Prints the line, by one write or, for a read fault, by three. Answers `Failed` where the sink fails: it has a front of the line then.
     pub fn print<K: Sink>(&self, out: &mut K) -> Result<(), SinkError>
-        ensures { Printed K.Sink (bytes_of self.now) out.old out.new result }
+        ensures printed { Printed K.Sink (bytes_of self.now) out.old out.new result }
+        ensures once { IsTrue (is_one_piece self.now) → K.writes out.new ≡ counted (K.writes out.old) }
     {
         match self {
             Line::Words => print(out, b"words\n"),
@@ -120,7 +122,8 @@ impl Line {
 
     /// Prints the line, and answers its status, or `WriteFault` where the sink fails.
     pub fn answer<K: Sink>(&self, out: &mut K) -> Status
-        ensures { Answered K.Sink (bytes_of self.now) (status_of self.now) out.old out.new result }
+        ensures answered { Answered K.Sink (bytes_of self.now) (status_of self.now) out.old out.new result }
+        ensures once { IsTrue (is_one_piece self.now) → K.writes out.new ≡ counted (K.writes out.old) }
     {
         match self.print(out) {
             Ok(()) => self.status(),

@@ -1,7 +1,8 @@
 //! Pieces of text that a sink gets, each by one write.
 
-ghost use Rattle.std.specs.Prelude.{◌≤◌, length};
+ghost use Rattle.std.specs.Prelude.{◌≡◌, ◌≤◌, length};
 ghost use Rattle.std.specs.List.{flat_map};
+ghost use Rattle.acg_base.specs.Outside.{counted};
 ghost use Rattle.acg_words.specs.Lines.{numbered_line, header_line, message_line, read_fault_line};
 ghost use Rattle.acg_words.specs.Prints.{Printed};
 
@@ -10,7 +11,8 @@ use acg_base::{Sink, SinkError};
 
 /// Prints the text, by one write.
 pub(crate) fn print<K: Sink>(out: &mut K, text: &[u8]) -> Result<(), SinkError>
-    ensures { Printed K.Sink text.now out.old out.new result }
+    ensures printed { Printed K.Sink text.now out.old out.new result }
+    ensures once { K.writes out.new ≡ counted (K.writes out.old) }
 {
     out.write(text)
 }
@@ -32,7 +34,8 @@ pub(crate) fn print_numbered<K: Sink>(
     number: u32,
 ) -> Result<(), SinkError>
     requires { length text.now ≤ 40 }
-    ensures { Printed K.Sink (numbered_line text.now number) out.old out.new result }
+    ensures printed { Printed K.Sink (numbered_line text.now number) out.old out.new result }
+    ensures once { K.writes out.new ≡ counted (K.writes out.old) }
 {
     let mut line = Buffer::new();
     line.put(text);
@@ -48,7 +51,7 @@ pub(crate) fn print_read_fault<K: Sink>(out: &mut K, name: &[u8]) -> Result<(), 
     print_all(out, &[b"read fault ".as_slice(), name, b"\n".as_slice()])
 }
 
-/// Prints the header of a run: the words of the stack, the units, and the factor.
+/// Prints the header of a run: the words of the stack, the units, and the factor. It is one write.
 ///
 /// Answers `Failed` where the sink fails: it has a front of the line then.
 pub fn print_header<K: Sink>(
@@ -57,7 +60,8 @@ pub fn print_header<K: Sink>(
     units: u64,
     factor: u64,
 ) -> Result<(), SinkError>
-    ensures { Printed K.Sink (header_line stack units factor) out.old out.new result }
+    ensures printed { Printed K.Sink (header_line stack units factor) out.old out.new result }
+    ensures once { K.writes out.new ≡ counted (K.writes out.old) }
 {
     let mut line = Buffer::new();
     line.put(b"stack ");
@@ -70,11 +74,12 @@ pub fn print_header<K: Sink>(
     print(out, line.as_slice())
 }
 
-/// Prints a message: an integer in decimal and a line feed.
+/// Prints a message: an integer in decimal and a line feed. It is one write.
 ///
 /// Answers `Failed` where the sink fails: it has a front of the line then.
 pub fn print_message<K: Sink>(out: &mut K, value: i64) -> Result<(), SinkError>
-    ensures { Printed K.Sink (message_line value) out.old out.new result }
+    ensures printed { Printed K.Sink (message_line value) out.old out.new result }
+    ensures once { K.writes out.new ≡ counted (K.writes out.old) }
 {
     let mut line = Buffer::new();
     line.put_signed(value);

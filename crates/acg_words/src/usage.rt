@@ -1,6 +1,8 @@
 //! How the program is used, and its version.
 
+ghost use Rattle.std.specs.Prelude.{◌≡◌};
 ghost use Rattle.std.specs.List.{flat_map};
+ghost use Rattle.acg_base.specs.Outside.{counted};
 ghost use Rattle.acg_words.specs.Prints.{Printed};
 ghost use Rattle.acg_words.specs.Usage.{command_lines, status_line, usage, version_line};
 
@@ -75,11 +77,12 @@ pub fn print_usage<K: Sink>(out: &mut K) -> Result<(), SinkError>
     print_statuses(out, &STATUSES)
 }
 
-/// Prints the name of the program and its version.
+/// Prints the name of the program and its version, by one write.
 ///
 /// Answers `Failed` where the sink fails: it has a front of the line then.
 pub fn print_version<K: Sink>(out: &mut K) -> Result<(), SinkError>
-    ensures { Printed K.Sink version_line out.old out.new result }
+    ensures printed { Printed K.Sink version_line out.old out.new result }
+    ensures once { K.writes out.new ≡ counted (K.writes out.old) }
 {
     print(out, b"acg 0.2.0\n")
 }

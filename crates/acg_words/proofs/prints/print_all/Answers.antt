@@ -7,5 +7,5 @@ use Rattle.acg_words.proofs.prints.print_all.Goals as goal
 pub returns-in_err-print : goal.returns-in_err-print
 returns-in_err-print g c =
     let error = err_from_is_err_and c.from_residual.result c.from_residual.ensures.1 in
-    printed-err c.print.result c.from_residual.result c.in_err-print.was error.1 c.print.ensures
+    printed-err c.print.result c.from_residual.result c.in_err-print.was error.1 c.print.ensures.printed
     (broke-more (λ (x : Bor (List ℕ)). x.now) c.args.pieces.now c.loop-piece.piece-index _ (omega arith) c.loop-piece.invariant)
