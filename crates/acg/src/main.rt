@@ -2,10 +2,12 @@
 #![tactic(auto)]
 
 ghost use Rattle.std.specs.Prelude.{◌≡◌, drop, IfOk};
+ghost use Rattle.std.specs.Process.{exit_status};
 ghost use Rattle.std.specs.Vec.Iter.{into_iter_items};
 ghost use Rattle.acg.specs.Arguments.{words_of};
+ghost use Rattle.acg.specs.Exits.{Exits};
 
-use acg_base::{CountingWriter, FolderStore, OutSink, Status, Words, WorkingFolder};
+use acg_base::{CountingWriter, FolderStore, OutSink, Sink, Status, Store, Words, WorkingFolder};
 use acg_driver::serve;
 use std::alloc::{AllocError, Global};
 use std::env::Args;
@@ -40,11 +42,25 @@ fn words_of(alloc: Global, args: io::Result<Args>) -> Result<Words, AllocError>
     }
 }
 
+// Serves the words of the arguments over a store and a sink: the program, but for which ones it is given. Where there is
+// no memory for the words, the exit status is that of want of memory, and nothing is read or written.
+fn serve_arguments<S: Store, K: Sink>(
+    alloc: Global,
+    args: io::Result<Args>,
+    store: &mut S,
+    out: &mut K,
+) -> ExitCode
+    ensures { Exits S.Store K.Sink (words_of args)
+        store.old store.new out.old out.new (exit_status result) }
+{
+    match words_of(alloc, args) {
+        Ok(words) => ExitCode::from(serve(alloc, &words, store, out).code()),
+        Err(_) => ExitCode::from(Status::Memory.code()),
+    }
+}
+
 fn main(rt: HostRuntime) -> ExitCode {
-    let Ok(words) = words_of(rt.alloc(), env::args(&rt)) else {
-        return ExitCode::from(Status::Memory.code());
-    };
     let mut store = FolderStore::new(WorkingFolder::new(&rt));
     let mut out = OutSink::new(CountingWriter::new(io::writer(&rt)));
-    ExitCode::from(serve(rt.alloc(), &words, &mut store, &mut out).code())
+    serve_arguments(rt.alloc(), env::args(&rt), &mut store, &mut out)
 }

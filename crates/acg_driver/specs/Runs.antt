@@ -1,5 +1,6 @@
 -- What the run of a graph's action says.
 use Rattle.std.specs.Prelude.{◌≡◌, ℕ, zero, suc, List, [], ◌++◌}
+use Rattle.acg_base.specs.declared.capacity.TheConstants.{DEFAULT_STACK, DEFAULT_UNITS, DEFAULT_BUDGET}
 use Rattle.acg_base.specs.declared.status.Status.{Status}
 use Rattle.action_terms.specs.Numbering.{Listed}
 use Rattle.action_terms.specs.Meaning.{action_of}
@@ -14,16 +15,6 @@ use Rattle.acg_words.specs.declared.line.Line.{Line}
 use Rattle.acg_words.specs.declared.line.Line.TheVariants.{Completed, Failed, Escaped, Full, Running}
 use Rattle.acg_driver.specs.Says.{SaysBehind}
 use Rattle.acg_driver.specs.declared.running.Loaded.{Loaded}
-
--- the words of the stack and the units, and the instructions of a run
-abbrev pub default_stack : ℕ
-default_stack = 1048576
-
-abbrev pub default_units : ℕ
-default_units = 262144
-
-abbrev pub default_budget : ℕ
-default_budget = 10000000
 
 -- the messages of an output, a line each
 abbrev pub output_lines : List ℕ → List ℕ
@@ -47,15 +38,15 @@ IsRunOf (Trapped cause) text status = ⊥
 -- line stands its run, on no input, within the default budget
 abbrev pub IsRun : Listed → (text : List ℕ) → Status → Type 0
 IsRun g text status =
-    (image : Image) × IsRight image (node_count g) (subject_of g default_stack default_units)
-    × ((rest : List ℕ) × (text ≡ header_line default_stack default_units (factor_of (action_of g)) ++ rest)
-    × IsRunOf (run default_budget (started image [])) rest status)
+    (image : Image) × IsRight image (node_count g) (subject_of g DEFAULT_STACK DEFAULT_UNITS)
+    × ((rest : List ℕ) × (text ≡ header_line DEFAULT_STACK DEFAULT_UNITS (factor_of (action_of g)) ++ rest)
+    × IsRunOf (run DEFAULT_BUDGET (started image [])) rest status)
 
 -- the machine stands before the first instruction of an image that is right for the graph's action, with the default
 -- capacity
 abbrev pub IsRightStart : Listed → MachineValue → Type 0
 IsRightStart g machine =
-    (image : Image) × IsRight image (node_count g) (subject_of g default_stack default_units)
+    (image : Image) × IsRight image (node_count g) (subject_of g DEFAULT_STACK DEFAULT_UNITS)
     × (machine ≡ loaded_machine image)
 
 -- so does the machine that is loaded, and the factor is that of the action

@@ -1,20 +1,14 @@
 //! Images of compiled code.
 
 ghost use Rattle.std.specs.Prelude.{◌≡◌, ◌+◌, ◌*◌, ◌≤◌, length, IfOk};
+ghost use Rattle.acg_base.specs.declared.capacity.TheConstants.{DEFAULT_STACK, DEFAULT_UNITS};
 ghost use Rattle.rv_code.specs.Images.{IsImage};
 ghost use Rattle.rv_asm.specs.Conventions.{instruction_bytes, region_address, region_size};
 ghost use Rattle.rv_codegen.specs.RightImage.{compiled_image};
-ghost use Rattle.acg_driver.specs.Runs.{default_stack, default_units};
 
-use acg_base::Memory;
+use acg_base::{DEFAULT_STACK, DEFAULT_UNITS, Memory};
 use rv_machine::{Image, Segment};
 use std::alloc::Global;
-
-/// The words of the stack of an image, where no other capacity is asked for.
-pub const DEFAULT_STACK: u64 = 1048576;
-
-/// The units of 16 bytes for cells and closures, where no other capacity is asked for.
-pub const DEFAULT_UNITS: u64 = 262144;
 
 // Where the code stands, and the run begins.
 const CODE_ADDRESS: u64 = 65536;
@@ -37,8 +31,8 @@ fn bytes_of_words(alloc: Global, words: &[u32]) -> Result<Vec<u8>, Memory>
 /// The image of compiled code for the default capacity: the code, which can be fetched, and behind it the region of
 /// the run, which can be read and written.
 pub fn compiled_image(alloc: Global, words: &[u32]) -> Result<Image, Memory>
-    requires { IsImage (compiled_image (instruction_bytes words.now) default_stack default_units) }
-    ensures { IfOk result (λ image. image ≡ compiled_image (instruction_bytes words.now) default_stack default_units) }
+    requires { IsImage (compiled_image (instruction_bytes words.now) DEFAULT_STACK DEFAULT_UNITS) }
+    ensures { IfOk result (λ image. image ≡ compiled_image (instruction_bytes words.now) DEFAULT_STACK DEFAULT_UNITS) }
 {
     let bytes = bytes_of_words(alloc, words)?;
     let size = bytes.len() as u64;

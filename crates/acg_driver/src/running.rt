@@ -8,17 +8,14 @@ ghost use Rattle.rv_codegen.specs.Works.{unbuilt};
 ghost use Rattle.acg_driver.specs.Says.{Said};
 ghost use Rattle.acg_driver.specs.Runs.{IsRun, IsLoaded};
 
-use crate::image::{DEFAULT_STACK, DEFAULT_UNITS, compiled_image};
+use crate::image::compiled_image;
 use crate::machine_run::run_machine;
-use acg_base::{Memory, Sink, SinkError, Status};
+use acg_base::{DEFAULT_BUDGET, DEFAULT_STACK, DEFAULT_UNITS, Memory, Sink, SinkError, Status};
 use acg_words::print_header;
 use action_terms::Graph;
 use rv_codegen::{generate, instructions_per_step};
 use rv_machine::Machine;
 use std::alloc::Global;
-
-/// The instructions of a run, at most, where no other budget is asked for.
-pub const DEFAULT_BUDGET: u64 = 10000000;
 
 /// An action that is compiled and loaded.
 #[derive(Drop)]

@@ -16,13 +16,13 @@ loop-message-preserved g c =
     let same : to_z w64 (of_z w64 c.in-Some.message) ≡ c.in-Some.message = search rules in
     front-more c.loop-message.rest.now c.in-Some.behind.now c.in-Some.message c.in-Some.ensures.first c.loop-message.invariant
     (subst (λ m. Took g.K.Sink (message_line m) c.loop-message.out c.print_message.new.out) same
-    (printed-took c.print_message.result c.in_ok-print_message.was c.print_message.ensures))
+    (printed-took c.print_message.result c.in_ok-print_message.was c.print_message.ensures.printed))
 
 pub returns-in_err-print_message : goal.returns-in_err-print_message
 returns-in_err-print_message g c =
     let error = err_from_is_err_and c.from_residual.result c.from_residual.ensures.1 in
     let same : to_z w64 (of_z w64 c.in-Some.message) ≡ c.in-Some.message = search rules in
-    printed-err c.print_message.result c.from_residual.result c.in_err-print_message.was error.1 c.print_message.ensures
+    printed-err c.print_message.result c.from_residual.result c.in_err-print_message.was error.1 c.print_message.ensures.printed
     (λ broke. front-broke c.loop-message.rest.now c.in-Some.behind.now c.in-Some.message c.in-Some.ensures.first c.loop-message.invariant
     (subst (λ m. Broke g.K.Sink (message_line m) c.loop-message.out c.print_message.new.out) same broke))
 

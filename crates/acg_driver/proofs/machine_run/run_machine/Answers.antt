@@ -38,7 +38,7 @@ returns-in-Exited g c =
     let same = quiet-behind c.runs.ran quiet.result.ran m c.runs.machine quiet.new.self (left c.runs.input) (left quiet.new.input) before.ran quiet.ensures.ran quiet.ensures.silent in
     let other : quiet.result.end ≢ quiet_end.Budget = λ e. let both = sym e ∙ c.in-Exited.is in cc in
     let took = subst (λ sent. Took g.K.Sink (output_lines sent) c.args.out.now c.runs.out) (sym same) before.took in
-    said-line {P = IsRunOf (run c.args.budget (state_of m [] []))} c.exit_line.result took c.answer.ensures
+    said-line {P = IsRunOf (run c.args.budget (state_of m [] []))} c.exit_line.result took c.answer.ensures.answered
     (exit-answer n c.args.budget m quiet.new.self (left quiet.new.input) c.in-Exited.code c.exit_line.result ran
     (quiet.ensures.exited c.in-Exited.code c.in-Exited.is) (omega (arith, quiet.ensures.fewer other, before.within)) c.exit_line.ensures)
 
@@ -63,7 +63,7 @@ returns-in-Budget g c =
     let all : n ≡ c.args.budget = omega (arith, quiet.ensures.all c.in-Budget.is, before.within) in
     let took = subst (λ sent. Took g.K.Sink (output_lines sent) c.args.out.now c.runs.out) (sym same ∙ ap (λ count. sent_in count m []) all) before.took in
     let Ran : ℕ → Type 0 = λ count. Runs count m [] quiet.new.self (left quiet.new.input) in
-    said-line {P = IsRunOf (run c.args.budget (state_of m [] []))} Running took c.answer-in-Budget.ensures
+    said-line {P = IsRunOf (run c.args.budget (state_of m [] []))} Running took c.answer-in-Budget.ensures.answered
     (running-answer c.args.budget m quiet.new.self (left quiet.new.input) (subst Ran all ran))
 
 pub returns-then-is_err : goal.returns-then-is_err

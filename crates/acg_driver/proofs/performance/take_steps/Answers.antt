@@ -26,7 +26,7 @@ pub returns-in_default : goal.returns-in_default
 returns-in_default g c =
     let start = c.args.performer.now in
     let before = c.loop-turn.invariant in
-    said-line {P = IsPerformed c.args.number start.graph start.state.world.input} Memory before.took c.answer.ensures
+    said-line {P = IsPerformed c.args.number start.graph start.state.world.input} Memory before.took c.answer.ensures.answered
     (broken-performed c.args.number start.graph start.state.world.input c.loop-turn._turn c.loop-turn.performer.state before.reached (omega arith))
 
 pub returns-in-Ended : goal.returns-in-Ended
@@ -46,7 +46,7 @@ returns-in-Ended g c =
     subst (λ text. Took g.K.Sink text c.args.out.now c.print_sent.new.out) (sym lines) (took-then before.took sent) in
     let AnsweredOf : Line → Type 0 = λ line. Answered g.K.Sink (bytes_of line) (status_of line) c.print_sent.new.out c.answer-in-Ended.new.out c.answer-in-Ended.result in
     said-line {P = IsPerformed c.args.number start.graph start.state.world.input} (end_line ended.0) took
-    (subst AnsweredOf (c.end_line.ensures ended.0 ended.2) c.answer-in-Ended.ensures)
+    (subst AnsweredOf (c.end_line.ensures ended.0 ended.2) c.answer-in-Ended.ensures.answered)
     (ended-performed c.args.number start.graph start.state.world.input (c.loop-turn._turn + 1) new.state ended.0 reached (omega arith) ended.1)
 
 pub loop-turn-preserved : goal.loop-turn-preserved
@@ -74,7 +74,7 @@ returns g c =
     let start = c.args.performer.now in
     let before = c.loop-turn.invariant in
     let all : c.loop-turn._turn ≡ step_limit = omega arith in
-    said-line {P = IsPerformed c.args.number start.graph start.state.world.input} Running before.took c.answer-2.ensures
+    said-line {P = IsPerformed c.args.number start.graph start.state.world.input} Running before.took c.answer-2.ensures.answered
     (running-performed c.args.number start.graph start.state.world.input c.loop-turn._turn c.loop-turn.performer.state before.reached all before.going)
 
 pub chosen-choice-requires : goal.chosen-choice-requires

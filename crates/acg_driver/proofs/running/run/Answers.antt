@@ -1,9 +1,10 @@
 use Rattle.std.proofs.Common.{ℕ, [], ◌++◌, ap, sym, subst}
+use Rattle.acg_base.specs.declared.capacity.TheConstants.{DEFAULT_STACK, DEFAULT_UNITS, DEFAULT_BUDGET}
 use Rattle.rv_code.specs.Machine.{run}
 use Rattle.rv_machine.specs.Machines.{state_of, sent_in}
 use Rattle.rv_codegen.specs.Measures.{subject_of, node_count}
 use Rattle.acg_words.specs.Lines.{bytes_of, status_of, header_line}
-use Rattle.acg_driver.specs.Runs.{default_stack, default_units, default_budget, output_lines, IsRunOf, IsRun}
+use Rattle.acg_driver.specs.Runs.{output_lines, IsRunOf, IsRun}
 use Rattle.acg_driver.specs.Sending.{SendsMessages}
 use Rattle.acg_driver.proofs.RightRuns.{right-sends}
 use Rattle.acg_driver.proofs.RunLemmas.{whole-run}
@@ -14,19 +15,19 @@ pub run_machine-requires : goal.run_machine-requires
 run_machine-requires g c =
     let graph = c.requires.0 in
     let start = c.requires.1.0 in
-    λ m. subst (λ machine. SendsMessages (run m (state_of machine [] []))) (sym start.2) (right-sends start.0 (node_count graph) (subject_of graph default_stack default_units) start.1 m)
+    λ m. subst (λ machine. SendsMessages (run m (state_of machine [] []))) (sym start.2) (right-sends start.0 (node_count graph) (subject_of graph DEFAULT_STACK DEFAULT_UNITS) start.1 m)
 
 pub returns-in-Ok : goal.returns-in-Ok
 returns-in-Ok g c = λ graph loaded.
     let start = loaded.0 in
-    said-then {P = IsRunOf (run default_budget (state_of c.args.loaded.now.machine [] []))} {Q = IsRun graph} c.in-Ok.ensures.done
+    said-then {P = IsRunOf (run DEFAULT_BUDGET (state_of c.args.loaded.now.machine [] []))} {Q = IsRun graph} c.in-Ok.ensures.done
     (λ rest s runs. (
       start.0,
       start.1,
       (
         rest,
-        ap (λ factor. header_line default_stack default_units factor ++ rest) loaded.1,
-        subst (λ machine. IsRunOf (run default_budget (state_of machine [] [])) rest s) start.2 runs,
+        ap (λ factor. header_line DEFAULT_STACK DEFAULT_UNITS factor ++ rest) loaded.1,
+        subst (λ machine. IsRunOf (run DEFAULT_BUDGET (state_of machine [] [])) rest s) start.2 runs,
       ),
     ))
     c.run_machine.ensures
@@ -35,15 +36,15 @@ pub returns-in-Err-Failed : goal.returns-in-Err-Failed
 returns-in-Err-Failed g c = λ graph loaded.
     let start = loaded.0 in
     let machine = c.args.loaded.now.machine in
-    let sane : (m : ℕ) → SendsMessages (run m (state_of machine [] [])) = λ m. subst (λ k. SendsMessages (run m (state_of k [] []))) (sym start.2) (right-sends start.0 (node_count graph) (subject_of graph default_stack default_units) start.1 m) in
-    let whole = whole-run default_budget machine sane in
-    let rest = output_lines (sent_in default_budget machine []) ++ bytes_of whole.line in
+    let sane : (m : ℕ) → SendsMessages (run m (state_of machine [] [])) = λ m. subst (λ k. SendsMessages (run m (state_of k [] []))) (sym start.2) (right-sends start.0 (node_count graph) (subject_of graph DEFAULT_STACK DEFAULT_UNITS) start.1 m) in
+    let whole = whole-run DEFAULT_BUDGET machine sane in
+    let rest = output_lines (sent_in DEFAULT_BUDGET machine []) ++ bytes_of whole.line in
     said-broke {P = IsRun graph} rest (status_of whole.line) c.in-Err-Failed.ensures.failed (
       start.0,
       start.1,
       (
         rest,
-        ap (λ factor. header_line default_stack default_units factor ++ rest) loaded.1,
-        subst (λ k. IsRunOf (run default_budget (state_of k [] [])) rest (status_of whole.line)) start.2 whole.right,
+        ap (λ factor. header_line DEFAULT_STACK DEFAULT_UNITS factor ++ rest) loaded.1,
+        subst (λ k. IsRunOf (run DEFAULT_BUDGET (state_of k [] [])) rest (status_of whole.line)) start.2 whole.right,
       ),
     )

@@ -9,7 +9,7 @@ pub returns-in-None : goal.returns-in-None
 returns-in-None g c =
     let is : option_map asked c.args.command ≡ None = search rules in
     let HandledOf : Option Command → Type 0 = λ a. Handled g.S.Store g.K.Sink a c.args.store.now c.args.store.now c.args.out.now c.answer.new.out c.answer.result in
-    subst HandledOf (sym is) (handled-none c.answer.ensures)
+    subst HandledOf (sym is) (handled-none c.answer.ensures.answered)
 
 pub returns-in-Some-Help : goal.returns-in-Some-Help
 returns-in-Some-Help g c =

@@ -2,7 +2,7 @@
 use Rattle.std.proofs.Common.{◌≡◌, ℕ, ◌<◌, List, [], ◌∷◌, length, ap, arith}
 use Rattle.std.specs.Prelude.{All}
 use Rattle.std.proofs.lemmas.List.Elements.{All-nil, All-append}
-use Rattle.acg_driver.specs.Runs.{default_stack, default_units}
+use Rattle.acg_base.specs.declared.capacity.TheConstants.{DEFAULT_STACK, DEFAULT_UNITS}
 use Rattle.rv_code.specs.Bytes.{bytes_of}
 use Rattle.rv_code.proofs.ByteLaws.{bytes-small}
 use Rattle.rv_asm.specs.Conventions.{instruction_bytes}
@@ -20,5 +20,5 @@ pub compiled_image-requires : goal.compiled_image-requires
 compiled_image-requires c =
     let words = c.deref.result.now in
     let few : length words ≡ 1129 = omega (arith, ap length c.deref.ensures.value, c.in_ok-code.code.words.ok.0, c.in_ok-code.ensures) in
-    let loads = compiled-loads (instruction_bytes words) default_stack default_units 0 (instruction_bytes-small words) (omega arith) (omega arith) (omega arith) (omega (arith, few, length-instruction_bytes words)) in
+    let loads = compiled-loads (instruction_bytes words) DEFAULT_STACK DEFAULT_UNITS 0 (instruction_bytes-small words) (omega arith) (omega arith) (omega arith) (omega (arith, few, length-instruction_bytes words)) in
     loads.valid

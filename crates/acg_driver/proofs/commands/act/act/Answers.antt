@@ -16,4 +16,4 @@ returns-in-Ok g c =
 pub returns-in-Err : goal.returns-in-Err
 returns-in-Err g c =
     let refused = c.in-Err.ensures.refused in
-    handled-refused (act_asked c.args.command) refused.0 c.in-Err.line refused.1 refused.2 c.answer.ensures c.in-Err.ensures.surely (λ none. cc)
+    handled-refused (act_asked c.args.command) refused.0 c.in-Err.line refused.1 refused.2 c.answer.ensures.answered c.in-Err.ensures.surely (λ none. cc)

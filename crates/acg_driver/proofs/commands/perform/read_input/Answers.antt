@@ -1,5 +1,6 @@
 use Rattle.std.proofs.Common.{◌≡◌, ℕ, ◌<◌, ◌≤◌, List, [], ◌∷◌, length, Option, Some, option_map, Bor, sym, ap, ◌∙◌, subst, arith}
 use Rattle.std.proofs.lemmas.Result.{err_from_is_err_and}
+use Rattle.acg_base.specs.declared.limits.TheConstants.{LIMIT_INPUT}
 use Rattle.acg_base.specs.declared.status.Status.TheVariants as status
 use Rattle.action_terms.specs.Performances.{records}
 use Rattle.acg_words.specs.Lines.{status_of}
@@ -29,5 +30,5 @@ returns-clause-taken g c =
     let list = c.in_ok-integers.field-0.items in
     let Taken : Option (Bor (List ℕ)) → Type 0 = λ input. (givens : List (List ℕ)) × IsInputOf (option_map (λ file. file.now) input) givens list
     × ReadOnly g.S.Store (readings_of (input_files (option_map (λ file. file.now) input)) givens) status.Done c.args.store.now c.read_file.new.store in
-    let within : length c.in_ok-bytes.bytes.items ≤ 8388608 = omega arith in
+    let within : length c.in_ok-bytes.bytes.items ≤ LIMIT_INPUT = omega arith in
     subst Taken (sym c.in-Some.is) (c.in_ok-bytes.bytes.items ∷ [], (within, c.in_ok-integers.ensures ∙ ap records c.deref.ensures.value), c.in_ok-bytes.ensures.given)

@@ -1,0 +1,24 @@
+-- What `serve` answers for the words is what the arguments' words get.
+use Rattle.std.proofs.Common.{ℕ, List, inl, inr, refl, ◌∙◌, subst}
+use Rattle.std.specs.Process.{exit_status}
+use Rattle.acg.specs.Exits.{ExitsServed}
+use Rattle.acg.proofs.serve_arguments.Goals as goal
+
+pub returns-in-Ok : goal.returns-in-Ok
+returns-in-Ok g c =
+    let ServedFor : List (List ℕ) → Type 0 = λ words. ExitsServed g.S.Store g.K.Sink words c.args.store.now c.serve.new.store c.args.out.now c.serve.new.out (exit_status c.from.result) in
+    inl (subst ServedFor c.in-Ok.ensures (record {
+      answered = c.serve.result;
+      number = c.from.ensures ∙ c.code.ensures;
+      served = c.serve.ensures.served;
+      surely = λ sure. record { faults = c.serve.ensures.surely sure; named = c.serve.ensures.named sure };
+      performs = c.serve.ensures.performs;
+      idle = c.serve.ensures.idle;
+    }))
+
+pub returns-in-Err : goal.returns-in-Err
+returns-in-Err g c = inr (record {
+  number = c.from-in-Err.ensures ∙ c.code-in-Err.ensures;
+  store = refl;
+  sink = refl;
+})
