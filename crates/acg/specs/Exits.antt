@@ -18,12 +18,14 @@ pub record ExitsServed {S K : Type 0} (store : Store S) (sink : Sink K) (words :
       Performs (store.contents old) words answered
   pub idle : files_asked words ≡ [] → new ≡ old
 
--- there was no memory for the words: nothing was read or written, and the exit status says so
-pub record ExitsUnserved {S K : Type 0} (old new : S) (out gained : K) (code : ℕ) : Type 0 where
+-- there was no memory for the words, of which there is one at least: nothing was read or written, and the exit status says
+-- so. When memory runs out isn't known; where there are no words to keep, it doesn't
+pub record ExitsUnserved {S K : Type 0} (words : List (List ℕ)) (old new : S) (out gained : K) (code : ℕ) : Type 0 where
+  pub some : words ≢ []
   pub number : code ≡ code_of status.Memory
   pub store : new ≡ old
   pub sink : gained ≡ out
 
 -- how the program ends, over any store and any sink
 abbrev pub Exits : {S K : Type 0} (store : Store S) (sink : Sink K) (words : List (List ℕ)) (old new : S) (out gained : K) (code : ℕ) → Type 0
-Exits store sink words old new out gained code = ExitsServed store sink words old new out gained code ⊎ ExitsUnserved old new out gained code
+Exits store sink words old new out gained code = ExitsServed store sink words old new out gained code ⊎ ExitsUnserved words old new out gained code

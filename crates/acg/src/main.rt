@@ -1,7 +1,7 @@
 //! The program: serves its arguments over the folder and standard output.
 #![tactic(auto)]
 
-ghost use Rattle.std.specs.Prelude.{◌≡◌, drop, IfOk};
+ghost use Rattle.std.specs.Prelude.{◌≡◌, ◌≢◌, [], drop, IfOk, OnErr};
 ghost use Rattle.std.specs.Process.{exit_status};
 ghost use Rattle.std.specs.Vec.Iter.{into_iter_items};
 ghost use Rattle.acg.specs.Arguments.{words_of};
@@ -15,9 +15,10 @@ use std::io::ErrorKind;
 use std::process::ExitCode;
 use std::{env, io};
 
-// The arguments without the first.
+// The arguments without the first. There may be no memory for them where there is one.
 fn without_first(alloc: Global, args: Args) -> Result<Vec<String>, AllocError>
-    ensures { IfOk result (λ list. list.items ≡ drop 1 (into_iter_items args)) }
+    ensures ok { IfOk result (λ list. list.items ≡ drop 1 (into_iter_items args)) }
+    ensures err { OnErr result (drop 1 (into_iter_items args) ≢ []) }
 {
     let mut list = Vec::new(alloc);
     for argument in args.skip(1) {
@@ -27,9 +28,10 @@ fn without_first(alloc: Global, args: Args) -> Result<Vec<String>, AllocError>
 }
 
 // The words of the command line: the arguments without the program's name, or one empty word where they aren't text.
-// An `Err` comes for want of memory alone.
+// An `Err` comes for want of memory alone, which words need: where there is none, it doesn't come.
 fn words_of(alloc: Global, args: io::Result<Args>) -> Result<Words, AllocError>
-    ensures { IfOk result (λ words. words ≡ words_of args) }
+    ensures ok { IfOk result (λ words. words ≡ words_of args) }
+    ensures err { OnErr result (words_of args ≢ []) }
 {
     match args {
         Ok(args) => Ok(Words::new(without_first(alloc, args)?)),

@@ -1,7 +1,7 @@
 -- What a request asks a store for.
-use Rattle.std.proofs.Common.{◌≡◌, ◌≢◌, ◌⊎◌, inl, inr, ℕ, List, [], ◌∷◌, ◌++◌, Option, Some, None, Result, Ok, Err, IsTrue, refl, sym, ap, ◌∙◌, subst, append_assoc, append-nil}
+use Rattle.std.proofs.Common.{◌≡◌, ◌≢◌, ◌⊎◌, inl, inr, ℕ, zero, suc, ◌+◌, List, [], ◌∷◌, ◌++◌, length, Option, Some, None, Result, Ok, Err, IsTrue, refl, sym, ap, ◌∙◌, subst, arith, append_assoc, append-nil, length-append}
 use Rattle.std.specs.Prelude.{IfErr}
-use Rattle.acg_base.specs.Outside.{Contents, SameContents, Reading, front}
+use Rattle.acg_base.specs.Outside.{Contents, SameContents, Reading, counted, front}
 use Rattle.acg_base.specs.declared.limits.TheConstants.{LIMIT_ACTION}
 use Rattle.acg_base.specs.declared.status.Status.{Status}
 use Rattle.acg_base.specs.declared.status.Status.TheVariants as status
@@ -11,13 +11,42 @@ use Rattle.acg_words.specs.Lines.{status_of}
 use Rattle.acg_words.specs.declared.line.Line.{Line}
 use Rattle.acg_words.specs.declared.line.Line.TheVariants.{Memory, ReadFault}
 use Rattle.acg_driver.specs.Texts.{Reads, RefusesText, IsUnread}
-use Rattle.acg_driver.specs.Files.{File, file, Action, GoesOn, faults_with, AreGiven, IsGiven, ReadOnly, Lacks, first_missing, missing_file, FaultsWhere, read_status, NamesFault, AsksSurely}
+use Rattle.acg_driver.specs.Files.{File, file, Action, GoesOn, faults_with, counted_by, ReadsWith, AreGiven, IsGiven, ReadOnly, Lacks, first_missing, missing_file, FaultsWhere, read_status, NamesFault, AsksSurely}
 use Rattle.acg_driver.proofs.TextErrors.{content-refused}
 
 -- a status that isn't that of a read fault counts none
 pub other-still : (s : Status) (count : ℕ) → s ≢ status.ReadFault → faults_with s count ≡ count
 other-still status.ReadFault count other = absurd (other refl)
 other-still _ count other = refl
+
+-- ---- counts of reads
+
+counted_by-more : (first second count : ℕ) → counted_by (first + second) count ≡ counted_by second (counted_by first count)
+counted_by-more zero second count =
+    let none : zero + second ≡ second = omega arith in ap (λ calls. counted_by calls count) none
+counted_by-more (suc first) second count =
+    let next : suc first + second ≡ suc (first + second) = omega arith in
+    ap (λ calls. counted_by calls count) next ∙ counted_by-more first second (counted count)
+
+counted-behind : (first second old middle : ℕ) → middle ≡ counted_by first old → counted_by second middle ≡ counted_by (first + second) old
+counted-behind first second old middle is = ap (counted_by second) is ∙ sym (counted_by-more first second old)
+
+reads_with-as : (given : ℕ) (s : Status) (old new : ℕ) → s ≢ status.ReadFault → ReadsWith given status.Done old new → ReadsWith given s old new
+reads_with-as given status.ReadFault old new other is = absurd (other refl)
+reads_with-as given status.Memory old new other is = inl is
+reads_with-as given _ old new other is = is
+
+reads_with-then : (first second : ℕ) (s : Status) (old middle new : ℕ) → middle ≡ counted_by first old → ReadsWith second s middle new → ReadsWith (first + second) s old new
+reads_with-then first second status.ReadFault old middle new begun is =
+    let next : first + suc second ≡ suc (first + second) = omega arith in
+    is ∙ counted-behind first (suc second) old middle begun ∙ ap (λ calls. counted_by calls old) next
+reads_with-then first second status.Memory old middle new begun (inl is) = inl (is ∙ counted-behind first second old middle begun)
+reads_with-then first second status.Memory old middle new begun (inr is) =
+    let next : first + suc second ≡ suc (first + second) = omega arith in
+    inr (is ∙ counted-behind first (suc second) old middle begun ∙ ap (λ calls. counted_by calls old) next)
+reads_with-then first second _ old middle new begun is = is ∙ counted-behind first second old middle begun
+
+-- ---- statuses and lines
 
 -- no refusal of a text is a read fault
 pub text-other : (bytes : List ℕ) (line : Line) → RefusesText bytes line → status_of line ≢ status.ReadFault
@@ -47,6 +76,7 @@ module _ {S : Type 0} {store : Ghosts S} where
     logged = λ _. sym (append-nil (store.readings old));
     given = λ _. tt;
     same = λ _ name. refl;
+    reads = refl;
     faults = refl;
     writes = refl;
     tells_still = refl;
@@ -56,10 +86,11 @@ module _ {S : Type 0} {store : Ghosts S} where
 
   -- a status that isn't that of a read fault
   pub reads-as : {rs : List Reading} {old new : S} (s : Status) → s ≢ status.ReadFault → ReadOnly store rs status.Done old new → ReadOnly store rs s old new
-  reads-as {rs} {old} s other reads = record {
+  reads-as {rs} {old} {new} s other reads = record {
     logged = reads.logged;
     given = reads.given;
     same = reads.same;
+    reads = reads_with-as (length rs) s (store.reads old) (store.reads new) other reads.reads;
     faults = reads.faults ∙ sym (other-still s (store.failed_reads old) other);
     writes = reads.writes;
     tells_still = reads.tells_still;
@@ -69,11 +100,13 @@ module _ {S : Type 0} {store : Ghosts S} where
 
   -- more is asked behind readings
   pub reads-then : {first second : List Reading} {s : Status} {old middle new : S} → ReadOnly store first status.Done old middle → ReadOnly store second s middle new → ReadOnly store (first ++ second) s old new
-  reads-then {first} {second} {s} {old} {middle} begun more = record {
+  reads-then {first} {second} {s} {old} {middle} {new} begun more = record {
     logged = λ logs. more.logged (subst IsTrue (sym begun.logs_still) logs) ∙ ap (λ rs. rs ++ second) (begun.logged logs) ∙ append_assoc (store.readings old) first second;
     given = λ told. given-then (store.contents old) first second (begun.given told)
         (given-same (store.contents old) (store.contents middle) second (begun.same told) (more.given (subst IsTrue (sym begun.tells_still) told)));
     same = λ told name. more.same (subst IsTrue (sym begun.tells_still) told) name ∙ begun.same told name;
+    reads = subst (λ given. ReadsWith given s (store.reads old) (store.reads new)) (sym (length-append first second))
+        (reads_with-then (length first) (length second) s (store.reads old) (store.reads middle) (store.reads new) begun.reads more.reads);
     faults = more.faults ∙ ap (faults_with s) begun.faults;
     writes = more.writes ∙ begun.writes;
     tells_still = more.tells_still ∙ begun.tells_still;

@@ -1,5 +1,5 @@
 -- The files that a command reads, and what is read of them.
-use Rattle.std.specs.Prelude.{◌≡◌, ◌⊎◌, ℕ, List, [], ◌∷◌, ◌++◌, Option, Some, None, IsTrue, Result, Ok, Err, IfErr}
+use Rattle.std.specs.Prelude.{◌≡◌, ◌⊎◌, ℕ, zero, suc, List, [], ◌∷◌, ◌++◌, length, Option, Some, None, IsTrue, Result, Ok, Err, IfErr}
 use Rattle.acg_base.specs.Outside.{Contents, SameContents, Reading, counted, front}
 use Rattle.acg_base.specs.declared.limits.TheConstants.{LIMIT_ACTION, LIMIT_INPUT}
 use Rattle.acg_base.specs.declared.status.Status.{Status}
@@ -72,11 +72,24 @@ abbrev pub faults_with : Status → ℕ → ℕ
 faults_with status.ReadFault count = counted count
 faults_with _ count = count
 
+-- a count behind so many calls that are counted
+abbrev pub counted_by : (calls count : ℕ) → ℕ
+counted_by zero count = count
+counted_by (suc calls) count = counted_by calls (counted count)
+
+-- a count of reads behind a request that was given so many and says a status: as many more; one more, which failed, for a
+-- read fault; and for want of memory as many, or one more, for which there was none
+abbrev pub ReadsWith : (given : ℕ) → Status → (old new : ℕ) → Type 0
+ReadsWith given status.ReadFault old new = new ≡ counted_by (suc given) old
+ReadsWith given status.Memory old new = (new ≡ counted_by given old) ⊎ (new ≡ counted_by (suc given) old)
+ReadsWith given _ old new = new ≡ counted_by given old
+
 -- a request with this status asked a store for these readings and for nothing else, and changed nothing of it
 pub record ReadOnly {S : Type 0} (store : Ghosts S) (gained : List Reading) (status : Status) (old new : S) : Type 0 where
   pub logged : IsTrue (store.logs old) → store.readings new ≡ store.readings old ++ gained
   pub given : IsTrue (store.tells old) → AreGiven (store.contents old) gained
   pub same : IsTrue (store.tells old) → SameContents (store.contents old) (store.contents new)
+  pub reads : ReadsWith (length gained) status (store.reads old) (store.reads new)
   pub faults : store.failed_reads new ≡ faults_with status (store.failed_reads old)
   pub writes : store.failed_writes new ≡ store.failed_writes old
   pub tells_still : store.tells new ≡ store.tells old

@@ -14,8 +14,8 @@ use acg_base::{Sink, SinkError, Status};
 use acg_words::{Line, print_message};
 use action_sos::{Moved, Outcome, Performer};
 
-// The most steps of a performance.
-const STEP_LIMIT: u32 = 1_000_000;
+/// The most steps of a performance.
+pub(crate) const STEP_LIMIT: u32 = 1_000_000;
 
 // The number of the step behind one with this number: a linear congruential generator modulo 2^64.
 fn next_number(number: u64) -> u64

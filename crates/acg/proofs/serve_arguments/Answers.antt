@@ -7,7 +7,7 @@ use Rattle.acg.proofs.serve_arguments.Goals as goal
 pub returns-in-Ok : goal.returns-in-Ok
 returns-in-Ok g c =
     let ServedFor : List (List ℕ) → Type 0 = λ words. ExitsServed g.S.Store g.K.Sink words c.args.store.now c.serve.new.store c.args.out.now c.serve.new.out (exit_status c.from.result) in
-    inl (subst ServedFor c.in-Ok.ensures (record {
+    inl (subst ServedFor c.in-Ok.ensures.ok (record {
       answered = c.serve.result;
       number = c.from.ensures ∙ c.code.ensures;
       served = c.serve.ensures.served;
@@ -18,6 +18,7 @@ returns-in-Ok g c =
 
 pub returns-in-Err : goal.returns-in-Err
 returns-in-Err g c = inr (record {
+  some = c.in-Err.ensures.err;
   number = c.from-in-Err.ensures ∙ c.code-in-Err.ensures;
   store = refl;
   sink = refl;

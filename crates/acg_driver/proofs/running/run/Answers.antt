@@ -20,7 +20,7 @@ run_machine-requires g c =
 pub returns-in-Ok : goal.returns-in-Ok
 returns-in-Ok g c = λ graph loaded.
     let start = loaded.0 in
-    said-then {P = IsRunOf (run DEFAULT_BUDGET (state_of c.args.loaded.now.machine [] []))} {Q = IsRun graph} c.in-Ok.ensures.done
+    said-then {P = IsRunOf (run DEFAULT_BUDGET (state_of c.args.loaded.now.machine [] []))} {Q = IsRun graph} c.in-Ok.ensures.printed.done
     (λ rest s runs. (
       start.0,
       start.1,
@@ -39,7 +39,7 @@ returns-in-Err-Failed g c = λ graph loaded.
     let sane : (m : ℕ) → SendsMessages (run m (state_of machine [] [])) = λ m. subst (λ k. SendsMessages (run m (state_of k [] []))) (sym start.2) (right-sends start.0 (node_count graph) (subject_of graph DEFAULT_STACK DEFAULT_UNITS) start.1 m) in
     let whole = whole-run DEFAULT_BUDGET machine sane in
     let rest = output_lines (sent_in DEFAULT_BUDGET machine []) ++ bytes_of whole.line in
-    said-broke {P = IsRun graph} rest (status_of whole.line) c.in-Err-Failed.ensures.failed (
+    said-broke {P = IsRun graph} rest (status_of whole.line) c.in-Err-Failed.ensures.printed.failed (
       start.0,
       start.1,
       (
