@@ -156,6 +156,7 @@ module _ {K : Type 0} (written : K → List ℕ) (faults writes : K → ℕ) (te
   ends-fault most new rest gained h s =
       let stays = s.stays (λ e. cc) in
       let fault = s.fault refl in
+      let count : writes gained ≡ counted (writes_behind n old (left input) (writes out)) = rw (← before.wrote) (s.once fault.0) in
       rw (stays.0, stays.1)
       (record {
         all = λ e. absurd (cc);
@@ -166,22 +167,8 @@ module _ {K : Type 0} (written : K → List ℕ) (faults writes : K → ℕ) (te
         bytes = before.bytes;
         told = λ e. absurd (e refl);
         wrote = λ e. absurd (e refl);
-        part = λ _. (
-          n,
-          (
-            h,
-            (
-              before.runs,
-              (
-                before.counted,
-                (
-                  rw (← before.wrote) (s.once fault.0),
-                  λ told. rw (← before.told told) (s.part refl (rw before.telling told)),
-                ),
-              ),
-            ),
-          ),
-        );
+        part = λ _.
+            (n, (h, (before.runs, (before.counted, (count, λ told. rw (← before.told told) (s.part refl (rw before.telling told)))))));
         failed = λ _. rw (← before.still) (s.failed refl);
         still = λ e. absurd (e refl);
         counts = omega (arith, before.still, s.counts);
