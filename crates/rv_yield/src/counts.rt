@@ -31,9 +31,8 @@ fn count_at(graph: &Graph<'_>, counts: &[usize], k: usize) -> usize
     (inside + 1).min(LIMIT)
 }
 
-/// How many yielders are in each yielder, itself among them, by the yielder's number: 65536
-/// where they are more. An
-/// `Err` comes for want of memory alone.
+/// How many yielders are in each yielder, itself among them, by the yielder's number: 65536 where
+/// they are more. An `Err` comes for want of memory alone.
 pub fn yielder_counts(alloc: Global, graph: &Graph<'_>) -> Result<Vec<usize>, Memory>
     ensures { IfOk result (λ counts. AreCounts graph.now.yielders counts.items) }
 {

@@ -58,8 +58,7 @@ fn need_at(graph: &Graph<'_>, needs: &[usize], k: usize) -> usize
 }
 
 /// How many registers the code of each yielder needs at once, by the yielder's number: 0 where
-/// its code can't be made,
-/// and for `them`. An `Err` comes for want of memory alone.
+/// its code can't be made, and for `them`. An `Err` comes for want of memory alone.
 pub fn registers_needed(alloc: Global, graph: &Graph<'_>) -> Result<Vec<usize>, Memory>
     ensures { IfOk result (λ needs. AreNeeds graph.now.yielders needs.items) }
 {
@@ -71,8 +70,8 @@ pub fn registers_needed(alloc: Global, graph: &Graph<'_>) -> Result<Vec<usize>, 
     Ok(needs)
 }
 
-/// How many registers the code of a yielder needs, by what is known of all: `None` where its
-/// code can't be made.
+/// How many registers the code of a yielder needs, by what is known of all: `None` where its code
+/// can't be made.
 pub fn registers_of(graph: &Graph<'_>, needs: &[usize], yielder: u32) -> Option<usize>
     requires within { yielder < length graph.now.yielders }
     requires needs { AreNeeds graph.now.yielders needs.now }

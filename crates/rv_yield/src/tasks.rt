@@ -1,5 +1,5 @@
-//! What is still to be emitted of the code of a yielder, as a stack: no call is nested as deep
-//! as the yielder is.
+//! What is still to be emitted of the code of a yielder, as a stack: no call is nested as deep as
+//! the yielder is.
 
 ghost use Rattle.std.specs.Prelude.{◌≡◌, ℕ, ◌≢◌, ◌<◌, ◌≤◌, ◌+◌, ◌++◌, ◌∷◌, [], All, OnOk, IfSome, IfNone, IfOk, OnErr, IsTrue, None, true, length, slice_index};
 ghost use Rattle.action_terms.specs.Forms.{yielder_at, two_viewed, IsDatum};
