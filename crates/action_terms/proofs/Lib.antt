@@ -31,6 +31,7 @@ pub mod NodeForms
 pub mod OperandItems
 pub mod ReadNodes
 pub mod GraphLaws
+pub mod CountLaws
 pub mod ItemsHold
 pub mod NumberLaws
 pub mod ProperYielders

@@ -1,14 +1,14 @@
 mod Numbers
 mod Products
 mod Quotients
-mod Steps
+pub mod Steps
 mod Checks
 mod Sums
 mod Divisions
 mod Additions
-mod Evaluation
+pub mod Evaluation
 mod TaskLaws
-mod NeedLaws
-mod ItemLaws
+pub mod NeedLaws
+pub mod ItemLaws
 mod Evaluated
 mod Stored
