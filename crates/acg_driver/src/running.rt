@@ -32,7 +32,7 @@ pub fn load(alloc: Global, graph: &Graph<'_>) -> Result<Loaded, Memory>
     let code = generate(alloc, graph)?;
     let image = compiled_image(alloc, &code.words)?;
     let machine = Machine::load(alloc, image)?;
-    let factor = instructions_per_step(graph);
+    let factor = instructions_per_step(alloc, graph)?;
     Ok(Loaded { machine, factor })
 }
 

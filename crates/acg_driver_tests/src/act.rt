@@ -49,9 +49,80 @@ fn performances(rt: HostRuntime) -> Result<(), Fail> {
 }
 
 #[test]
+fn sends_of_yielders(rt: HostRuntime) -> Result<(), Fail> {
+    let alloc = rt.alloc();
+    assert!(rt;
+        acts(
+            alloc,
+            b"send product(-4294967296, 2147483648)",
+            b"stack 1048576 units 262144 factor 496\n-9223372036854775808\ncompleted\n",
+            Status::Done,
+        )?
+    );
+    assert!(rt;
+        acts(
+            alloc,
+            b"send product(3037000500, 3037000500)",
+            b"stack 1048576 units 262144 factor 496\nfailed\n",
+            Status::Failed,
+        )?
+    );
+    assert!(rt;
+        acts(
+            alloc,
+            b"send negation(-9223372036854775808)",
+            b"stack 1048576 units 262144 factor 472\nfailed\n",
+            Status::Failed,
+        )?
+    );
+    assert!(rt;
+        acts(
+            alloc,
+            b"send sum(9223372036854775807, 1)",
+            b"stack 1048576 units 262144 factor 496\nfailed\n",
+            Status::Failed,
+        )?
+    );
+    assert!(rt;
+        acts(
+            alloc,
+            b"send integer-quotient(7, 0)",
+            b"stack 1048576 units 262144 factor 496\nfailed\n",
+            Status::Failed,
+        )?
+    );
+    assert!(rt;
+        acts(
+            alloc,
+            b"send integer-quotient(-9223372036854775808, -1)",
+            b"stack 1048576 units 262144 factor 496\nfailed\n",
+            Status::Failed,
+        )?
+    );
+    assert!(rt;
+        acts(
+            alloc,
+            b"send integer-remainder(-9223372036854775808, -1)",
+            b"stack 1048576 units 262144 factor 496\n0\ncompleted\n",
+            Status::Done,
+        )?
+    );
+    assert!(rt;
+        acts(
+            alloc,
+            b"send difference(sum(1, 2), product(negation(3), integer-quotient(-7, 2)))",
+            b"stack 1048576 units 262144 factor 664\n-6\ncompleted\n",
+            Status::Done,
+        )?
+    );
+    Ok(())
+}
+
+#[test]
 fn refusals(rt: HostRuntime) -> Result<(), Fail> {
     let alloc = rt.alloc();
     assert!(rt; acts(alloc, b"give 1", b"unbuilt 0\n", Status::Action)?);
+    assert!(rt; acts(alloc, b"complete and send sum(1, true)", b"unbuilt 2\n", Status::Action)?);
     assert!(rt; acts(alloc, b"send ?", b"action byte 5\n", Status::Action)?);
     assert!(rt; acts(alloc, b"send 1 and", b"action text 10\n", Status::Action)?);
     assert!(rt; acts(alloc, b"unfold", b"stray unfold 0\n", Status::Action)?);

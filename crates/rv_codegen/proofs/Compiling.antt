@@ -29,6 +29,7 @@ pub record IsCompilable (a : Action) : Type 0 where
   pub tree : HasTree a
   pub built : (k : ℕ) (n : Node) → slice_get a k ≡ Some n → is_built_node n ≡ true
   pub numbers : NumbersFit a
+  pub few : (k : ℕ) → node_yielder_count (node_at a k) < 65536
   pub some : 0 < length a
 
 -- ---- nodes that are there
@@ -208,6 +209,7 @@ module _ (x : Subject) (ok : IsCompilable x.action) (labels : LabelsStand (actio
     each = each;
     built = λ k h. ok.built k (node_at x.action k) (here k h);
     numbers = ok.numbers;
+    few = ok.few;
     within = λ k h. omega (arith, within k h);
     none = λ k p e. record { out = refl; bound_out = refl };
     closed = λ h. h;

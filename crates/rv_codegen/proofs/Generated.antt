@@ -21,6 +21,7 @@ use Rattle.rv_codegen.specs.Works.{unbuilt}
 use Rattle.rv_codegen.proofs.Compiling.{IsCompilable}
 use Rattle.rv_codegen.proofs.Loading.{code_bytes-small, compiled-loads}
 use Rattle.rv_codegen.proofs.Right.{image-shows}
+use Rattle.rv_codegen.proofs.Yielders.{node-yielders_few}
 use Rattle.rv_codegen.proofs.GraphNodes.{tree-of-graph, built-of-graph, length-action_of}
 
 -- what holds of the value of an `Ok`, with what an `Ok` tells
@@ -49,16 +50,17 @@ module _ (g : Listed) (graph : IsGraph g) (numbers : NumbersFit (action_of g)) (
     tree = tree-of-graph g graph;
     built = λ k n e. built-of-graph (action_of g) none k n e;
     numbers = numbers;
+    few = node-yielders_few g graph;
     some = omega (arith, length-action_of g, length-nodes_some g graph);
   }
 
   -- the image of the words is right
-  pub generated-right : (words : List ℕ) → LabelsStand (action_items (action_of g)) → total (action_items (action_of g)) ≤ 25 + 14 * length g.nodes → map Some words ≡ map encode (code_of (action_items (action_of g))) → (stack units : ℕ) → 1 ≤ stack → stack ≤ 16777216 → 1 ≤ units → units ≤ 4194304 → IsRight (compiled_image (instruction_bytes words) stack units) (node_count g) (subject_of g stack units)
+  pub generated-right : (words : List ℕ) → LabelsStand (action_items (action_of g)) → total (action_items (action_of g)) ≤ 25 + 6 * length g.nodes + 12 * length g.yielders → map Some words ≡ map encode (code_of (action_items (action_of g))) → (stack units : ℕ) → 1 ≤ stack → stack ≤ 16777216 → 1 ≤ units → units ≤ 4194304 → IsRight (compiled_image (instruction_bytes words) stack units) (node_count g) (subject_of g stack units)
   generated-right words labels short encoded stack units s_low s u_low u =
       let a = action_of g in
       let items = action_items a in
       let code = code_of items in
-      let few : length g.nodes ≤ 65536 = omega (arith, length-nodes_few g graph) in
+      let few : length g.nodes + length g.yielders ≤ 65536 = length-nodes_few g graph in
       let known = words-encoded words code encoded in
       let x = subject_of g stack units in
       let size_is : length (code_bytes code) ≡ 4 * total items = length-code_bytes code ∙ ap (λ n. 4 * n) (length-code (spot items) 0 items) in

@@ -1,10 +1,6 @@
 -- The numbers of an action fit words.
-use Rattle.std.proofs.Common.{ℕ, zero, suc, ◌^◌, ◌<◌, ℤ, [], ◌∷◌}
-use Rattle.std.specs.Prelude.{FitsSigned}
-use Rattle.std.specs.Int.{w64}
-use Rattle.std.proofs.Math.Facts.{Fits-of_z}
+use Rattle.std.proofs.Common.{ℕ, zero, suc, [], ◌∷◌}
 use Rattle.std.proofs.lemmas.List.Elements.{All-head, All-tail}
-use Rattle.rv_asm.specs.Conventions.{integer_word}
 use Rattle.action_terms.specs.Actions.{Action, node_at}
 use Rattle.action_terms.specs.Literals.{NodeFits, NumbersFit}
 
@@ -13,6 +9,3 @@ pub node-fits : (a : Action) (k : ℕ) → NumbersFit a → NodeFits (node_at a 
 node-fits [] k numbers = tt
 node-fits (n ∷ a) zero numbers = All-head NodeFits n a numbers
 node-fits (n ∷ a) (suc k) numbers = node-fits a k (All-tail NodeFits n a numbers)
-
-pub word-fits : (z : ℤ) → FitsSigned w64 z → integer_word z < 2 ^ 64
-word-fits z fits = (Fits-of_z {w = w64} {z = z} fits).fits

@@ -1,5 +1,5 @@
 -- The items of each node's code stand in the code, whatever its kind, and so do the first instructions and the entries.
-use Rattle.std.proofs.Common.{◌≡◌, ℕ, zero, suc, ◌+◌, List, [], ◌∷◌, ◌++◌, length, map, get_or, Some, refl, sym, ap, ◌∙◌, subst, arith, append_assoc, add-zero}
+use Rattle.std.proofs.Common.{◌≡◌, ℕ, zero, suc, ◌+◌, ◌≤◌, List, [], ◌∷◌, ◌++◌, length, map, get_or, Some, refl, sym, ap, ◌∙◌, subst, arith, append_assoc, add-zero}
 use Rattle.std.specs.Prelude.{slice_get}
 use Rattle.rv_asm.specs.Arrivals.{LabelsStand}
 use Rattle.rv_asm.specs.Assembly.{address_of, total, spot, far_address, code_of}
@@ -7,6 +7,7 @@ use Rattle.rv_asm.specs.Pieces.{exit_with}
 use Rattle.rv_asm.specs.WordMachine.{Has}
 use Rattle.rv_asm.specs.declared.item.Item.{Item}
 use Rattle.rv_asm.specs.declared.item.Item.TheVariants.{Plain, Mark}
+use Rattle.rv_asm.proofs.Labels.{total-append}
 use Rattle.action_terms.specs.Actions.{Node, Action}
 use Rattle.rv_codegen.specs.Blocks.{fail_label, escape_label, send_label, end_label, joint_of, front_of, start_of, round_up, prelude, opening, block, blocks_from, send_entry, entries, exits_of, action_items, body}
 use Rattle.rv_codegen.proofs.Walk.{Cursor, cursor-start, cursor-within, over, over-mark, mark-at, plain-stands, over-plain, address-stands, over-address}
@@ -18,11 +19,12 @@ pub record Opened (items : List Item) (k n : ℕ) (rest : List Item) : Type 0 wh
   pub start : spot items (start_of k) ≡ n
   pub cursor : Cursor items n rest
 
--- the code of node k, which goes on at a label, and behind it the labels of the next node
+-- the code of node k, which goes on at a label, and behind it the labels of the next node. The entries stand behind all nodes
 pub record NodeStands (items : List Item) (exits : List ℕ) (k : ℕ) (node : Node) : Type 0 where
   pub place : ℕ
   pub behind : List Item
   pub opened : Opened items k place (body k (get_or exits k 0) node ++ (opening (suc k) ++ behind))
+  pub before_failure : place + total (body k (get_or exits k 0) node) ≤ spot items fail_label
 
 module _ (items : List Item) (labels : LabelsStand items) where
   pub opens : (k n : ℕ) (rest : List Item) → Cursor items n (opening k ++ rest) → Opened items k n rest
@@ -46,15 +48,13 @@ module _ (items : List Item) (labels : LabelsStand items) where
     begins [] k = let same : k + 0 ≡ k = omega arith in record { behind = _; is = ap entries same }
     begins (n ∷ a) k = record { behind = _; is = refl }
 
-    -- the codes of nodes, one after another, and the entries behind them
-    record AllStand (k : ℕ) (a : Action) : Type 0 where
-      each : (j : ℕ) (x : Node) → slice_get a j ≡ Some x → NodeStands items exits (k + j) x
-      last : ℕ
-      cursor : Cursor items last (entries (k + length a))
+    -- the codes of nodes stand one after another
+    abbrev AllStand : ℕ → Action → Type 0
+    AllStand k a = (j : ℕ) (x : Node) → slice_get a j ≡ Some x → NodeStands items exits (k + j) x
 
-    all-stand : (a : Action) (k n : ℕ) → Cursor items n (blocks_from k exits a ++ entries (k + length a)) → AllStand k a
-    all-stand [] k n c = record { each = λ j x e. absurd (cc); last = n; cursor = c }
-    all-stand (x ∷ a) k n c =
+    all-stand : (a : Action) (k n : ℕ) → Cursor items n (blocks_from k exits a ++ entries (k + length a)) → n + total (blocks_from k exits a) ≤ spot items fail_label → AllStand k a
+    all-stand [] k n c within = λ j x e. absurd (cc)
+    all-stand (x ∷ a) k n c within =
         let b = block k (get_or exits k 0) x in
         let next : suc k + length a ≡ k + suc (length a) = omega arith in
         let tail = blocks_from (suc k) exits a ++ entries (suc k + length a) in
@@ -63,9 +63,10 @@ module _ (items : List Item) (labels : LabelsStand items) where
         let start = begins a (suc k) in
         let c1 : Cursor items n (b ++ (opening (suc k) ++ start.behind)) = subst (λ t. Cursor items n (b ++ t)) start.is c0 in
         let c2 : Cursor items n (opening k ++ (body k (get_or exits k 0) x ++ (opening (suc k) ++ start.behind))) = subst (Cursor items n) (append_assoc (opening k) (body k (get_or exits k 0) x) (opening (suc k) ++ start.behind)) c1 in
-        let this : NodeStands items exits k x = record { place = n; behind = start.behind; opened = opens k n _ c2 } in
-        let more = all-stand a (suc k) (n + total b) (over items n b tail c0) in
-        record { each = in_turn this more.each; last = more.last; cursor = subst (λ m. Cursor items more.last (entries m)) next more.cursor }
+        let size : total (blocks_from k exits (x ∷ a)) ≡ total b + total (blocks_from (suc k) exits a) = total-append b (blocks_from (suc k) exits a) in
+        let own : total b ≡ total (body k (get_or exits k 0) x) = total-append (opening k) (body k (get_or exits k 0) x) ∙ omega arith in
+        let this : NodeStands items exits k x = record { place = n; behind = start.behind; opened = opens k n _ c2; before_failure = omega (arith, within, size, own) } in
+        in_turn this (all-stand a (suc k) (n + total b) (over items n b tail c0) (omega (arith, within, size)))
       where
         in_turn : NodeStands items exits k x → ((j : ℕ) (y : Node) → slice_get a j ≡ Some y → NodeStands items exits (suc k + j) y) → (j : ℕ) (y : Node) → slice_get (x ∷ a) j ≡ Some y → NodeStands items exits (k + j) y
         in_turn first rest zero y e = let same : x ≡ y = cc in subst (λ m. NodeStands items exits m y) (sym (add-zero k)) (subst (NodeStands items exits k) same first)
@@ -93,26 +94,28 @@ action-stands a items same labels =
     let zero : length a ≡ 0 + length a = omega arith in
     let c_nodes : Cursor items 9 (blocks_from 0 (exits_of a) a ++ entries (0 + length a)) = subst (λ n. Cursor items 9 (blocks_from 0 (exits_of a) a ++ entries n)) zero c2 in
     let first = begins items labels (exits_of a) a 0 in
-    let all = all-stand items labels (exits_of a) a 0 9 c_nodes in
-    let ends = opens items labels (length a) all.last _ (subst (λ n. Cursor items all.last (entries n)) (sym zero) all.cursor) in
-    let n1 = all.last in
+    let blocks = blocks_from 0 (exits_of a) a in
+    let n1 = 9 + total blocks in
+    let ends = opens items labels (length a) n1 _ (over items 9 blocks (entries (length a)) c2) in
     let sending = map Plain send_entry ++ Mark end_label ∷ [] in
     let escaping = map Plain (exit_with 2) ++ (Mark send_label ∷ sending) in
     let failing = map Plain (exit_with 1) ++ (Mark escape_label ∷ escaping) in
     let c3 = over-plain items n1 (exit_with 0) (Mark fail_label ∷ failing) ends.cursor in
     let c4 = over-mark items (n1 + 3) fail_label failing c3 in
+    let failure_at = mark-at items labels (n1 + 3) fail_label failing c3 in
+    let all = all-stand items labels (exits_of a) a 0 9 c_nodes (omega (arith, failure_at)) in
     let c5 = over-plain items (n1 + 3) (exit_with 1) (Mark escape_label ∷ escaping) c4 in
     let c6 = over-mark items (n1 + 3 + 3) escape_label escaping c5 in
     let c7 = over-plain items (n1 + 3 + 3) (exit_with 2) (Mark send_label ∷ sending) c6 in
     let c8 = over-mark items (n1 + 3 + 3 + 3) send_label sending c7 in
     let c9 = over-plain items (n1 + 3 + 3 + 3) send_entry (Mark end_label ∷ []) c8 in
     record {
-      each = λ k x e. let z : 0 + k ≡ k = omega arith in subst (λ m. NodeStands items (exits_of a) m x) z (all.each k x e);
+      each = λ k x e. let z : 0 + k ≡ k = omega arith in subst (λ m. NodeStands items (exits_of a) m x) z (all k x e);
       address = address-stands items 0 3 end_label (map Plain round_up ++ nodes) c0;
       round = plain-stands items 2 round_up nodes c1;
       root = (opens items labels 0 9 first.behind (subst (Cursor items 9) first.is c_nodes)).start;
       completed = subst (λ m. Has (code_of items) (address_of m) (exit_with 0)) (sym ends.front) (plain-stands items n1 (exit_with 0) (Mark fail_label ∷ failing) ends.cursor);
-      failed = subst (λ m. Has (code_of items) (address_of m) (exit_with 1)) (sym (mark-at items labels (n1 + 3) fail_label failing c3)) (plain-stands items (n1 + 3) (exit_with 1) (Mark escape_label ∷ escaping) c4);
+      failed = subst (λ m. Has (code_of items) (address_of m) (exit_with 1)) (sym failure_at) (plain-stands items (n1 + 3) (exit_with 1) (Mark escape_label ∷ escaping) c4);
       escaped = subst (λ m. Has (code_of items) (address_of m) (exit_with 2)) (sym (mark-at items labels (n1 + 3 + 3) escape_label escaping c5)) (plain-stands items (n1 + 3 + 3) (exit_with 2) (Mark send_label ∷ sending) c6);
       send = subst (λ m. Has (code_of items) (address_of m) send_entry) (sym (mark-at items labels (n1 + 3 + 3 + 3) send_label sending c7)) (plain-stands items (n1 + 3 + 3 + 3) send_entry (Mark end_label ∷ []) c8);
       end = mark-at items labels (n1 + 3 + 3 + 3 + 7) end_label [] c9 ∙ omega (arith, cursor-within items (n1 + 3 + 3 + 3 + 7) (Mark end_label ∷ []) c9);

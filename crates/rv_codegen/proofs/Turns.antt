@@ -9,9 +9,10 @@ use Rattle.rv_asm.specs.WordMachine.{WordState, Has}
 use Rattle.rv_asm.proofs.Calls.{before_exit, before_exit-runs, exit-stops}
 use Rattle.rv_asm.proofs.Moments.{quiet-stop}
 use Rattle.action_terms.specs.Information.{Binds, Data, World}
-use Rattle.action_terms.specs.Actions.{NumberLiteral, And, AndThen, Primitive, Complete, Failing, Send, Node, Simple, Enact, Apply, Unfolding, Unfold, Furthermore, Both, Phases, Either, Trapping, Branch, node_at}
+use Rattle.action_terms.specs.Actions.{And, AndThen, Primitive, Complete, Failing, Send, Node, Simple, Enact, Apply, Unfolding, Unfold, Furthermore, Both, Phases, Either, Trapping, Branch, node_at}
 use Rattle.action_terms.specs.Literals.{NodeFits, NumbersFit}
 use Rattle.action_terms.specs.Acting.{Done, End, Esc, Fail, Tree, Run, Ended}
+use Rattle.action_terms.specs.Need.{node_yielder_count}
 use Rattle.action_terms.specs.Performances.{messages_bytes}
 use Rattle.action_terms.specs.Steps.{Step, failed}
 use Rattle.action_terms.specs.Frames.{Frame, InCalled, InParLeft, InParRight, InFirst, InSecond, InOr, InCut, InTrap, InOver, InTail, plug}
@@ -24,10 +25,10 @@ use Rattle.rv_codegen.proofs.Ending.{LeavesNone, complete-goes, fail-goes}
 use Rattle.rv_codegen.proofs.InputLeft.{Left}
 use Rattle.rv_codegen.proofs.Joins.{both-start, left-done, right-done}
 use Rattle.rv_codegen.proofs.NodeParts.{IsNode, IsTailOf, Calls, tail-part, part-node}
-use Rattle.rv_codegen.proofs.NumberWords.{node-fits, word-fits}
+use Rattle.rv_codegen.proofs.NumberWords.{node-fits}
 use Rattle.rv_codegen.proofs.Phases.{phases-start, first-done, second-done}
 use Rattle.rv_codegen.proofs.RestPoints.{Laid, RestsAt, RunsAt, DoneAt, FailsAt, EscapesAt, IsAt, GoesOn, Starting, StartGoesOn}
-use Rattle.rv_codegen.proofs.Sending.{send-goes}
+use Rattle.rv_codegen.proofs.Sending.{IsSendable, send-goes}
 use Rattle.rv_codegen.proofs.Settings.{Setting, code, point, start, exit, failure, escape}
 use Rattle.rv_codegen.proofs.Standing.{NodeStands}
 
@@ -54,6 +55,7 @@ module _ (s : Setting) where
     pub each : (k : ℕ) → IsNode (node_at s.action k) → NodeStands s.items s.exits k (node_at s.action k)
     pub built : (k : ℕ) → IsNode (node_at s.action k) → is_built_node (node_at s.action k) ≡ true
     pub numbers : NumbersFit s.action
+    pub few : (k : ℕ) → node_yielder_count (node_at s.action k) < 65536
     pub within : (k : ℕ) → IsNode (node_at s.action k) → stop_of k < s.labels
     -- the primitives that are built leave nothing, and no alternatives or traps are opened
     pub none : (k : ℕ) (p : Primitive) → node_at s.action k ≡ Simple p → LeavesNone s k
@@ -81,7 +83,9 @@ module _ (s : Setting) where
     run-goes : (x : Starting s) (n : Node) → node_at s.action x.k ≡ n → NodeStands s.items s.exits x.k n → is_built_node n ≡ true → StartGoesOn s x
     run-goes x (Simple Complete) e stands b = complete-goes s it.laid x it.labels (omega (arith, it.within x.k x.runs.here.node)) (it.none x.k Complete e) e stands
     run-goes x (Simple Failing) e stands b = fail-goes s it.laid x e stands
-    run-goes x (Simple (Send (NumberLiteral z))) e stands b = send-goes s it.laid it.send x it.closed it.labels (it.within x.k x.runs.here.node) (it.none x.k (Send (NumberLiteral z)) e) z (word-fits z (subst NodeFits e (node-fits s.action x.k it.numbers))) e stands
+    run-goes x (Simple (Send y)) e stands b =
+        let ok : IsSendable y = record { built = b; few = subst (λ n. node_yielder_count n < 65536) e (it.few x.k); fits = subst NodeFits e (node-fits s.action x.k it.numbers) } in
+        send-goes s it.laid it.send x y e ok it.closed it.labels (it.within x.k x.runs.here.node) (it.none x.k (Send y) e) stands
     run-goes x (Both And l r) e stands b = both-start s it.laid x And l r e
     run-goes x (Phases AndThen l r) e stands b = phases-start s it.laid x AndThen l r e
     run-goes x _ e stands b = absurd (let r : false ≡ true = b in cc)

@@ -35,7 +35,7 @@ module _ (items : List Item) where
   }
 
   -- what stands in the code for them
-  stands : (n : ℕ) (piece rest : List Item) → Cursor items n (piece ++ rest) → Has (code_of items) (address_of n) (code_from (spot items) n piece)
+  pub stands : (n : ℕ) (piece rest : List Item) → Cursor items n (piece ++ rest) → Has (code_of items) (address_of n) (code_from (spot items) n piece)
   stands n piece rest c =
       subst (λ m. Has (code_of items) (address_of m) (code_from (spot items) m piece)) c.count (piece-stands items c.before piece rest c.split)
 

@@ -6,11 +6,11 @@ use Rattle.rv_code.specs.declared.instruction.OpOp.TheVariants.{Add}
 use Rattle.rv_code.specs.declared.instruction.OpImmOp.TheVariants.{Addi}
 use Rattle.rv_code.specs.declared.instruction.ShiftOp.TheVariants.{Slli, Srli}
 use Rattle.rv_code.specs.declared.instruction.UpperOp.TheVariants.{Lui}
-use Rattle.rv_asm.specs.Conventions.{integer_word}
-use Rattle.rv_asm.specs.Pieces.{send_word, exit_with, load_constant}
+use Rattle.rv_asm.specs.Pieces.{send_word, exit_with}
 use Rattle.rv_asm.specs.declared.item.Item.{Item}
 use Rattle.rv_asm.specs.declared.item.Item.TheVariants.{Plain, Mark, Jump, Address}
-use Rattle.action_terms.specs.Actions.{NumberLiteral, And, AndThen, Complete, Failing, Send, Node, Simple, Both, Phases, Action}
+use Rattle.action_terms.specs.Actions.{Yielder, And, AndThen, Complete, Failing, Send, Node, Simple, Both, Phases, Action}
+use Rattle.rv_yield.specs.YielderCode.{value_items}
 
 -- ---- labels
 
@@ -96,15 +96,15 @@ goes next label = if nat_eq label next then [] else Jump label ∷ []
 abbrev pub leaves : (k exit : ℕ) → List Item
 leaves k exit = goes (front_of (suc k)) exit
 
--- sends the integer with this word by the entry that sends
-abbrev pub sends : (k word : ℕ) → List Item
-sends k word = map Plain (load_constant 10 word) ++ (Address 1 (stop_of k) ∷ Jump send_label ∷ Mark (stop_of k) ∷ [])
+-- sends the integer of a yielder by the entry that sends; where the yielder yields nothing, this goes to the entry for failures
+abbrev pub sends : (k : ℕ) → Yielder → List Item
+sends k y = value_items 10 10 fail_label y ++ (Address 1 (stop_of k) ∷ Jump send_label ∷ Mark (stop_of k) ∷ [])
 
 -- the code of node k behind its start, where the node goes on at a label
 abbrev pub body : (k exit : ℕ) → Node → List Item
 body k exit (Simple Complete) = leaves k exit
 body k exit (Simple Failing) = Jump fail_label ∷ []
-body k exit (Simple (Send (NumberLiteral z))) = sends k (integer_word z) ++ leaves k exit
+body k exit (Simple (Send y)) = sends k y ++ leaves k exit
 body k exit (Both And l r) = goes (start_of (suc k)) (start_of l)
 body k exit (Phases AndThen l r) = goes (start_of (suc k)) (start_of l)
 body k exit _ = []

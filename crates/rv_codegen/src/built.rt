@@ -1,46 +1,39 @@
 //! Which nodes have code.
 
-ghost use Rattle.std.specs.Prelude.{◌≡◌, ℕ, ◌<◌, false, length, slice_get, IfSome, IfNone};
-ghost use Rattle.action_terms.specs.Actions.{NumberLiteral, Send, Simple, Both, Phases, node_at};
-ghost use Rattle.action_terms.specs.Forms.{IsDatum, yielder_at, HasPrimitiveOperands, primitive_viewed, join_viewed, chain_viewed};
+ghost use Rattle.std.specs.Prelude.{◌≡◌, ℕ, ◌<◌, length, slice_get, IfOk};
+ghost use Rattle.action_terms.specs.Actions.{Simple, Both, Phases, node_at};
+ghost use Rattle.action_terms.specs.Forms.{HasPrimitiveOperands, primitive_viewed, join_viewed, chain_viewed};
 ghost use Rattle.action_terms.specs.Meaning.{action_of};
+ghost use Rattle.rv_yield.specs.Registers.{AreNeeds};
 ghost use Rattle.rv_codegen.specs.Works.{is_built_node, unbuilt};
 
-use action_terms::{Chain, Graph, Join, NodeView, PrimitiveView, YielderView};
-
-/// The integer of a yielder that is a number.
-pub(crate) fn integer_of(graph: &Graph<'_>, yielder: u32) -> Option<i64>
-    requires { IsDatum graph.now.yielders yielder }
-    ensures integer { IfSome result (λ z. yielder_at graph.now.yielders yielder ≡ NumberLiteral z) }
-    ensures unbuilt { IfNone result
-        (is_built_node (Simple (Send (yielder_at graph.now.yielders yielder))) ≡ false) }
-{
-    match graph.yielder_view(yielder as usize) {
-        YielderView::Number(integer) => Some(integer),
-        _ => None,
-    }
-}
+use acg_base::Memory;
+use action_terms::{Chain, Graph, Join, NodeView, PrimitiveView};
+use rv_yield::{registers_needed, registers_of};
+use std::alloc::Global;
 
 // whether there is code for a node that is done in one step
-fn is_built_primitive(graph: &Graph<'_>, primitive: PrimitiveView<'_>) -> bool
-    requires { HasPrimitiveOperands graph.now.yielders primitive }
+fn is_built_primitive(graph: &Graph<'_>, needs: &[usize], primitive: PrimitiveView<'_>) -> bool
+    requires operands { HasPrimitiveOperands graph.now.yielders primitive }
+    requires needs { AreNeeds graph.now.yielders needs.now }
     ensures { result
         ≡ is_built_node (Simple (primitive_viewed graph.now.yielders primitive.entry)) }
 {
     match primitive {
         PrimitiveView::Complete | PrimitiveView::Failing => true,
-        PrimitiveView::Send { yielder } => integer_of(graph, yielder).is_some(),
+        PrimitiveView::Send { yielder } => registers_of(graph, needs, yielder).is_some(),
         _ => false,
     }
 }
 
-/// Whether there is code for node number k.
-pub(crate) fn is_built(graph: &Graph<'_>, k: usize) -> bool
-    requires { k < length graph.now.nodes }
+// whether there is code for node number k
+fn is_built(graph: &Graph<'_>, needs: &[usize], k: usize) -> bool
+    requires node { k < length graph.now.nodes }
+    requires needs { AreNeeds graph.now.yielders needs.now }
     ensures { result ≡ is_built_node (node_at (action_of graph.now) k) }
 {
     match graph.view(k) {
-        NodeView::Simple(primitive) => is_built_primitive(graph, primitive),
+        NodeView::Simple(primitive) => is_built_primitive(graph, needs, primitive),
         NodeView::Both {
             join,
             left: _,
@@ -55,14 +48,16 @@ pub(crate) fn is_built(graph: &Graph<'_>, k: usize) -> bool
     }
 }
 
-/// The first node whose code can't be generated, by its number from 0.
-pub fn first_unbuilt(graph: &Graph<'_>) -> Option<u32>
-    ensures { result ≡ slice_get (unbuilt (action_of graph.now)) 0 }
+/// The first node whose code can't be generated, by its number from 0. An `Err` comes for want of
+/// memory alone.
+pub fn first_unbuilt(alloc: Global, graph: &Graph<'_>) -> Result<Option<u32>, Memory>
+    ensures { IfOk result (λ first. first ≡ slice_get (unbuilt (action_of graph.now)) 0) }
 {
+    let needs = registers_needed(alloc, graph)?;
     for k in 0..graph.nodes().len() {
-        if !is_built(graph, k) {
-            return Some(k as u32);
+        if !is_built(graph, &needs, k) {
+            return Ok(Some(k as u32));
         }
     }
-    None
+    Ok(None)
 }

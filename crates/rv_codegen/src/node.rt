@@ -1,20 +1,22 @@
 //! The code of one node.
 
-ghost use Rattle.std.specs.Prelude.{◌≡◌, ℕ, ◌+◌, ◌*◌, ◌<◌, ◌≤◌, ◌++◌, OnOk, false, length};
+ghost use Rattle.std.specs.Prelude.{◌≡◌, ℕ, ◌+◌, ◌*◌, ◌<◌, ◌≤◌, ◌++◌, OnOk, true, false, length};
 ghost use Rattle.rv_asm.specs.Assembly.{total, is_placed};
 ghost use Rattle.action_terms.specs.Actions.{Simple, Both, Phases, node_at};
-ghost use Rattle.action_terms.specs.Forms.{HasPrimitiveOperands, primitive_viewed, join_viewed, chain_viewed};
+ghost use Rattle.action_terms.specs.Forms.{HasPrimitiveOperands, IsDatum, primitive_viewed, yielder_at, join_viewed, chain_viewed};
 ghost use Rattle.action_terms.specs.Meaning.{action_of};
+ghost use Rattle.action_terms.specs.Need.{node_yielder_count, yielder_count};
+ghost use Rattle.rv_yield.specs.Registers.{is_built};
 ghost use Rattle.rv_codegen.specs.Blocks.{first_label, stop_of, goes, leaves, sends, body, block};
 ghost use Rattle.rv_codegen.specs.Marks.{extended, AreFresh, PlacesStop};
+ghost use Rattle.rv_codegen.specs.Works.{is_built_node};
 
-use crate::built::integer_of;
 use crate::entries::{ARGUMENT, RETURN, append_opening};
 use crate::plan::Plan;
 use acg_base::Memory;
 use action_terms::{Chain, Join, NodeView, PrimitiveView};
-use rv_asm::pieces::load_constant;
 use rv_asm::{Asm, Label};
+use rv_yield::value_code;
 
 /// Appends the way to a label from before another: nothing where that is the one.
 #[tactic(auto, using(crate::proofs::Fresh::freshness))]
@@ -30,42 +32,59 @@ fn append_way(asm: &mut Asm, next: Label, label: Label) -> Result<(), Memory>
     asm.jump(label)
 }
 
-/// Appends what sends the integer with a word, by the entry that sends.
+/// Appends what sends the integer of a yielder by the entry that sends. Where the yielder yields
+/// nothing, that goes to the entry for failures.
 #[tactic(auto, using(crate::proofs::Fresh::freshness))]
-fn append_sends(asm: &mut Asm, plan: Plan<'_, '_>, k: usize, word: u64) -> Result<(), Memory>
+fn append_sends(
+    asm: &mut Asm,
+    plan: Plan<'_, '_>,
+    k: usize,
+    yielder: u32,
+) -> Result<(), Memory>
     requires node { k < length plan.graph.now.nodes }
     requires made { first_label + length plan.labels.row.now ≤ asm.old.labels }
+    requires datum { IsDatum plan.graph.now.yielders yielder }
+    requires built { is_built (yielder_at plan.graph.now.yielders yielder) ≡ true }
+    requires few { yielder_count (yielder_at plan.graph.now.yielders yielder) < 65536 }
     requires stop { is_placed asm.old.items (stop_of k) ≡ false }
-    ensures items { OnOk result (asm.new ≡ extended asm.old (sends k word)) }
+    ensures items { OnOk result (asm.new
+        ≡ extended asm.old (sends k (yielder_at plan.entry.graph.now.yielders yielder))) }
     ensures marks { OnOk result (PlacesStop k asm.old.items asm.new.items) }
-    ensures short { OnOk result (total asm.new.items ≤ total asm.old.items + 12) }
+    ensures short { OnOk result (total asm.new.items ≤ total asm.old.items + 4
+        + 12 * yielder_count (yielder_at plan.entry.graph.now.yielders yielder)) }
 {
     let stop = plan.labels.stop(k);
-    load_constant(asm, ARGUMENT, word)?;
+    let fail = plan.entries.fail;
+    value_code(plan.alloc, asm, plan.graph, plan.needs, yielder, ARGUMENT, fail)?;
     asm.address(RETURN, stop)?;
     asm.jump(plan.entries.send)?;
     asm.place(stop);
     Ok(())
 }
 
-/// Appends the code of node k where it sends the integer with a word and goes on at a label.
+/// Appends the code of node k where it sends the integer of a yielder and goes on at a label.
 fn append_sending(
     asm: &mut Asm,
     plan: Plan<'_, '_>,
     k: usize,
     exit: Label,
-    word: u64,
+    yielder: u32,
 ) -> Result<(), Memory>
     requires node { k < length plan.graph.now.nodes }
     requires made { first_label + length plan.labels.row.now ≤ asm.old.labels }
     requires exit { exit < asm.old.labels }
+    requires datum { IsDatum plan.graph.now.yielders yielder }
+    requires built { is_built (yielder_at plan.graph.now.yielders yielder) ≡ true }
+    requires few { yielder_count (yielder_at plan.graph.now.yielders yielder) < 65536 }
     requires stop { is_placed asm.old.items (stop_of k) ≡ false }
-    ensures items { OnOk result (asm.new ≡ extended asm.old (sends k word ++ leaves k exit)) }
+    ensures items { OnOk result (asm.new ≡ extended asm.old
+        (sends k (yielder_at plan.entry.graph.now.yielders yielder) ++ leaves k exit)) }
     ensures marks { OnOk result (PlacesStop k asm.old.items asm.new.items) }
-    ensures short { OnOk result (total asm.new.items ≤ total asm.old.items + 14) }
+    ensures short { OnOk result (total asm.new.items ≤ total asm.old.items + 6
+        + 12 * yielder_count (yielder_at plan.entry.graph.now.yielders yielder)) }
 {
     let next = plan.labels.front(k + 1);
-    append_sends(asm, plan, k, word)?;
+    append_sends(asm, plan, k, yielder)?;
     append_way(asm, next, exit)
 }
 
@@ -82,20 +101,23 @@ fn append_primitive(
     requires node { k < length plan.graph.now.nodes }
     requires made { first_label + length plan.labels.row.now ≤ asm.old.labels }
     requires operands { HasPrimitiveOperands plan.graph.now.yielders primitive }
+    requires built { is_built_node
+        (Simple (primitive_viewed plan.graph.now.yielders primitive.entry)) ≡ true }
+    requires few { node_yielder_count
+        (Simple (primitive_viewed plan.graph.now.yielders primitive.entry)) < 65536 }
     requires exit { exit < asm.old.labels }
     requires stop { is_placed asm.old.items (stop_of k) ≡ false }
     ensures items { OnOk result (asm.new ≡ extended asm.old
         (body k exit (Simple (primitive_viewed plan.entry.graph.now.yielders primitive.entry)))) }
     ensures marks { OnOk result (PlacesStop k asm.old.items asm.new.items) }
-    ensures short { OnOk result (total asm.new.items ≤ total asm.old.items + 14) }
+    ensures short { OnOk result (total asm.new.items ≤ total asm.old.items + 6
+        + 12 * node_yielder_count
+        (Simple (primitive_viewed plan.entry.graph.now.yielders primitive.entry))) }
 {
     match primitive {
         PrimitiveView::Complete => append_way(asm, plan.labels.front(k + 1), exit),
         PrimitiveView::Failing => asm.jump(plan.entries.fail),
-        PrimitiveView::Send { yielder } => match integer_of(plan.graph, yielder) {
-            Some(integer) => append_sending(asm, plan, k, exit, integer.cast_unsigned()),
-            None => Ok(()),
-        },
+        PrimitiveView::Send { yielder } => append_sending(asm, plan, k, exit, yielder),
         _ => Ok(()),
     }
 }
@@ -114,7 +136,7 @@ fn append_both(
     ensures items { (exit : ℕ) → (second : ℕ) → OnOk result (asm.new
         ≡ extended asm.old (body k exit (Both (join_viewed join) first second))) }
     ensures marks { OnOk result (PlacesStop k asm.old.items asm.new.items) }
-    ensures short { OnOk result (total asm.new.items ≤ total asm.old.items + 14) }
+    ensures short { OnOk result (total asm.new.items ≤ total asm.old.items + 6) }
 {
     match join {
         Join::And => {
@@ -142,7 +164,7 @@ fn append_phases(
     ensures items { (exit : ℕ) → (second : ℕ) → OnOk result (asm.new
         ≡ extended asm.old (body k exit (Phases (chain_viewed chain) first second))) }
     ensures marks { OnOk result (PlacesStop k asm.old.items asm.new.items) }
-    ensures short { OnOk result (total asm.new.items ≤ total asm.old.items + 14) }
+    ensures short { OnOk result (total asm.new.items ≤ total asm.old.items + 6) }
 {
     match chain {
         Chain::AndThen => {
@@ -156,8 +178,7 @@ fn append_phases(
     }
 }
 
-/// Appends the code of node k behind its start, where the node goes on at a label. A node that isn't
-/// built has none.
+/// Appends the code of node k behind its start, where the node goes on at a label.
 fn append_body(asm: &mut Asm, plan: Plan<'_, '_>, k: usize, exit: Label) -> Result<(), Memory>
     requires node { k < length plan.graph.now.nodes }
     requires made { first_label + length plan.labels.row.now ≤ asm.old.labels }
@@ -166,7 +187,8 @@ fn append_body(asm: &mut Asm, plan: Plan<'_, '_>, k: usize, exit: Label) -> Resu
     ensures items { OnOk result (asm.new
         ≡ extended asm.old (body k exit (node_at (action_of plan.entry.graph.now) k))) }
     ensures marks { OnOk result (PlacesStop k asm.old.items asm.new.items) }
-    ensures short { OnOk result (total asm.new.items ≤ total asm.old.items + 14) }
+    ensures short { OnOk result (total asm.new.items ≤ total asm.old.items + 6
+        + 12 * node_yielder_count (node_at (action_of plan.entry.graph.now) k)) }
 {
     match plan.graph.view(k) {
         NodeView::Simple(primitive) => append_primitive(asm, plan, k, exit, primitive),
@@ -198,7 +220,8 @@ pub(crate) fn append_node(
     ensures items { OnOk result (asm.new
         ≡ extended asm.old (block k exit (node_at (action_of plan.entry.graph.now) k))) }
     ensures fresh { OnOk result (AreFresh (k + 1) asm.new.items) }
-    ensures short { OnOk result (total asm.new.items ≤ total asm.old.items + 14) }
+    ensures short { OnOk result (total asm.new.items ≤ total asm.old.items + 6
+        + 12 * node_yielder_count (node_at (action_of plan.entry.graph.now) k)) }
 {
     append_opening(asm, plan.labels, k);
     append_body(asm, plan, k, exit)

@@ -1,25 +1,37 @@
 //! What the code of an action is made from.
 
-ghost use Rattle.std.specs.Prelude.{◌≡◌, ◌+◌, ◌*◌, ◌<◌, All, length};
+ghost use Rattle.std.specs.Prelude.{◌≡◌, ℕ, ◌+◌, ◌*◌, ◌<◌, [], All, length};
+ghost use Rattle.action_terms.specs.Actions.{node_at};
 ghost use Rattle.action_terms.specs.Meaning.{action_of};
+ghost use Rattle.action_terms.specs.Need.{node_yielder_count};
+ghost use Rattle.rv_yield.specs.Registers.{AreNeeds};
 ghost use Rattle.rv_codegen.specs.Blocks.{first_label, exits_of};
+ghost use Rattle.rv_codegen.specs.Works.{unbuilt};
 
 use crate::entries::Entries;
 use crate::labels::NodeLabels;
 use action_terms::Graph;
 use rv_asm::Label;
+use std::alloc::Global;
 
 /// An action, with the labels that its code has.
 #[derive(Clone, Copy)]
 pub(crate) struct Plan<'a, 'l> {
+    /// Where memory comes from.
+    pub(crate) alloc: Global,
     /// The action.
     pub(crate) graph: &'a Graph<'a>,
+    /// How many registers each yielder needs, by the number of the yielder.
+    pub(crate) needs: &'l [usize],
     /// The labels of its nodes, and those behind them.
     pub(crate) labels: NodeLabels<'l>,
     /// Where each node goes on, by the number of the node.
     pub(crate) exits: &'a [Label],
     /// The labels of the entries.
     pub(crate) entries: &'a Entries,
+    ghost few: { (k : ℕ) → node_yielder_count (node_at (action_of graph.now) k) < 65536 },
+    ghost built: { unbuilt (action_of graph.now) ≡ [] },
+    ghost needed: { AreNeeds graph.now.yielders needs.now },
     ghost rows: { length labels.row.now ≡ 4 * length graph.now.nodes + 4 },
     ghost count: { length exits.now ≡ length graph.now.nodes },
     ghost goes_on: { exits.now ≡ exits_of (action_of graph.now) },

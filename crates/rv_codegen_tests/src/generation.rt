@@ -65,7 +65,7 @@ fn words_of_another_assembler(rt: HostRuntime) -> Result<(), Fail> {
         action(Kind::Fail),
     ];
     let graph = graph_of(&rt, rt.alloc(), &arena, &nodes)?;
-    assert!(rt; first_unbuilt(&graph).is_none());
+    assert!(rt; first_unbuilt(rt.alloc(), &graph)?.is_none());
     let code = generate(rt.alloc(), &graph)?;
     assert_eq!(rt; code.words.as_slice(), WORDS.as_slice());
     Ok(())
@@ -75,7 +75,7 @@ fn words_of_another_assembler(rt: HostRuntime) -> Result<(), Fail> {
 fn count_words(rt: &impl Abort, alloc: Global, nodes: &[Pushed<'_>]) -> Result<usize, Fail> {
     let arena = Bump::new(alloc);
     let graph = graph_of(rt, alloc, &arena, nodes)?;
-    assert!(rt; first_unbuilt(&graph).is_none());
+    assert!(rt; first_unbuilt(alloc, &graph)?.is_none());
     let code = generate(alloc, &graph)?;
     Ok(code.words.len())
 }
@@ -161,7 +161,7 @@ fn instructions_of_three_sends(rt: HostRuntime) -> Result<(), Fail> {
         yielder(YKind::Number(3)),
     ];
     let graph = graph_of(&rt, rt.alloc(), &arena, &nodes)?;
-    assert!(rt; first_unbuilt(&graph).is_none());
+    assert!(rt; first_unbuilt(rt.alloc(), &graph)?.is_none());
     let code = generate(rt.alloc(), &graph)?;
     let image = image_of(&rt, rt.alloc(), code.words.as_slice())?;
     let mut machine = Machine::load(rt.alloc(), image).ok().ok_or("memory")?;
@@ -177,7 +177,7 @@ fn instructions_of_three_sends(rt: HostRuntime) -> Result<(), Fail> {
     Ok(())
 }
 
-// complete and then (send true and escape)
+// complete and then (send sum(1, true) and escape)
 #[test]
 fn first_of_two_unbuilt_nodes(rt: HostRuntime) -> Result<(), Fail> {
     let arena = Bump::new(rt.alloc());
@@ -186,24 +186,41 @@ fn first_of_two_unbuilt_nodes(rt: HostRuntime) -> Result<(), Fail> {
         action(Kind::Complete),
         action(Kind::And),
         action(Kind::Send),
+        yielder(YKind::Sum),
+        yielder(YKind::Number(1)),
         yielder(YKind::Truth(true)),
         action(Kind::Escape),
     ];
     let graph = graph_of(&rt, rt.alloc(), &arena, &nodes)?;
-    assert_eq!(rt; first_unbuilt(&graph), Some(3));
+    assert_eq!(rt; first_unbuilt(rt.alloc(), &graph)?, Some(3));
     Ok(())
 }
 
 #[test]
-fn factors_with_and_without_a_yielder(rt: HostRuntime) -> Result<(), Fail> {
+fn factors_by_yielders(rt: HostRuntime) -> Result<(), Fail> {
     let arena = Bump::new(rt.alloc());
     let nodes = [action(Kind::Send), yielder(YKind::Number(7))];
     let sends = graph_of(&rt, rt.alloc(), &arena, &nodes)?;
-    assert!(rt; first_unbuilt(&sends).is_none());
-    assert_eq!(rt; instructions_per_step(&sends), 448);
+    assert!(rt; first_unbuilt(rt.alloc(), &sends)?.is_none());
+    assert_eq!(rt; instructions_per_step(rt.alloc(), &sends)?, 448);
 
     let completes = graph_of(&rt, rt.alloc(), &arena, &[action(Kind::Complete)])?;
-    assert!(rt; first_unbuilt(&completes).is_none());
-    assert_eq!(rt; instructions_per_step(&completes), 424);
+    assert!(rt; first_unbuilt(rt.alloc(), &completes)?.is_none());
+    assert_eq!(rt; instructions_per_step(rt.alloc(), &completes)?, 424);
+
+    // send 7 and send negation(sum(7, 8)): the second node has more
+    let nodes = [
+        action(Kind::And),
+        action(Kind::Send),
+        yielder(YKind::Number(7)),
+        action(Kind::Send),
+        yielder(YKind::Negation),
+        yielder(YKind::Sum),
+        yielder(YKind::Number(7)),
+        yielder(YKind::Number(8)),
+    ];
+    let computes = graph_of(&rt, rt.alloc(), &arena, &nodes)?;
+    assert!(rt; first_unbuilt(rt.alloc(), &computes)?.is_none());
+    assert_eq!(rt; instructions_per_step(rt.alloc(), &computes)?, 520);
     Ok(())
 }

@@ -25,7 +25,7 @@ fn load_text(alloc: Global, bytes: &[u8]) -> Result<Loaded, Line>
 {
     let arena = Bump::new(alloc);
     let graph = read_graph(alloc, &arena, bytes)?;
-    if let Some(node) = first_unbuilt(&graph) {
+    if let Some(node) = first_unbuilt(alloc, &graph)? {
         return Err(Line::Unbuilt { node });
     }
     Ok(load(alloc, &graph)?)

@@ -7,5 +7,5 @@ use Rattle.rv_codegen.proofs.factor.instructions_per_step.Given as goal
 abbrev pub invariant-loop-k : goal.invariant-loop-k
 invariant-loop-k l = record {
   most : l.most ≡ most_yielders (take l.k (action_of l.graph));
-  bound : l.most ≤ 1;
+  few : l.most ≤ 65536;
 }

@@ -6,6 +6,7 @@ use Rattle.action_terms.specs.Meaning.{action_of}
 use Rattle.rv_codegen.specs.Blocks.{blocks_from}
 use Rattle.rv_codegen.proofs.GraphNodes.{length-action_of}
 use Rattle.rv_codegen.proofs.NodesLaws.{blocks_from-next}
+use Rattle.rv_codegen.proofs.Yielders.{yielders-next}
 use Rattle.rv_codegen.proofs.generation.append_nodes.Goals as goal
 
 pub loop-k-preserved : goal.loop-k-preserved
@@ -24,5 +25,5 @@ loop-k-preserved c =
           ∙ c.loop-k.invariant.items;
       labels = ap (λ s. s.labels) appended ∙ c.loop-k.invariant.labels;
       fresh = c.in_ok-append_node.ensures.fresh;
-      short = omega (arith, c.in_ok-append_node.ensures.short, c.loop-k.invariant.short);
+      short = omega (arith, c.in_ok-append_node.ensures.short, c.loop-k.invariant.short, yielders-next a k within);
     }

@@ -9,6 +9,7 @@ use Rattle.action_terms.proofs.GraphLaws.{length-nodes_few}
 use Rattle.rv_codegen.proofs.Emitting.{OnOk-always}
 use Rattle.rv_codegen.proofs.ExitLaws.{exits-made}
 use Rattle.rv_codegen.proofs.GraphNodes.{length-action_of, tree-of-graph}
+use Rattle.rv_codegen.proofs.Yielders.{node-yielders_few}
 use Rattle.rv_codegen.proofs.generation.assemble.Goals as goal
 
 pub returns-clause-words : goal.returns-clause-words
@@ -20,12 +21,15 @@ returns-clause-labels c = subst (λ items. OnOk c.finish.result (LabelsStand ite
 
 pub returns-clause-short : goal.returns-clause-short
 returns-clause-short c =
-    OnOk-always _ c.finish.result (subst (λ items. total items ≤ 25 + 14 * length c.args.graph.now.nodes) c.in_ok-append_action.ensures.items c.in_ok-append_action.ensures.short)
+    OnOk-always _ c.finish.result (subst (λ items. total items ≤ 25 + 6 * length c.args.graph.now.nodes + 12 * length c.args.graph.now.yielders) c.in_ok-append_action.ensures.items c.in_ok-append_action.ensures.short)
 
 pub invariant_of-plan-clause-made : goal.invariant_of-plan-clause-made
 invariant_of-plan-clause-made c =
     let graph = c.args.graph.now in
     exits-made (action_of graph) (tree-of-graph graph c.nodes-count.ensures.of_an_action) c.deref-2.result.now _ (ap (λ xs. xs) c.deref-2.ensures.value ∙ c.in_ok-exits.ensures.exits) (omega (arith, c.in_ok-row.ensures.len, c.deref.ensures.len, length-map c.nodes-count.result.now listed_node, ap length c.nodes-count.ensures.nodes, length-action_of graph))
+
+pub invariant_of-plan-clause-few : goal.invariant_of-plan-clause-few
+invariant_of-plan-clause-few c = node-yielders_few c.args.graph.now c.nodes-count.ensures.of_an_action
 
 pub finish-requires : goal.finish-requires
 finish-requires c = omega (arith, c.in_ok-append_action.ensures.short, length-nodes_few c.args.graph.now c.nodes-count.ensures.of_an_action)
