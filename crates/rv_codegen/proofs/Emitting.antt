@@ -1,14 +1,14 @@
 -- What the functions that append code leave, put together from what each of them ensures.
-use Rattle.std.proofs.Common.{◌≡◌, ◌≢◌, ℕ, ◌<◌, ◌+◌, ◌*◌, ◌≤◌, List, [], ◌∷◌, ◌++◌, map, false, OnOk, Result, Ok, Err, length, sym, ap, ◌∙◌, subst, arith, inl, inr, append_assoc}
+use Rattle.std.proofs.Common.{◌≡◌, ◌≢◌, ℕ, ◌<◌, ◌+◌, ◌≤◌, List, [], ◌∷◌, ◌++◌, false, OnOk, Result, Ok, Err, sym, ap, ◌∙◌, subst, arith, inl, inr, append_assoc}
 use Rattle.rv_asm.specs.Assembly.{Listing, is_placed, total}
 use Rattle.rv_asm.specs.Pieces.{appended}
 use Rattle.rv_code.specs.declared.instruction.Inst.{Inst}
 use Rattle.rv_asm.specs.declared.item.Item.{Item}
-use Rattle.rv_asm.specs.declared.item.Item.TheVariants.{Plain, Mark, Jump, Address}
+use Rattle.rv_asm.specs.declared.item.Item.TheVariants.{Mark, Jump, Address}
 use Rattle.rv_asm.proofs.Labels.{total-append}
 use Rattle.rv_codegen.specs.Blocks.{first_label, joint_of, front_of, start_of, stop_of, opening, prelude, entries}
 use Rattle.rv_codegen.specs.Marks.{extended, AreFresh}
-use Rattle.rv_codegen.proofs.Fresh.{fresh-mark, fresh-jump, fresh-address, fresh-plain, fresh-opening}
+use Rattle.rv_codegen.proofs.Fresh.{fresh-mark, fresh-plain, fresh-opening}
 
 -- what an `Ok` tells tells what follows from it
 pub OnOk-then : {T E A B : Type 0} (r : Result T E) → (A → B) → OnOk r A → OnOk r B
@@ -66,19 +66,13 @@ module _ (s s1 : Listing) where
   pub opening-keeps : (k l : ℕ) → AreFresh k s.items → s1 ≡ record s { items = s.items ++ opening k } → l < first_label → is_placed s1.items l ≡ false
   opening-keeps k l fresh e lt = subst (λ z. is_placed z.items l ≡ false) (sym e) (fresh-opening s.items k l fresh (inl lt))
 
--- behind some code an address, a jump and a mark
-module _ (s1 s2 s3 s4 : Listing) (l m : ℕ) (second : s2 ≡ record s1 { items = s1.items ++ Address 1 l ∷ [] }) (third : s3 ≡ record s2 { items = s2.items ++ Jump m ∷ [] }) where
-  pub call-fresh : (j : ℕ) → is_placed s1.items j ≡ false → is_placed s3.items j ≡ false
-  call-fresh j h =
-      let after : is_placed s2.items j ≡ false = subst (λ z. is_placed z.items j ≡ false) (sym second) (fresh-address s1.items 1 l j h) in
-      subst (λ z. is_placed z.items j ≡ false) (sym third) (fresh-jump s2.items m j after)
-
-  pub call-short : s4 ≡ marked s3 l → total s4.items ≡ total s1.items + 4
-  call-short fourth =
-      let b : total s2.items ≡ total s1.items + 2 = ap (λ z. total z.items) second ∙ total-append s1.items (Address 1 l ∷ []) in
-      let c : total s3.items ≡ total s2.items + 2 = ap (λ z. total z.items) third ∙ total-append s2.items (Jump m ∷ []) in
-      let d : total s4.items ≡ total s3.items + 0 = ap (λ z. total z.items) fourth ∙ total-append s3.items (Mark l ∷ []) in
-      omega (arith, b, c, d)
+-- an address, a jump and a mark
+pub call-short : (s s1 s2 s3 : Listing) (l m : ℕ) → s1 ≡ record s { items = s.items ++ Address 1 l ∷ [] } → s2 ≡ record s1 { items = s1.items ++ Jump m ∷ [] } → s3 ≡ marked s2 l → total s3.items ≡ total s.items + 4
+call-short s s1 s2 s3 l m e1 e2 e3 =
+    let a : total s1.items ≡ total s.items + 2 = ap (λ z. total z.items) e1 ∙ total-append s.items (Address 1 l ∷ []) in
+    let b : total s2.items ≡ total s1.items + 2 = ap (λ z. total z.items) e2 ∙ total-append s1.items (Jump m ∷ []) in
+    let c : total s3.items ≡ total s2.items + 0 = ap (λ z. total z.items) e3 ∙ total-append s2.items (Mark l ∷ []) in
+    omega (arith, a, b, c)
 
 -- one piece and then another
 pub both-appended : (s s1 s2 : Listing) (a b b' : List Item) → s1 ≡ record s { items = s.items ++ a } → s2 ≡ record s1 { items = s1.items ++ b } → b ≡ b' → s2 ≡ record s { items = s.items ++ (a ++ b') }

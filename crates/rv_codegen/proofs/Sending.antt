@@ -1,6 +1,6 @@
 -- Nodes that send: the value of their yielder is put into register 10, and the entry that sends is called. Where there is no
 -- value, the code has gone to the entry for failures.
-use Rattle.std.proofs.Common.{◌≡◌, ⊎_elim, ℕ, zero, suc, ◌+◌, ◌*◌, ◌^◌, ◌<◌, ◌≤◌, true, ◌&&◌, ℤ, List, [], ◌∷◌, ◌++◌, length, get_or, set, Option, Some, None, refl, sym, ap, ap₂, ◌∙◌, subst, arith, inl, length-set, get_or-set_other, append_assoc}
+use Rattle.std.proofs.Common.{◌≡◌, ⊎_elim, ℕ, zero, suc, ◌+◌, ◌*◌, ◌^◌, ◌<◌, ◌≤◌, true, ◌&&◌, List, [], ◌∷◌, ◌++◌, length, get_or, set, None, refl, sym, ap, ap₂, ◌∙◌, subst, arith, inl, length-set, get_or-set_other, append_assoc}
 use Rattle.rv_code.specs.Bytes.{bytes_of}
 use Rattle.rv_code.specs.declared.instruction.Inst.{Inst}
 use Rattle.rv_asm.specs.Arrivals.{LabelsStand}
@@ -12,8 +12,8 @@ use Rattle.rv_asm.specs.PieceRuns.{CanSend}
 use Rattle.rv_asm.proofs.Labels.{total-append}
 use Rattle.rv_asm.proofs.Places.{and-true}
 use Rattle.rv_asm.proofs.Stretches.{then-runs, between-then-quiet, quiet-between, quiet-then-between}
-use Rattle.action_terms.specs.Information.{Number, NoBinds}
-use Rattle.action_terms.specs.Actions.{Negation, Not, Yielder, NumberLiteral, TruthLiteral, Given, GivenAt, BoundTo, StoredIn, OnTwo, OnOne, ClosureOf, Send, Simple, node_at}
+use Rattle.action_terms.specs.Information.{NoBinds}
+use Rattle.action_terms.specs.Actions.{Negation, Yielder, NumberLiteral, OnTwo, OnOne, Send, Simple, node_at}
 use Rattle.action_terms.specs.Literals.{YielderFits}
 use Rattle.action_terms.specs.Need.{yielder_count, node_yielder_count}
 use Rattle.action_terms.specs.Performances.{OneOf, Here}
@@ -21,7 +21,7 @@ use Rattle.action_terms.specs.Steps.{Step, Sends as SendsEffect, with_effect, si
 use Rattle.action_terms.specs.Acting.{Run}
 use Rattle.action_terms.specs.Frames.{plugged}
 use Rattle.action_terms.specs.Yielding.{yields}
-use Rattle.rv_yield.specs.Registers.{is_arithmetic, is_built, registers_needed, HasWords}
+use Rattle.rv_yield.specs.Registers.{is_arithmetic, is_built, HasWords}
 use Rattle.rv_yield.specs.YielderCode.{value_items}
 use Rattle.rv_yield.proofs.Evaluation.{value-comes}
 use Rattle.rv_yield.proofs.NeedLaws.{registers-enough}

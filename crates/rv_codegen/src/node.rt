@@ -102,9 +102,9 @@ fn append_primitive(
     requires made { first_label + length plan.labels.row.now ≤ asm.old.labels }
     requires operands { HasPrimitiveOperands plan.graph.now.yielders primitive }
     requires built { is_built_node
-        (Simple (primitive_viewed plan.graph.now.yielders primitive.entry)) ≡ true }
+        (Simple (primitive_viewed plan.graph.now.yielders primitive)) ≡ true }
     requires few { node_yielder_count
-        (Simple (primitive_viewed plan.graph.now.yielders primitive.entry)) < 65536 }
+        (Simple (primitive_viewed plan.graph.now.yielders primitive)) < 65536 }
     requires exit { exit < asm.old.labels }
     requires stop { is_placed asm.old.items (stop_of k) ≡ false }
     ensures items { OnOk result (asm.new ≡ extended asm.old

@@ -16,4 +16,4 @@ returns c =
     let right = c.in_ok-code.ensures.right DEFAULT_STACK DEFAULT_UNITS (omega arith) (omega arith) (omega arith) (omega arith) in
     let image = compiled_image (instruction_bytes c.in_ok-code.code.words.items) DEFAULT_STACK DEFAULT_UNITS in
     let same : c.in_ok-image.image ≡ image = c.in_ok-image.ensures ∙ ap (λ words. compiled_image (instruction_bytes words) DEFAULT_STACK DEFAULT_UNITS) c.deref.ensures.value in
-    ((image, right, c.in_ok-machine.ensures.loaded ∙ ap loaded_machine same), c.instructions_per_step-factor.ensures)
+    ((image, right, c.in_ok-machine.ensures.loaded ∙ ap loaded_machine same), c.in_ok-factor.ensures)

@@ -2,7 +2,6 @@ use Rattle.std.proofs.Common.{◌≡◌, ◌<◌, max, length, ap, arith}
 use Rattle.std.proofs.lemmas.List.{length-map}
 use Rattle.action_terms.specs.Nodes.{listed_node}
 use Rattle.action_terms.specs.Meaning.{action_of}
-use Rattle.action_terms.specs.Actions.{node_at}
 use Rattle.rv_codegen.proofs.GraphNodes.{length-action_of}
 use Rattle.rv_codegen.proofs.Unbuilt.{never_unbuilt}
 use Rattle.rv_codegen.proofs.Yielders.{most_yielders-next, node-yielders_few, node-yielders_counted}

@@ -26,7 +26,7 @@ returns-clause-short c =
 pub invariant_of-plan-clause-made : goal.invariant_of-plan-clause-made
 invariant_of-plan-clause-made c =
     let graph = c.args.graph.now in
-    exits-made (action_of graph) (tree-of-graph graph c.nodes-count.ensures.of_an_action) c.deref-2.result.now _ (ap (λ xs. xs) c.deref-2.ensures.value ∙ c.in_ok-exits.ensures.exits) (omega (arith, c.in_ok-row.ensures.len, c.deref.ensures.len, length-map c.nodes-count.result.now listed_node, ap length c.nodes-count.ensures.nodes, length-action_of graph))
+    exits-made (action_of graph) (tree-of-graph graph c.nodes-count.ensures.of_an_action) c.deref-3.result.now _ (ap (λ xs. xs) c.deref-3.ensures.value ∙ c.in_ok-exits.ensures.exits) (omega (arith, c.in_ok-row.ensures.len, c.deref.ensures.len, length-map c.nodes-count.result.now listed_node, ap length c.nodes-count.ensures.nodes, length-action_of graph))
 
 pub invariant_of-plan-clause-few : goal.invariant_of-plan-clause-few
 invariant_of-plan-clause-few c = node-yielders_few c.args.graph.now c.nodes-count.ensures.of_an_action

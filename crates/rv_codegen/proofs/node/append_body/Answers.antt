@@ -1,7 +1,21 @@
-use Rattle.std.proofs.Common.{◌≡◌, OnOk, sym, subst}
+use Rattle.std.proofs.Common.{◌≡◌, ◌<◌, true, OnOk, length, sym, subst, arith}
+use Rattle.action_terms.specs.Meaning.{action_of}
+use Rattle.action_terms.specs.Need.{node_yielder_count}
 use Rattle.rv_codegen.specs.Blocks.{body}
 use Rattle.rv_codegen.specs.Marks.{extended}
+use Rattle.rv_codegen.specs.Works.{is_built_node}
+use Rattle.rv_codegen.proofs.GraphNodes.{length-action_of}
+use Rattle.rv_codegen.proofs.Unbuilt.{never_unbuilt}
 use Rattle.rv_codegen.proofs.node.append_body.Goals as goal
+
+pub append_primitive-requires-clause-built : goal.append_primitive-requires-clause-built
+append_primitive-requires-clause-built c =
+    let graph = c.args.plan.graph.now in
+    let within : c.args.k < length (action_of graph) = omega (arith, c.requires.node, length-action_of graph) in
+    subst (λ n. is_built_node n ≡ true) c.in-Simple.ensures.node (never_unbuilt (action_of graph) c.args.k within c.args.plan.built)
+
+pub append_primitive-requires-clause-few : goal.append_primitive-requires-clause-few
+append_primitive-requires-clause-few c = subst (λ n. node_yielder_count n < 65536) c.in-Simple.ensures.node (c.args.plan.few c.args.k)
 
 pub returns-in-Both-clause-items : goal.returns-in-Both-clause-items
 returns-in-Both-clause-items c =
