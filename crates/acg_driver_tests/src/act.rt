@@ -122,7 +122,14 @@ fn sends_of_yielders(rt: HostRuntime) -> Result<(), Fail> {
 fn refusals(rt: HostRuntime) -> Result<(), Fail> {
     let alloc = rt.alloc();
     assert!(rt; acts(alloc, b"give 1", b"unbuilt 0\n", Status::Action)?);
-    assert!(rt; acts(alloc, b"complete and send sum(1, true)", b"unbuilt 2\n", Status::Action)?);
+    assert!(rt;
+        acts(
+            alloc,
+            b"complete and send sum(1, true)",
+            b"unbuilt 2\n",
+            Status::Action
+        )?
+    );
     assert!(rt; acts(alloc, b"send ?", b"action byte 5\n", Status::Action)?);
     assert!(rt; acts(alloc, b"send 1 and", b"action text 10\n", Status::Action)?);
     assert!(rt; acts(alloc, b"unfold", b"stray unfold 0\n", Status::Action)?);

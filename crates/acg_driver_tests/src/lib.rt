@@ -13,3 +13,5 @@ mod others;
 mod perform;
 #[cfg(test)]
 mod tools;
+#[cfg(test)]
+mod yielders;

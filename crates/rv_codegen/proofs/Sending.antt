@@ -11,7 +11,7 @@ use Rattle.rv_asm.specs.declared.item.Item.TheVariants.{Mark, Jump, Address}
 use Rattle.rv_asm.specs.PieceRuns.{CanSend}
 use Rattle.rv_asm.proofs.Labels.{total-append}
 use Rattle.rv_asm.proofs.Places.{and-true}
-use Rattle.rv_asm.proofs.Stretches.{then-runs, between-then-quiet, quiet-between, quiet-then-between}
+use Rattle.rv_asm.proofs.Stretches.{Between, then-runs, between-then-quiet, quiet-between, quiet-then-between}
 use Rattle.action_terms.specs.Information.{NoBinds}
 use Rattle.action_terms.specs.Actions.{Negation, Yielder, NumberLiteral, OnTwo, OnOne, Send, Simple, node_at}
 use Rattle.action_terms.specs.Literals.{YielderFits}
@@ -115,120 +115,150 @@ module _ (s : Setting) where
       let call = Address 1 (stop_of k) ∷ Jump send_label ∷ Mark (stop_of k) ∷ [] in
       omega (arith, le, total-append (sends k y) (leaves k (get_or s.exits k 0)), total-append (value_items 10 10 fail_label y) call)
 
-  module _ (laid : Laid s) (entry : Has (code s) (address_of (point s send_label).place) send_entry) (x : Starting s) where
-    -- what a call of the entry does to the words of the region
-    module _ (word : ℕ) where
-      abbrev sent_words : List ℕ
-      sent_words = set x.runs.here.words 0 word
+  module _ (laid : Laid s) (entry : Has (code s) (address_of (point s send_label).place) send_entry) where
+    -- the entry has been called from a state, and the node's exit has been reached
+    record HasCalled (k : ℕ) (c : WordState) : Type 0 where
+      end : WordState
+      count : ℕ
+      some : 0 < count
+      few : count ≤ 13
+      runs : run_words s.base (code s) count c ≡ Goes end
+      between : Between s.base (code s) count c end
+      at : end.pc ≡ address_of (exit s k).place
+      region_at : end.registers 3 ≡ c.registers 3
+      frame_at : end.registers 2 ≡ c.registers 2
+      words : end.words ≡ set c.words 0 (c.registers 10)
+      input : end.input ≡ c.input
+      output : end.output ≡ c.output ++ bytes_of 8 (c.registers 10)
 
-      word-kept : (j : ℕ) → 0 < j → get_or sent_words j 0 ≡ get_or x.runs.here.words j 0
-      word-kept j lt = get_or-set_other x.runs.here.words 0 j word 0 (omega arith)
+    call-runs : (k : ℕ) (y : Yielder) (calls : Calls k y) (c : WordState) → c.pc ≡ address_of calls.call → c.registers 3 ≡ s.base → length c.words ≡ s.count → HasCalled k c
+    call-runs k y calls c here region size =
+        let c2 = addressed c 0 calls.call (stop s k).place in
+        let back = address-runs s.base (code s) c 0 calls.call (stop s k).place (omega (arith, calls.within)) (near s laid (stop_of k)) here calls.back in
+        let send_at = (point s send_label).place in
+        let c3 = jumped c2 (calls.call + 2) send_at in
+        let enters = jump-runs s.base (code s) c2 (calls.call + 2) send_at calls.within (near s laid send_label) refl calls.enter in
+        let can : CanSend s.base 0 c3 = record { aligned = laid.aligned; below = omega (arith, laid.below, laid.some); region = region; inside = omega (arith, size, laid.some) } in
+        let sent = send_entry-runs s.base (code s) c3 (address_of (stop s k).place) can refl (omega arith) (omega (arith, near s laid (stop_of k))) entry in
+        let g = way-runs s.base (code s) sent.to (stop s k) (exit s k) (near s laid (stop_of k)) (near s laid (get_or s.exits k 0)) sent.at calls.leave in
+        let to3 = then-runs s.base (code s) 2 2 c c2 c3 back enters in
+        let last = then-runs s.base (code s) 7 g.count c3 sent.to g.end sent.runs g.runs in
+        record {
+          end = g.end;
+          count = 4 + (7 + g.count);
+          some = omega arith;
+          few = omega (arith, g.few);
+          runs = then-runs s.base (code s) 4 (7 + g.count) c c3 g.end to3 last;
+          between = quiet-then-between s.base (code s) 4 (7 + g.count) c c3 g.end to3 refl (between-then-quiet s.base (code s) 7 g.count c3 sent.to g.end sent.runs sent.between g.runs g.output);
+          at = g.at;
+          region_at = g.others 3 (omega arith) ∙ sent.others 3 (omega arith);
+          frame_at = g.others 2 (omega arith) ∙ sent.others 2 (omega arith);
+          words = g.words ∙ sent.words;
+          input = g.input ∙ sent.input;
+          output = g.output ∙ sent.output;
+        }
 
-    module _ (y : Yielder) (e : node_at s.action x.k ≡ Simple (Send y)) where
-      -- the code of the yielder has come to an address
-      abbrev Comes : ℕ → Type 0
-      Comes address = Arrives s.base (code s) (12 * yielder_count y) 10 10 x.state address
+    module _ (x : Starting s) where
+      -- what a call of the entry does to the words of the region
+      module _ (word : ℕ) where
+        abbrev sent_words : List ℕ
+        sent_words = set x.runs.here.words 0 word
 
-      abbrev Sent : ℕ → Type 0
-      Sent address = Present s.base (code s) (12 * yielder_count y) 10 10 x.state address (yields y x.d x.b x.world.cells)
+        word-kept : (j : ℕ) → 0 < j → get_or sent_words j 0 ≡ get_or x.runs.here.words j 0
+        word-kept j lt = get_or-set_other x.runs.here.words 0 j word 0 (omega arith)
 
-      paid : 400 + 24 * (0 + 1) * (yielder_count y + 1) ≤ s.factor
-      paid = subst (λ m. 400 + 24 * (0 + 1) * (node_yielder_count m + 1) ≤ s.factor) e (laid.paid x.k 0 (omega arith))
+      module _ (y : Yielder) (e : node_at s.action x.k ≡ Simple (Send y)) where
+        -- the code of the yielder has come to an address
+        abbrev Comes : ℕ → Type 0
+        Comes address = Arrives s.base (code s) (12 * yielder_count y) 10 10 x.state address
 
-      -- an integer is sent
-      send-did : (closed : s.Opens → ⊥) (calls : Calls x.k y) (v : Sent (address_of calls.call)) → Did s laid x (with_effect (SendsEffect v.integer) done) (exit s x.k)
-      send-did closed calls v =
-          let h = x.runs.here in
-          let k = x.k in
-          let a = v.arrives in
-          let n = a.count in
-          let word = a.end.registers 10 in
-          let step = plugged x.frames (with_effect (SendsEffect v.integer) done) in
-          let c2 = addressed a.end 0 calls.call (stop s k).place in
-          let back = address-runs s.base (code s) a.end 0 calls.call (stop s k).place (omega (arith, calls.within)) (near s laid (stop_of k)) a.at calls.back in
-          let send_at = (point s send_label).place in
-          let c3 = jumped c2 (calls.call + 2) send_at in
-          let enters = jump-runs s.base (code s) c2 (calls.call + 2) send_at calls.within (near s laid send_label) refl calls.enter in
-          let region_at : c3.registers 3 ≡ s.base = a.others 3 (omega arith) (omega arith) ∙ h.stands.region in
-          let words_at : c3.words ≡ h.words = a.words ∙ h.stands.words_are in
-          let size : length c3.words ≡ s.count = ap length words_at ∙ h.region.size in
-          let can : CanSend s.base 0 c3 = record { aligned = laid.aligned; below = omega (arith, laid.below, laid.some); region = region_at; inside = omega (arith, size, laid.some) } in
-          let sent = send_entry-runs s.base (code s) c3 (address_of (stop s k).place) can refl (omega arith) (omega (arith, near s laid (stop_of k))) entry in
-          let g = way-runs s.base (code s) sent.to (stop s k) (exit s k) (near s laid (stop_of k)) (near s laid (get_or s.exits k 0)) sent.at calls.leave in
-          let to2 = then-runs s.base (code s) n 2 x.state a.end c2 a.runs back in
-          let to3 = then-runs s.base (code s) (n + 2) 2 x.state c2 c3 to2 enters in
-          let last = then-runs s.base (code s) 7 g.count c3 sent.to g.end sent.runs g.runs in
-          let words_are : g.end.words ≡ sent_words word = g.words ∙ sent.words ∙ ap (λ ws. set ws 0 word) words_at in
-          record {
-            end = g.end;
-            count = n + 2 + 2 + (7 + g.count);
-            some = inl (omega arith);
-            few = omega (arith, a.few, g.few, paid);
-            runs = then-runs s.base (code s) (n + 2 + 2) (7 + g.count) x.state c3 g.end to3 last;
-            between = quiet-then-between s.base (code s) (n + 2 + 2) (7 + g.count) x.state c3 g.end to3 a.output (between-then-quiet s.base (code s) 7 g.count c3 sent.to g.end sent.runs sent.between g.runs g.output);
-            at = g.at;
-            heap = h.heap;
-            grows = grows-same h.heap;
-            words = sent_words word;
-            stands = record { region = g.others 3 (omega arith) ∙ sent.others 3 (omega arith) ∙ region_at; frame_at = g.others 2 (omega arith) ∙ sent.others 2 (omega arith) ∙ a.others 2 (omega arith) (omega arith) ∙ h.stands.frame_at; words_are = words_are };
-            region = record { size = length-set h.words 0 word ∙ h.region.size; alternative = λ o. absurd (closed o); trap = λ o. absurd (closed o); mark = λ o. absurd (closed o) };
-            agrees = record { here = λ o no. word-kept word (h.f + o) (omega (arith, high)); below = λ j l lt. word-kept word j (omega arith) };
-            units_are = units-kept s h.heap h.words (sent_words word) x.steps (step ∷ x.steps) x.world.cells (λ j out. word-kept word j (⊎_elim (λ o. omega (arith, o.0)) (λ o. omega arith) out)) (omega arith) h.units_are;
-            left = left-same {ys = g.end.input} (g.input ∙ sent.input ∙ a.input) x.left;
-            output = g.output ∙ sent.output ∙ ap₂ ◌++◌ (a.output ∙ x.shown) (ap (bytes_of 8) v.value ∙ bytes_of-message v.integer) ∙ sym (messages_bytes-append x.world.output v.integer);
-          }
-        where
-          high : 512 ≤ x.runs.here.f
-          high = frames-high s x.runs.here.heap x.runs.here.words x.frames x.runs.here.f x.k x.runs.here.chains x.runs.here.around
+        abbrev Sent : ℕ → Type 0
+        Sent address = Present s.base (code s) (12 * yielder_count y) 10 10 x.state address (yields y x.d x.b x.world.cells)
 
-      -- there is nothing to send
-      none-did : (start s x.k).place < (failure s).place → Comes (address_of (failure s).place) → Did s laid x (silent failed) (failure s)
-      none-did less a =
-          let h = x.runs.here in
-          record {
-            end = a.end;
-            count = a.count;
-            some = inl (moves-on s.base (code s) a.count x.state a.end (start s x.k).place (failure s).place a.runs x.runs.at a.at less);
-            few = omega (arith, a.few, paid);
-            runs = a.runs;
-            between = quiet-between s.base (code s) a.count x.state a.end a.runs a.output;
-            at = a.at;
-            heap = h.heap;
-            grows = grows-same h.heap;
-            words = h.words;
-            stands = record { region = a.others 3 (omega arith) (omega arith) ∙ h.stands.region; frame_at = a.others 2 (omega arith) (omega arith) ∙ h.stands.frame_at; words_are = a.words ∙ h.stands.words_are };
-            region = h.region;
-            agrees = record { here = λ o no. refl; below = λ j l lt. refl };
-            units_are = units-more s h.heap h.words (plugged x.frames (silent failed)) x.steps x.world.cells h.units_are;
-            left = left-same {ys = a.end.input} a.input x.left;
-            output = a.output ∙ x.shown;
-          }
+        paid : 400 + 24 * (0 + 1) * (yielder_count y + 1) ≤ s.factor
+        paid = subst (λ m. 400 + 24 * (0 + 1) * (node_yielder_count m + 1) ≤ s.factor) e (laid.paid x.k 0 (omega arith))
 
-      module _ (ok : IsSendable y) where
-        -- the node's one step is to send what the yielder yields
-        open-sent : (n : Step) → sent (yields y x.d x.b x.world.cells) ≡ n → n.made ≡ [] → OneOf n (open_steps s.action x.world (Run x.k x.d x.b))
-        open-sent n is none =
-            let same : making (closures_in y) x.b (sent (yields y x.d x.b x.world.cells)) ≡ n = ap₂ (λ bodies m. making bodies x.b m) (no-closures y ok.built) is ∙ ap (λ ms. record n { made = ms }) (sym none) in
-            open-run s x.k x.d x.b x.world (Simple (Send y)) n e (subst (λ m. OneOf n (m ∷ [])) (sym same) Here)
-
-        pub send-goes : (s.Opens → ⊥) → LabelsStand s.items → stop_of x.k < s.labels → LeavesNone s x.k → NodeStands s.items s.exits x.k (Simple (Send y)) → StartGoesOn s x
-        send-goes closed labels within none stands =
+        -- an integer is sent
+        send-did : (closed : s.Opens → ⊥) (calls : Calls x.k y) (v : Sent (address_of calls.call)) → Did s laid x (with_effect (SendsEffect v.integer) done) (exit s x.k)
+        send-did closed calls v =
             let h = x.runs.here in
-            let k = x.k in
-            let calls = calls-stand laid labels k y stands.place stands.behind stands.opened.start within stands.opened.cursor in
-            let size = total (value_items 10 10 fail_label y) in
-            let next : address_of ((start s k).place + size) ≡ address_of calls.call = ap address_of (sym calls.behind_value) in
-            let less = failure-behind k y (subst (λ n. n + total (sends k y ++ leaves k (get_or s.exits k 0)) ≤ spot s.items fail_label) (sym stands.opened.start) stands.before_failure) in
-            let v = yields y x.d x.b x.world.cells in
-            let outcome =
-            value-comes s.base (code s) (spot s.items) fail_label (near s laid fail_label) x.d x.b x.world.cells y ok.built (has-words y ok.fits) 10 10 (omega arith) (omega (arith, registers-enough y ok.few)) (inl refl) (start s k).place x.state (omega (arith, calls.within, calls.behind_value)) x.runs.at calls.value in
-            ⊎_elim
-            (λ (p : Sent (address_of calls.call)).
-            let did = send-did closed calls p in
-            step-done s laid x (with_effect (SendsEffect p.integer) done) [] NoBinds (open-sent (with_effect (SendsEffect p.integer) done) (ap sent p.is) refl) refl did
-            (subst (λ os. Holds s.base did.heap did.words h.f os []) (sym none.out) tt)
-            (binds-none s k none did.heap did.words h.f))
-            (λ (p : (v ≡ None) × Comes (address_of (failure s).place)).
-            step-failed s laid x (silent failed) (open-sent (silent failed) (ap sent p.0) refl) refl (none-did less p.1))
-            (outcome-cases s.base (code s) (12 * yielder_count y) 10 10 x.state (address_of calls.call) (address_of (failure s).place) v
-            (subst (λ p. Outcome s.base (code s) (12 * yielder_count y) 10 10 x.state p (address_of (failure s).place) v) next outcome))
+            let a = v.arrives in
+            let word = a.end.registers 10 in
+            let step = plugged x.frames (with_effect (SendsEffect v.integer) done) in
+            let region_at : a.end.registers 3 ≡ s.base = a.others 3 (omega arith) (omega arith) ∙ h.stands.region in
+            let words_at : a.end.words ≡ h.words = a.words ∙ h.stands.words_are in
+            let g = call-runs x.k y calls a.end a.at region_at (ap length words_at ∙ h.region.size) in
+            let words_are : g.end.words ≡ sent_words word = g.words ∙ ap (λ ws. set ws 0 word) words_at in
+            record {
+              end = g.end;
+              count = a.count + g.count;
+              some = inl (omega (arith, g.some));
+              few = omega (arith, a.few, g.few, paid);
+              runs = then-runs s.base (code s) a.count g.count x.state a.end g.end a.runs g.runs;
+              between = quiet-then-between s.base (code s) a.count g.count x.state a.end g.end a.runs a.output g.between;
+              at = g.at;
+              heap = h.heap;
+              grows = grows-same h.heap;
+              words = sent_words word;
+              stands = record { region = g.region_at ∙ region_at; frame_at = g.frame_at ∙ a.others 2 (omega arith) (omega arith) ∙ h.stands.frame_at; words_are = words_are };
+              region = record { size = length-set h.words 0 word ∙ h.region.size; alternative = λ o. absurd (closed o); trap = λ o. absurd (closed o); mark = λ o. absurd (closed o) };
+              agrees = record { here = λ o no. word-kept word (h.f + o) (omega (arith, high)); below = λ j l lt. word-kept word j (omega arith) };
+              units_are = units-kept s h.heap h.words (sent_words word) x.steps (step ∷ x.steps) x.world.cells (λ j out. word-kept word j (⊎_elim (λ o. omega (arith, o.0)) (λ o. omega arith) out)) (omega arith) h.units_are;
+              left = left-same {ys = g.end.input} (g.input ∙ a.input) x.left;
+              output = g.output ∙ ap₂ ◌++◌ (a.output ∙ x.shown) (ap (bytes_of 8) v.value ∙ bytes_of-message v.integer) ∙ sym (messages_bytes-append x.world.output v.integer);
+            }
+          where
+            high : 512 ≤ x.runs.here.f
+            high = frames-high s x.runs.here.heap x.runs.here.words x.frames x.runs.here.f x.k x.runs.here.chains x.runs.here.around
+
+        -- there is nothing to send
+        none-did : (start s x.k).place < (failure s).place → Comes (address_of (failure s).place) → Did s laid x (silent failed) (failure s)
+        none-did less a =
+            let h = x.runs.here in
+            record {
+              end = a.end;
+              count = a.count;
+              some = inl (moves-on s.base (code s) a.count x.state a.end (start s x.k).place (failure s).place a.runs x.runs.at a.at less);
+              few = omega (arith, a.few, paid);
+              runs = a.runs;
+              between = quiet-between s.base (code s) a.count x.state a.end a.runs a.output;
+              at = a.at;
+              heap = h.heap;
+              grows = grows-same h.heap;
+              words = h.words;
+              stands = record { region = a.others 3 (omega arith) (omega arith) ∙ h.stands.region; frame_at = a.others 2 (omega arith) (omega arith) ∙ h.stands.frame_at; words_are = a.words ∙ h.stands.words_are };
+              region = h.region;
+              agrees = record { here = λ o no. refl; below = λ j l lt. refl };
+              units_are = units-more s h.heap h.words (plugged x.frames (silent failed)) x.steps x.world.cells h.units_are;
+              left = left-same {ys = a.end.input} a.input x.left;
+              output = a.output ∙ x.shown;
+            }
+
+        module _ (ok : IsSendable y) where
+          -- the node's one step is to send what the yielder yields
+          open-sent : (n : Step) → sent (yields y x.d x.b x.world.cells) ≡ n → n.made ≡ [] → OneOf n (open_steps s.action x.world (Run x.k x.d x.b))
+          open-sent n is none =
+              let same : making (closures_in y) x.b (sent (yields y x.d x.b x.world.cells)) ≡ n = ap₂ (λ bodies m. making bodies x.b m) (no-closures y ok.built) is ∙ ap (λ ms. record n { made = ms }) (sym none) in
+              open-run s x.k x.d x.b x.world (Simple (Send y)) n e (subst (λ m. OneOf n (m ∷ [])) (sym same) Here)
+
+          pub send-goes : (s.Opens → ⊥) → LabelsStand s.items → stop_of x.k < s.labels → LeavesNone s x.k → NodeStands s.items s.exits x.k (Simple (Send y)) → StartGoesOn s x
+          send-goes closed labels within none stands =
+              let h = x.runs.here in
+              let k = x.k in
+              let calls = calls-stand laid labels k y stands.place stands.behind stands.opened.start within stands.opened.cursor in
+              let size = total (value_items 10 10 fail_label y) in
+              let next : address_of ((start s k).place + size) ≡ address_of calls.call = ap address_of (sym calls.behind_value) in
+              let less = failure-behind k y (subst (λ n. n + total (sends k y ++ leaves k (get_or s.exits k 0)) ≤ spot s.items fail_label) (sym stands.opened.start) stands.before_failure) in
+              let v = yields y x.d x.b x.world.cells in
+              let outcome =
+              value-comes s.base (code s) (spot s.items) fail_label (near s laid fail_label) x.d x.b x.world.cells y ok.built (has-words y ok.fits) 10 10 (omega arith) (omega (arith, registers-enough y ok.few)) (inl refl) (start s k).place x.state (omega (arith, calls.within, calls.behind_value)) x.runs.at calls.value in
+              ⊎_elim
+              (λ (p : Sent (address_of calls.call)).
+              let did = send-did closed calls p in
+              step-done s laid x (with_effect (SendsEffect p.integer) done) [] NoBinds (open-sent (with_effect (SendsEffect p.integer) done) (ap sent p.is) refl) refl did
+              (subst (λ os. Holds s.base did.heap did.words h.f os []) (sym none.out) tt)
+              (binds-none s k none did.heap did.words h.f))
+              (λ (p : (v ≡ None) × Comes (address_of (failure s).place)).
+              step-failed s laid x (silent failed) (open-sent (silent failed) (ap sent p.0) refl) refl (none-did less p.1))
+              (outcome-cases s.base (code s) (12 * yielder_count y) 10 10 x.state (address_of calls.call) (address_of (failure s).place) v
+              (subst (λ p. Outcome s.base (code s) (12 * yielder_count y) 10 10 x.state p (address_of (failure s).place) v) next outcome))

@@ -35,12 +35,7 @@ fn append_way(asm: &mut Asm, next: Label, label: Label) -> Result<(), Memory>
 /// Appends what sends the integer of a yielder by the entry that sends. Where the yielder yields
 /// nothing, that goes to the entry for failures.
 #[tactic(auto, using(crate::proofs::Fresh::freshness))]
-fn append_sends(
-    asm: &mut Asm,
-    plan: Plan<'_, '_>,
-    k: usize,
-    yielder: u32,
-) -> Result<(), Memory>
+fn append_sends(asm: &mut Asm, plan: Plan<'_, '_>, k: usize, yielder: u32) -> Result<(), Memory>
     requires node { k < length plan.graph.now.nodes }
     requires made { first_label + length plan.labels.row.now ≤ asm.old.labels }
     requires datum { IsDatum plan.graph.now.yielders yielder }
@@ -55,7 +50,9 @@ fn append_sends(
 {
     let stop = plan.labels.stop(k);
     let fail = plan.entries.fail;
-    value_code(plan.alloc, asm, plan.graph, plan.needs, yielder, ARGUMENT, fail)?;
+    value_code(
+        plan.alloc, asm, plan.graph, plan.needs, yielder, ARGUMENT, fail,
+    )?;
     asm.address(RETURN, stop)?;
     asm.jump(plan.entries.send)?;
     asm.place(stop);
