@@ -53,6 +53,42 @@ fn within(value: i128) -> Option<i64> {
     }
 }
 
+#[test]
+fn worked_rows(rt: HostRuntime) -> Result<(), Fail> {
+    let alloc = rt.alloc();
+    assert!(rt;
+        sends(
+            alloc,
+            "send product(-4294967296, 2147483648)",
+            496,
+            Some(LEAST)
+        )?
+    );
+    assert!(rt; sends(alloc, "send product(3037000500, 3037000500)", 496, None)?);
+    assert!(rt; sends(alloc, "send negation(-9223372036854775808)", 472, None)?);
+    assert!(rt; sends(alloc, "send sum(9223372036854775807, 1)", 496, None)?);
+    assert!(rt; sends(alloc, "send integer-quotient(7, 0)", 496, None)?);
+    assert!(rt;
+        sends(
+            alloc,
+            "send integer-quotient(-9223372036854775808, -1)",
+            496,
+            None
+        )?
+    );
+    assert!(rt;
+        sends(
+            alloc,
+            "send integer-remainder(-9223372036854775808, -1)",
+            496,
+            Some(0)
+        )?
+    );
+    let nested = "send difference(sum(1, 2), product(negation(3), integer-quotient(-7, 2)))";
+    assert!(rt; sends(alloc, nested, 664, Some(-6))?);
+    Ok(())
+}
+
 // An operation on two integers yields what 128 bits give.
 fn try_operation(
     rt: &impl Abort,
