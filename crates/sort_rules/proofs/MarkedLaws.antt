@@ -16,7 +16,7 @@ use Rattle.sort_rules.specs.declared.table.Row.{Row}
 use Rattle.sort_rules.proofs.Widths.{row-read}
 
 -- both are told by the row of the entry's node
-marked-part : (ms : List MarkedRow) (x : Entry) → marked_table ms x ≡ part_in (λ r. row_part r x) (slice_get ms (node_of x))
+pub marked-part : (ms : List MarkedRow) (x : Entry) → marked_table ms x ≡ part_in (λ r. row_part r x) (slice_get ms (node_of x))
 marked-part ms (DataIn k) = refl
 marked-part ms (BindsIn k) = refl
 marked-part ms (DataOut k) = refl

@@ -32,8 +32,8 @@ pub struct Context<'t, 'a> {
     pub h: MarkedBinds<'a>,
 }
 
-// the least value above both
-fn joined<'a>(arena: &'a Bump, x: Value<'a>, y: Value<'a>) -> Result<Value<'a>, AllocError>
+/// The least value above both.
+pub fn joined<'a>(arena: &'a Bump, x: Value<'a>, y: Value<'a>) -> Result<Value<'a>, AllocError>
     ensures { IfOk result (λ r. value_part r ≡ join (value_part x.entry) (value_part y.entry)) }
 {
     match (x, y) {

@@ -100,8 +100,8 @@ fn push_primitive_closures(
     }
 }
 
-// puts the closures that a node makes behind a list, the last one first
-fn push_node_closures(
+/// Puts the bodies of the closures that a node makes behind a list, the last one first.
+pub fn push_node_closures(
     alloc: Global,
     graph: &Graph<'_>,
     view: NodeView<'_>,

@@ -1,0 +1,105 @@
+//! Least tables of small actions, and ill-sorted ones.
+use action_terms::pushed::Pushed;
+use action_terms::{Graph, GraphBuilder, Kind, NewAction, NewYielder, Sort, YKind};
+use bumpalo::Bump;
+use sort_infer::{SortError, infer};
+use sort_rules::sets::atoms;
+use sort_rules::{BindSort, Row, TupleSort};
+use std::alloc::Global;
+use std::process::Abort;
+use std::test::Fail;
+
+fn action(kind: Kind, items: u32) -> Pushed<'static> {
+    Pushed::Action(NewAction {
+        kind,
+        items,
+        token: b"",
+    })
+}
+
+fn datum(kind: YKind) -> Pushed<'static> {
+    Pushed::Yielder(NewYielder { kind, token: b"" })
+}
+
+// the graph of the action whose nodes these are, in preorder
+fn graph_of<'a>(
+    rt: &impl Abort,
+    alloc: Global,
+    arena: &'a Bump,
+    nodes: &[Pushed<'_>],
+) -> Result<Graph<'a>, Fail> {
+    let mut builder = GraphBuilder::new(alloc, arena)?;
+    for node in nodes {
+        let _number = match *node {
+            Pushed::Action(new) => builder.push_action(new)?,
+            Pushed::Yielder(new) => builder.push_yielder(new)?,
+        };
+    }
+    assert!(rt; builder.is_whole());
+    Ok(builder.seal()?)
+}
+
+#[test]
+fn an_integer_is_no_closure(rt: HostRuntime) -> Result<(), Fail> {
+    let arena = Bump::new(rt.alloc());
+    let nodes = [action(Kind::Enact, 0), datum(YKind::Number(1))];
+    let graph = graph_of(&rt, rt.alloc(), &arena, &nodes)?;
+    match infer(rt.alloc(), &arena, &graph) {
+        Err(error) => assert_eq!(rt; error, SortError::IllSorted { node: 0 }),
+        Ok(_table) => return Err("a table".into()),
+    }
+    Ok(())
+}
+
+// `unfolding ((give 1 and then unfold) or complete)`: with each repetition one integer more is given
+#[test]
+fn lengths_that_grow_clash(rt: HostRuntime) -> Result<(), Fail> {
+    let arena = Bump::new(rt.alloc());
+    let nodes = [
+        action(Kind::Unfolding, 0),
+        action(Kind::Or, 0),
+        action(Kind::AndThen, 0),
+        action(Kind::Give, 1),
+        datum(YKind::Number(1)),
+        action(Kind::Unfold, 0),
+        action(Kind::Complete, 0),
+    ];
+    let graph = graph_of(&rt, rt.alloc(), &arena, &nodes)?;
+    match infer(rt.alloc(), &arena, &graph) {
+        Err(error) => assert_eq!(rt; error, SortError::IllSorted { node: 0 }),
+        Ok(_table) => return Err("a table".into()),
+    }
+    Ok(())
+}
+
+// `(give 1) then (send the given integer)`
+#[test]
+fn what_is_given_is_sent(rt: HostRuntime) -> Result<(), Fail> {
+    let arena = Bump::new(rt.alloc());
+    let nodes = [
+        action(Kind::Then, 0),
+        action(Kind::Give, 1),
+        datum(YKind::Number(1)),
+        action(Kind::Send, 0),
+        datum(YKind::Given {
+            sort: Sort::Integer,
+            place: 0,
+        }),
+    ];
+    let graph = graph_of(&rt, rt.alloc(), &arena, &nodes)?;
+    let table = match infer(rt.alloc(), &arena, &graph) {
+        Ok(table) => table,
+        Err(_error) => return Err("no table".into()),
+    };
+    let integer = [atoms(true, false)];
+    let give = Row {
+        g: TupleSort::List(&[]),
+        h: BindSort::Map(&[]),
+        o: TupleSort::List(&integer),
+        p: BindSort::Map(&[]),
+        e: TupleSort::Unreached,
+    };
+    assert_eq!(rt; table.row(1), give);
+    assert_eq!(rt; table.width(), 1);
+    Ok(())
+}
