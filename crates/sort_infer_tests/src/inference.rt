@@ -3,8 +3,10 @@ use action_terms::pushed::Pushed;
 use action_terms::{Graph, GraphBuilder, Kind, NewAction, NewYielder, Sort, YKind};
 use bumpalo::Bump;
 use sort_infer::{SortError, infer};
+use sort_rules::rows::MarkedRow;
 use sort_rules::sets::atoms;
-use sort_rules::{BindSort, Row, TupleSort};
+use sort_rules::values::Value;
+use sort_rules::{MarkedBinds, MarkedTuple};
 use std::alloc::Global;
 use std::process::Abort;
 use std::test::Fail;
@@ -91,15 +93,18 @@ fn what_is_given_is_sent(rt: HostRuntime) -> Result<(), Fail> {
         Ok(table) => table,
         Err(_error) => return Err("no table".into()),
     };
+    let rows = table.marked_rows(rt.alloc())?;
     let integer = [atoms(true, false)];
-    let give = Row {
-        g: TupleSort::List(&[]),
-        h: BindSort::Map(&[]),
-        o: TupleSort::List(&integer),
-        p: BindSort::Map(&[]),
-        e: TupleSort::Unreached,
+    let give = MarkedRow {
+        g: MarkedTuple::List(&[]),
+        h: MarkedBinds::Map(&[]),
+        o: MarkedTuple::List(&integer),
+        p: MarkedBinds::Map(&[]),
+        e: MarkedTuple::Unreached,
+        contents: Value::Unreached,
+        fits: true,
     };
-    assert_eq!(rt; table.row(1), give);
+    assert_eq!(rt; rows.get(1).copied(), Some(give));
     assert_eq!(rt; table.width(), 1);
     Ok(())
 }
