@@ -1,0 +1,71 @@
+-- Bits of words.
+use Rattle.std.proofs.Common.{◌≡◌, ◌≢◌, max, ◌⊎◌, inl, inr, ℕ, zero, suc, ◌*◌, ◌/◌, ◌%◌, ◌^◌, ◌<◌, List, length, slice_set, get_or, get_or-set_same, get_or-set_other, eqb, true, ◌∙◌, sym, ap, refl, arith, eq-eqb, eqb-true}
+use Rattle.std.proofs.lemmas.Bool.Decides.{eqb_tells}
+use Rattle.std.proofs.lemmas.Nat.Bits.{bit_at_or, bit_at-zero, shr_and_one, bit_at_set_same, bit_at_set_other}
+use Rattle.std.specs.Prelude.{bit_and, bit_or, ◌↔◌, replicate}
+use Rattle.std.specs.Int.{bit_at, w64}
+use Rattle.chart_parse.specs.Rows.{Has, HasMore}
+
+pub has_tests : (row : List ℕ) (e : ℕ) → (eqb (bit_and (get_or row (e / 64) 0 / 2 ^ (e % 64)) 1) 1 ≡ true) ↔ Has row e
+unfolding Has
+has_tests row e = rw shr_and_one (eqb-true _ 1, eq-eqb _ 1)
+
+one_of : (x y m : ℕ) → x < 2 → y < 2 → m ≡ max x y → (m ≡ 1) ↔ ((x ≡ 1) ⊎ (y ≡ 1))
+one_of x y m a b e = (
+  λ h. elim (eqb_tells x 1) [ inl p ↦ inl p.1 | inr p ↦ inr (let d : x ≢ 1 = p.1 in omega (arith, e, h)) ],
+  λ h. elim h [ inl p ↦ omega (arith, e, p) | inr p ↦ omega (arith, e, p) ],
+)
+
+bit_small : (n i : ℕ) → bit_at n i < 2
+bit_small n i = omega arith
+
+pub joined : (old added new : List ℕ) (n : ℕ) → ((j : ℕ) → j < n → get_or new j 0 ≡ bit_or (get_or old j 0) (get_or added j 0)) → (e : ℕ) → e < 64 * n → HasMore old added new e
+unfolding Has
+joined old added new n each e within =
+    one_of (bit_at (get_or old (e / 64) 0) (e % 64)) (bit_at (get_or added (e / 64) 0) (e % 64)) (bit_at (get_or new (e / 64) 0) (e % 64)) (bit_small _ _) (bit_small _ _)
+    (ap (λ x. bit_at x (e % 64)) (each (e / 64) (omega arith)) ∙ bit_at_or _ _ (e % 64))
+
+-- the word with one more bit
+abbrev with_bit : ℕ → ℕ → ℕ
+with_bit n k = bit_or n (1 * 2 ^ k % 18446744073709551616)
+
+pub inserted : (row : List ℕ) (e : ℕ) → e < 64 * length row → (d : ℕ) → Has (slice_set row (e / 64) (with_bit (get_or row (e / 64) 0) (e % 64))) d ↔ (Has row d ⊎ (d ≡ e))
+unfolding Has
+inserted row e within d =
+    let small : e % 64 < 64 = omega arith in
+    let inside : e / 64 < length row = omega arith in
+    let word : ℕ = with_bit (get_or row (e / 64) 0) (e % 64) in
+    elim (eqb_tells (d / 64) (e / 64)) [
+      | inr other ↦
+          let same : get_or (slice_set row (e / 64) word) (d / 64) 0 ≡ get_or row (d / 64) 0 = (let ne : d / 64 ≢ e / 64 = other.1 in rw get_or-set_other refl) in (
+            λ h. inl (ap (λ x. bit_at x (d % 64)) (sym same) ∙ h),
+            λ h. elim h [ inl old ↦ ap (λ x. bit_at x (d % 64)) same ∙ old | inr q ↦ absurd (other.1 (ap (λ x. x / 64) q)) ],
+          )
+      | inl s ↦
+          let here : get_or (slice_set row (e / 64) word) (d / 64) 0 ≡ word = ap (λ x. get_or (slice_set row (e / 64) word) x 0) s.1 ∙ (rw get_or-set_same refl) in
+          let was : get_or row (d / 64) 0 ≡ get_or row (e / 64) 0 = ap (λ x. get_or row x 0) s.1 in
+          elim (eqb_tells (d % 64) (e % 64)) [
+            | inl t ↦ (
+              λ _. inr (omega (arith, s.1, t.1)),
+              λ _. ap (λ x. bit_at x (d % 64)) here ∙ ap (λ x. bit_at word x) t.1 ∙ bit_at_set_same w64 (get_or row (e / 64) 0) (e % 64) small,
+            )
+            | inr t ↦
+                let kept : bit_at word (d % 64) ≡ bit_at (get_or row (e / 64) 0) (d % 64) = bit_at_set_other w64 (get_or row (e / 64) 0) (e % 64) small (d % 64) t.1 in (
+                  λ h. inl (ap (λ x. bit_at x (d % 64)) was ∙ sym kept ∙ sym (ap (λ x. bit_at x (d % 64)) here) ∙ h),
+                  λ h. elim h [
+                    | inl old ↦ ap (λ x. bit_at x (d % 64)) here ∙ kept ∙ sym (ap (λ x. bit_at x (d % 64)) was) ∙ old
+                    | inr q ↦ absurd (t.1 (ap (λ x. x % 64) q))
+                  ],
+                )
+          ]
+    ]
+
+zeros : (n k : ℕ) → ◌≡◌ {A = ℕ} (get_or (replicate n 0) k 0) 0
+zeros zero k = refl
+zeros (suc n) zero = refl
+zeros (suc n) (suc k) = zeros n k
+
+-- words that are all 0 have no number
+pub none_there : (n e : ℕ) → Has (replicate n 0) e → ⊥
+unfolding Has
+none_there n e h = absurd (let z : bit_at (get_or (replicate n 0) (e / 64) 0) (e % 64) ≡ 0 = ap (λ x. bit_at x (e % 64)) (zeros n (e / 64)) ∙ bit_at-zero (e % 64) in omega (arith, z, h))

@@ -1,0 +1,12 @@
+pub mod Answered
+pub mod Bits
+pub mod Lists
+pub mod Table
+pub mod LeftCorners
+pub mod EndsOfParts
+pub mod Closed
+pub mod Updated
+pub mod Followed
+pub mod Rounds
+pub mod FirstLists
+pub mod Stored

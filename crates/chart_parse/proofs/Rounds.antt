@@ -1,0 +1,99 @@
+-- The steps of a round.
+use Rattle.std.proofs.Common.{◌≡◌, inl, inr, ℕ, zero, suc, ◌+◌, ◌<◌, ◌≤◌, List, [], ◌∷◌, length, map, get_or, drop, slice_get, Some, refl, sym, ap, subst, arith, ◌∙◌}
+use Rattle.std.specs.Prelude.{◌↔◌}
+use Rattle.std.proofs.lemmas.Bool.Decides.{eqb_tells}
+use Rattle.std.specs.Borrow.{Bor}
+use Rattle.std.specs.Option.{option_and_then}
+use Rattle.source_lex.specs.Numbered.{Alternative, Numbered, alternative_of, plain_alternatives, plain_numbered}
+use Rattle.source_lex.specs.declared.numbered.Symbol.{Symbol}
+use Rattle.source_lex.specs.declared.numbered.Symbol.TheVariants.{Word, Phrase}
+use Rattle.source_lex.specs.declared.lexeme.LexKind.{LexKind}
+use Rattle.chart_parse.specs.Rows.{Has}
+use Rattle.chart_parse.specs.Growths.{HasPieces, Grows, Steps}
+use Rattle.chart_parse.specs.Places.{Places, list_of, IsListed, IsTrueOf, RunsTo, IsPart, IsSame, IsAdded, Follows, IsMet, IsRule, IsClosedAt, BeginsOther, alternatives_in}
+use Rattle.chart_parse.proofs.LeftCorners.{leaf_there}
+use Rattle.chart_parse.proofs.EndsOfParts.{listed_kept, run_kept, run_true, run_within, closed_kept}
+
+pub same_none : (p : Places) → IsSame p p
+same_none p i c = refl
+
+pub same_more : (p q r : Places) → IsSame p q → IsSame q r → IsSame p r
+same_more p q r a b i c = b i c ∙ a i c
+
+pub added_none : (g : Numbered) (w : List LexKind) (k : ℕ) (p : Places) → IsPart g w p → IsAdded g w k p p
+added_none g w k p part = record { part = part; others = λ i c _. refl }
+
+pub added_more : (g : Numbered) (w : List LexKind) (k : ℕ) (p q r : Places) → IsAdded g w k p q → IsAdded g w k q r → IsAdded g w k p r
+added_more g w k p q r a b = record { part = b.part; others = λ i c ne. b.others i c ne ∙ a.others i c ne }
+
+-- the rule of an alternative that doesn't begin with a phrase
+pub rule_other : (g : Numbered) (w : List LexKind) (k m a : ℕ) (parts : Alternative) → alternative_of g m a ≡ Some parts → IsRule g w k m parts (length g)
+rule_other g w k m a parts e l n j ps more = record {
+  growth = λ lt. absurd (omega (arith, lt));
+  end = λ _. leaf_there g w m a k parts l n j e ps more;
+}
+
+pub rule_phrase : (g : Numbered) (w : List LexKind) (k m a c : ℕ) (parts rest : Alternative) → parts ≡ Phrase c ∷ rest → alternative_of g m a ≡ Some parts → c < length g → IsRule g w k m rest c
+rule_phrase g w k m a c parts rest f e lt l n j ps more = record {
+  growth = λ _. Steps m a rest l (e ∙ ap (λ x. Some x) f) ps more;
+  end = λ q. absurd (omega (arith, q));
+}
+
+pub met_other : (g : Numbered) (w : List LexKind) (p : Places) (k m : ℕ) (parts : Alternative) → BeginsOther parts → Follows g w p k m parts (length g) → IsMet g w p k m parts
+met_other g w p k m [] b h = h
+met_other g w p k m (Word c ∷ rest) b h = h
+met_other g w p k m (Phrase c ∷ rest) b h = absurd b
+
+pub met_phrase : (g : Numbered) (w : List LexKind) (p : Places) (k m c : ℕ) (parts rest : Alternative) → parts ≡ Phrase c ∷ rest → (c < length g → Follows g w p k m rest c) → IsMet g w p k m parts
+met_phrase g w p k m c parts rest f h = subst (λ (x : Alternative). IsMet g w p k m x) (sym f) h
+
+-- an end where nothing was more has what grows there
+pub end_step : (w : List LexKind) (p q r : Places) (l m k c : ℕ) (row : List ℕ) → IsSame p q → IsSame q r → ((n e : ℕ) → Has row l → IsListed w q l m n e → IsListed w r k c n e) → (n e : ℕ) → Has row l → IsListed w p l m n e → IsListed w p k c n e
+end_step w p q r l m k c row a b h n e has x =
+    listed_kept w r p k c n e (sym (same_more p q r a b k c)) (h n e has (listed_kept w p q l m n e (a l m) x))
+
+-- where nothing was more at any end, the rule is followed
+pub run_follows : (g : Numbered) (w : List LexKind) (p q : Places) (k m : ℕ) (parts : Alternative) (c : ℕ) (row : List ℕ) → IsPart g w q → IsSame p q → k ≤ length w
+    → ((l : ℕ) → l ≤ length w → Has row l ↔ RunsTo g w p parts k l) → ((l : ℕ) → l ≤ length w → (n e : ℕ) → Has row l → IsListed w p l m n e → IsListed w p k c n e) → Follows g w q k m parts c
+run_follows g w p q k m parts c row part same le ends each l n e run x =
+    let old : RunsTo g w p parts k l = run_kept g w 0 q p part (λ i d _. sym (same i d)) parts k l (omega arith) run in
+    let within : l ≤ length w = run_within g w p parts k l le old in
+    listed_kept w p q k c n e (same k c) (each l within n e ((ends l within).1 old) (listed_kept w q p l m n e (sym (same l m)) x))
+
+-- where the parts end is true
+pub end_right : (g : Numbered) (w : List LexKind) (p : Places) (k m : ℕ) (parts : Alternative) (c l : ℕ) (row : List ℕ) → IsPart g w p → l ≤ length w → (Has row l ↔ RunsTo g w p parts k l) → IsRule g w k m parts c → (n e : ℕ) → Has row l → Grows g w n e m l → IsTrueOf g w c k n e
+end_right g w p k m parts c l row part le ends right n e has more = right l n e (run_true g w p parts k l part (ends.0 has)) more
+
+slice_get_map : {A B : Type 0} (f : A → B) (xs : List A) (k : ℕ) (d : A) → k < length xs → slice_get (map f xs) k ≡ Some (f (get_or xs k d))
+slice_get_map f [] k d lt = absurd (omega arith)
+slice_get_map f (x ∷ xs) zero d lt = refl
+slice_get_map f (x ∷ xs) (suc k) d lt = slice_get_map f xs k d (omega arith)
+
+map_within : {A B : Type 0} (f : A → B) (xs : List A) (k : ℕ) (y : B) → slice_get (map f xs) k ≡ Some y → k < length xs
+map_within f [] k y e = absurd (cc)
+map_within f (x ∷ xs) zero y e = omega arith
+map_within f (x ∷ xs) (suc k) y e = omega (arith, map_within f xs k y e)
+
+-- an alternative in an arena
+pub alternative_there : (g : Numbered) (list : List (Bor (List Symbol))) (m a : ℕ) (d : Bor (List Symbol)) → slice_get g m ≡ Some (alternatives_in list) → a < length list → alternative_of g m a ≡ Some (get_or list a d).now
+alternative_there g list m a d there lt =
+    ap (λ o. option_and_then (λ alternatives. slice_get alternatives a) o) there ∙ slice_get_map (λ (y : Bor (List Symbol)). y.now) list a d lt
+
+pub alternative_inside : (g : Numbered) (list : List (Bor (List Symbol))) (m a : ℕ) (parts : Alternative) → slice_get g m ≡ Some (alternatives_in list) → alternative_of g m a ≡ Some parts → a < length list
+alternative_inside g list m a parts there e =
+    map_within (λ (y : Bor (List Symbol)). y.now) list a parts (sym (ap (λ o. option_and_then (λ alternatives. slice_get alternatives a) o) there) ∙ e)
+
+-- the alternatives of a nonterminal
+pub alternatives_there : (list : List (Bor (List (Bor (List Symbol))))) (m : ℕ) (d : Bor (List (Bor (List Symbol)))) → m < length list → slice_get (plain_numbered list) m ≡ Some (alternatives_in (get_or list m d).now)
+alternatives_there list m d lt = slice_get_map plain_alternatives list m d lt
+
+pub some_same : (x y : Alternative) → Some x ≡ Some y → x ≡ y
+some_same x y e = cc
+
+-- one place more is closed: the places behind it stay closed
+pub closed_next : (g : Numbered) (w : List LexKind) (k done : ℕ) (p q : Places) → IsPart g w p → k + done ≡ length w → IsAdded g w k p q → IsClosedAt g w q k → ((i : ℕ) → i ≤ length w → length w < i + done → IsClosedAt g w p i) → (i : ℕ) → i ≤ length w → length w < i + (done + 1) → IsClosedAt g w q i
+closed_next g w k done p q part total added here old i le lt = elim (eqb_tells i k) [
+  | inl s ↦ subst (λ (j : ℕ). IsClosedAt g w q j) (sym s.1) here
+  | inr d ↦
+      closed_kept g w (k + 1) p q part added.part (λ j c up. added.others j c (λ s. absurd (omega (arith, s)))) i (omega (arith, d.1)) (old i le (omega (arith, d.1)))
+]

@@ -1,0 +1,146 @@
+//! Where parts of an alternative end, by what the chart has so far.
+ghost use Rattle.std.specs.Prelude.{◌≡◌, ◌⊎◌, ℕ, ◌+◌, ◌*◌, ◌/◌, ◌≤◌, ◌<◌, ◌↔◌, false, length, slice_get, Some, IsTrue, IfOk};
+ghost use Rattle.chart_parse.specs.Rows.{Has, Lists, AreWide};
+ghost use Rattle.chart_parse.specs.Places.{grammar_of, width_of, Advances, AdvancesFrom, RunsTo, IsPart};
+
+use crate::rows::{Entry, empty, has, insert, join};
+use crate::source::Source;
+use acg_base::Memory;
+use source_lex::{LexKind, Symbol};
+use std::alloc::Global;
+
+// Whether the kinds are the same.
+fn same_kind(kind: LexKind, other: LexKind) -> bool
+    ensures { IsTrue result ↔ (kind ≡ other) }
+{
+    kind == other
+}
+
+// Whether a lexeme of the kind stands at the place.
+fn is_kind(kinds: &[LexKind], at: usize, kind: LexKind) -> bool
+    ensures { IsTrue result ↔ (slice_get kinds.now at ≡ Some kind) }
+{
+    match kinds.get(at) {
+        Some(other) => same_kind(*other, kind),
+        None => false,
+    }
+}
+
+// Adds the places of the entry, if it is of the nonterminal.
+fn join_entry(entry: Entry<'_>, nonterminal: u32, into: &mut [u64])
+    requires { length entry.row.now ≡ length into.old }
+    ensures len { length into.new ≡ length into.old }
+    ensures joined { (e : ℕ) → e < 64 * length into.old → Has into.new e
+        ↔ (Has into.old e ⊎ ((entry.entry.nonterm ≡ nonterminal) × Has entry.entry.row.now e)) }
+{
+    if entry.nonterm != nonterminal {
+        return;
+    }
+    join(into, entry.row);
+}
+
+// Adds the places at which the nonterminal ends by the list.
+fn join_ends(list: &[Entry<'_>], nonterminal: u32, into: &mut [u64])
+    requires { AreWide (length into.old) list.now }
+    ensures len { length into.new ≡ length into.old }
+    ensures joined { (e : ℕ) → e < 64 * length into.old → Has into.new e
+        ↔ (Has into.old e ⊎ Lists list.now nonterminal e) }
+{
+    for k in 0..list.len() {
+        join_entry(list[k], nonterminal, into);
+    }
+}
+
+// Adds the places to which the part leads from a place.
+fn advance(
+    source: &Source<'_>,
+    places: &[Vec<Vec<Entry<'_>>>],
+    part: Symbol,
+    at: usize,
+    into: &mut [u64],
+)
+    requires at { at ≤ length source.now.kinds.now }
+    requires wide { length into.old ≡ width_of source.now.kinds.now }
+    requires part { IsPart (grammar_of source.now) source.now.kinds.now places.now }
+    ensures len { length into.new ≡ length into.old }
+    ensures joined { (e : ℕ) → e ≤ length source.now.kinds.now → Has into.new e ↔ (Has into.old e
+        ⊎ Advances (grammar_of source.now) source.now.kinds.now places.now part at e) }
+{
+    match part {
+        Symbol::Word(kind) => {
+            if is_kind(source.kinds, at, kind) {
+                insert(into, at + 1);
+            }
+        }
+        Symbol::Phrase(nonterminal) => {
+            join_ends(&places[at][source.nonterminals.len()], nonterminal, into);
+        }
+    }
+}
+
+// Adds the places to which the part leads from a place, if the row has that place.
+fn advance_from(
+    source: &Source<'_>,
+    places: &[Vec<Vec<Entry<'_>>>],
+    part: Symbol,
+    from: &[u64],
+    at: usize,
+    into: &mut [u64],
+)
+    requires at { at ≤ length source.now.kinds.now }
+    requires wide { (length from.now ≡ width_of source.now.kinds.now)
+        × (length into.old ≡ width_of source.now.kinds.now) }
+    requires part { IsPart (grammar_of source.now) source.now.kinds.now places.now }
+    ensures len { length into.new ≡ length into.old }
+    ensures joined { (e : ℕ) → e ≤ length source.now.kinds.now → Has into.new e ↔ (Has into.old e
+        ⊎ (Has from.now at × Advances (grammar_of source.now) source.now.kinds.now places.now part
+        at e)) }
+{
+    if !has(from, at) {
+        return;
+    }
+    advance(source, places, part, at, into);
+}
+
+// The places to which the part leads from any of the places.
+fn follow(
+    alloc: Global,
+    source: &Source<'_>,
+    places: &[Vec<Vec<Entry<'_>>>],
+    part: Symbol,
+    from: &[u64],
+) -> Result<Vec<u64>, Memory>
+    requires wide { length from.now ≡ width_of source.now.kinds.now }
+    requires part { IsPart (grammar_of source.now) source.now.kinds.now places.now }
+    ensures len { IfOk result (λ r. length r.items ≡ width_of source.now.kinds.now) }
+    ensures ends { IfOk result (λ r. (e : ℕ) → e ≤ length source.now.kinds.now → Has r.items e
+        ↔ AdvancesFrom (grammar_of source.now) source.now.kinds.now places.now part from.now e) }
+{
+    let mut ends = empty(alloc, from.len())?;
+    for h in 0..source.kinds.len() + 1 {
+        advance_from(source, places, part, from, h, &mut ends);
+    }
+    Ok(ends)
+}
+
+/// The places at which the parts end that begin at the start.
+pub fn run_ends(
+    alloc: Global,
+    source: &Source<'_>,
+    places: &[Vec<Vec<Entry<'_>>>],
+    parts: &[Symbol],
+    start: usize,
+) -> Result<Vec<u64>, Memory>
+    requires start { start ≤ length source.now.kinds.now }
+    requires part { IsPart (grammar_of source.now) source.now.kinds.now places.now }
+    ensures len { IfOk result (λ r. length r.items ≡ width_of source.now.kinds.now) }
+    ensures ends { IfOk result (λ r. (e : ℕ) → e ≤ length source.now.kinds.now → Has r.items e
+        ↔ RunsTo (grammar_of source.now) source.now.kinds.now places.now parts.now start e) }
+{
+    let mut ends = empty(alloc, source.kinds.len() / 64 + 1)?;
+    insert(&mut ends, start);
+    for p in 0..parts.len() {
+        ends = follow(alloc, source, places, parts[p], &ends)?;
+    }
+    Ok(ends)
+}

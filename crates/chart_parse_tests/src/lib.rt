@@ -1,0 +1,9 @@
+//! Tests of `chart_parse`: a crate with tests is proved twice, so they stand in one of their own.
+#![tactic(auto)]
+
+#[cfg(test)]
+mod plain;
+#[cfg(test)]
+mod random;
+#[cfg(test)]
+mod spans;
