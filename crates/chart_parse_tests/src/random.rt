@@ -52,11 +52,7 @@ fn agrees(chart: &Chart<'_>, spans: &[[u32; 3]], nonterminals: u32) -> bool {
 }
 
 // Whether the chart of the source agrees with the definition.
-fn is_exact(
-    alloc: Global,
-    list: &[Production<'_>],
-    source: &[u8],
-) -> Result<bool, Fail> {
+fn is_exact(alloc: Global, list: &[Production<'_>], source: &[u8]) -> Result<bool, Fail> {
     let arena = Bump::new(alloc);
     let grammar = Grammar::build(alloc, &arena, list)?;
     if grammar.literals.len() >= 100 || grammar.productions.len() >= 100 || source.len() >= 60 {
@@ -66,7 +62,12 @@ fn is_exact(
     let numbered = NumberedGrammar::new(alloc, &arena, &grammar)?;
     let kinds = kinds_of(alloc, &lexemes)?;
     let made = chart(alloc, &arena, &grammar, &lexemes)?;
-    let spans = all_spans(alloc, numbered.nonterminals, &kinds, made.count().wrapping_add(1))?;
+    let spans = all_spans(
+        alloc,
+        numbered.nonterminals,
+        &kinds,
+        made.count().wrapping_add(1),
+    )?;
     Ok(agrees(&made, &spans, 3))
 }
 
@@ -90,17 +91,32 @@ fn is_exact_for(alloc: Global, seed: u32) -> Result<bool, Fail> {
     let with_empty = [c.as_slice(), none.as_slice()];
     let second = [d.as_slice(), c.as_slice()];
     let third = [e.as_slice(), f.as_slice()];
-    let last = if p[12] & 65536 == 0 { with_empty.as_slice() } else { second.as_slice() };
+    let last = if p[12] & 65536 == 0 {
+        with_empty.as_slice()
+    } else {
+        second.as_slice()
+    };
     let list = [
-        Production { name: b"A", alternatives: first.as_slice() },
-        Production { name: b"B", alternatives: last },
-        Production { name: b"C", alternatives: third.as_slice() },
+        Production {
+            name: b"A",
+            alternatives: first.as_slice(),
+        },
+        Production {
+            name: b"B",
+            alternatives: last,
+        },
+        Production {
+            name: b"C",
+            alternatives: third.as_slice(),
+        },
     ];
-    Ok(is_exact(alloc, &list, b"")?
-        && is_exact(alloc, &list, b"x")?
-        && is_exact(alloc, &list, b"x y")?
-        && is_exact(alloc, &list, b"y x x y")?
-        && is_exact(alloc, &list, b"x x x x x")?)
+    Ok(
+        is_exact(alloc, &list, b"")?
+            && is_exact(alloc, &list, b"x")?
+            && is_exact(alloc, &list, b"x y")?
+            && is_exact(alloc, &list, b"y x x y")?
+            && is_exact(alloc, &list, b"x x x x x")?,
+    )
 }
 
 #[test]

@@ -35,7 +35,11 @@ fn sums_have_every_span(rt: HostRuntime) -> Result<(), Fail> {
     let list = [Production {
         name: b"E",
         alternatives: &[
-            &[Part::Nonterm(b"E"), Part::Literal(b"+"), Part::Nonterm(b"E")],
+            &[
+                Part::Nonterm(b"E"),
+                Part::Literal(b"+"),
+                Part::Nonterm(b"E"),
+            ],
             &[Part::Numeral],
         ],
     }];
