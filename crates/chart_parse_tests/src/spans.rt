@@ -12,15 +12,14 @@ use std::test::Fail;
 fn charted<'a>(
     alloc: Global,
     arena: &'a Bump,
-    list: &[Production<'_>],
+    grammar: &Grammar<'_>,
     source: &[u8],
 ) -> Result<Chart<'a>, Fail> {
-    let grammar = Grammar::build(alloc, arena, list)?;
     if grammar.literals.len() >= 100 || grammar.productions.len() >= 100 || source.len() >= 10000 {
         return Err(Memory)?;
     }
-    let lexemes = scan(alloc, arena, &grammar, source)?;
-    Ok(chart(alloc, arena, &grammar, &lexemes)?)
+    let lexemes = scan(alloc, arena, grammar, source)?;
+    Ok(chart(alloc, arena, grammar, &lexemes)?)
 }
 
 // Whether the chart has the nonterminal over a span, which is to lie within its lexemes.
@@ -43,7 +42,8 @@ fn sums_have_every_span(rt: HostRuntime) -> Result<(), Fail> {
             &[Part::Numeral],
         ],
     }];
-    let sum = charted(alloc, &arena, &list, b"1+2+3")?;
+    let grammar = Grammar::build(alloc, &arena, &list)?;
+    let sum = charted(alloc, &arena, &grammar, b"1+2+3")?;
     assert_eq!(rt; sum.count(), 5);
     assert!(rt; spans(&sum, 0, 0, 1));
     assert!(rt; spans(&sum, 0, 0, 3));
@@ -52,7 +52,7 @@ fn sums_have_every_span(rt: HostRuntime) -> Result<(), Fail> {
     assert!(rt; !spans(&sum, 0, 0, 2));
     assert!(rt; !spans(&sum, 0, 1, 3));
     assert!(rt; !spans(&sum, 0, 0, 0));
-    let nothing = charted(alloc, &arena, &list, b"")?;
+    let nothing = charted(alloc, &arena, &grammar, b"")?;
     assert!(rt; !spans(&nothing, 0, 0, 0));
     Ok(())
 }
@@ -65,9 +65,10 @@ fn lists_may_be_empty(rt: HostRuntime) -> Result<(), Fail> {
         name: b"L",
         alternatives: &[&[], &[Part::Nonterm(b"L"), Part::Literal(b"x")]],
     }];
-    let none = charted(alloc, &arena, &list, b"")?;
+    let grammar = Grammar::build(alloc, &arena, &list)?;
+    let none = charted(alloc, &arena, &grammar, b"")?;
     assert!(rt; spans(&none, 0, 0, 0));
-    let two = charted(alloc, &arena, &list, b"x x")?;
+    let two = charted(alloc, &arena, &grammar, b"x x")?;
     assert!(rt; spans(&two, 0, 0, 2));
     assert!(rt; spans(&two, 0, 1, 2));
     assert!(rt; spans(&two, 0, 1, 1));
@@ -87,7 +88,8 @@ fn an_empty_phrase_may_stand_in_its_own_span(rt: HostRuntime) -> Result<(), Fail
             &[],
         ],
     }];
-    let three = charted(alloc, &arena, &list, b"x x x")?;
+    let grammar = Grammar::build(alloc, &arena, &list)?;
+    let three = charted(alloc, &arena, &grammar, b"x x x")?;
     assert!(rt; spans(&three, 0, 0, 0));
     assert!(rt; spans(&three, 0, 0, 3));
     assert!(rt; spans(&three, 0, 1, 3));
@@ -111,9 +113,10 @@ fn grows_where_a_phrase_can_begin_another(rt: HostRuntime) -> Result<(), Fail> {
             ],
         },
     ];
-    let sum = charted(alloc, &arena, &list, b"1+2;")?;
+    let grammar = Grammar::build(alloc, &arena, &list)?;
+    let sum = charted(alloc, &arena, &grammar, b"1+2;")?;
     if sum.count() != 4 || sum.nonterminals() != 2 {
-        return Ok(());
+        return Err("other counts than 4 lexemes and 2 nonterminals")?;
     }
     assert!(rt; sum.grows(1, 1, 1, 3));
     assert!(rt; sum.grows(1, 1, 0, 4));
