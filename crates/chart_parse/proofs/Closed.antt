@@ -1,8 +1,8 @@
 -- Lists in which all rules are met have exactly what is true.
-use Rattle.std.proofs.Common.{◌≡◌, ℕ, ◌+◌, ◌<◌, ◌≤◌, List, [], ◌∷◌, length, slice_get, Some, refl, sym, arith}
+use Rattle.std.proofs.Common.{◌≡◌, ℕ, ◌+◌, ◌<◌, ◌≤◌, List, [], ◌∷◌, length, slice_get, Some, refl, arith}
 use Rattle.std.specs.Prelude.{◌↔◌}
 use Rattle.std.proofs.lemmas.Option.{slice_get_within}
-use Rattle.source_lex.specs.Numbered.{Alternative, Numbered, alternative_of}
+use Rattle.source_lex.specs.Numbered.{Alternative, Numbered}
 use Rattle.source_lex.specs.Trees.{Has}
 use Rattle.source_lex.specs.declared.numbered.Symbol.TheVariants.{Word, Phrase}
 use Rattle.source_lex.specs.declared.lexeme.LexKind.{LexKind}

@@ -1,5 +1,5 @@
 -- Where parts lead by the ends that a chart has.
-use Rattle.std.proofs.Common.{◌≡◌, ℕ, ◌+◌, ◌<◌, ◌≤◌, List, [], ◌∷◌, length, slice_get, Some, None, Option, refl, sym, subst, arith, ◌∙◌}
+use Rattle.std.proofs.Common.{◌≡◌, ℕ, ◌<◌, ◌≤◌, List, [], ◌∷◌, length, slice_get, Some, None, Option, refl, sym, subst, arith}
 use Rattle.std.specs.Option.{option_and_then}
 use Rattle.std.proofs.lemmas.Option.{slice_get_within}
 use Rattle.source_lex.specs.Numbered.{Alternative, Numbered, alternative_of}
@@ -9,7 +9,7 @@ use Rattle.source_lex.specs.declared.lexeme.LexKind.{LexKind}
 use Rattle.chart_parse.specs.declared.rows.Entry.{Entry}
 use Rattle.chart_parse.specs.Rows.{Lists}
 use Rattle.chart_parse.specs.Growths.{HasPieces}
-use Rattle.chart_parse.specs.Places.{Places, list_of, IsListed, Advances, RunsTo, IsPart, IsSame, Follows, IsMet, AreMet, IsClosedAt}
+use Rattle.chart_parse.specs.Places.{Places, list_of, IsListed, RunsTo, IsPart, IsSame, Follows, IsMet, AreMet, IsClosedAt}
 use Rattle.chart_parse.proofs.LeftCorners.{word_pieces, phrase_pieces, pieces_order, tree_order}
 
 -- parts end within the lexemes

@@ -1,5 +1,5 @@
 -- The lists before any rule.
-use Rattle.std.proofs.Common.{◌≡◌, ◌≢◌, ◌⊎◌, inl, inr, ℕ, zero, suc, ◌+◌, ◌*◌, ◌<◌, ◌≤◌, List, [], ◌∷◌, ◌++◌, length, length-append, refl, sym, ap, subst, arith, ◌∙◌, Vec, Global}
+use Rattle.std.proofs.Common.{◌≡◌, ◌≢◌, inl, inr, ℕ, zero, suc, ◌+◌, ◌*◌, ◌<◌, ◌≤◌, List, [], ◌∷◌, ◌++◌, length, length-append, refl, sym, ap, subst, arith, ◌∙◌, Vec, Global}
 use Rattle.std.specs.Prelude.{◌↔◌}
 use Rattle.std.proofs.lemmas.Bool.Decides.{eqb_tells}
 use Rattle.source_lex.specs.Numbered.{Numbered}
@@ -8,7 +8,7 @@ use Rattle.chart_parse.specs.declared.rows.Entry.{Entry}
 use Rattle.chart_parse.specs.Rows.{Has, Lists, AreWide}
 use Rattle.chart_parse.specs.Table.{list_at, AllWide}
 use Rattle.chart_parse.specs.Growths.{Grows, Stays}
-use Rattle.chart_parse.specs.Places.{Places, lists_of, list_of, width_of, IsListed, IsTrueOf, IsPart}
+use Rattle.chart_parse.specs.Places.{Places, lists_of, list_of, width_of, IsPart}
 use Rattle.chart_parse.proofs.Updated.{has_bit}
 
 pub list_push_here : (table : List (Vec Entry Global)) (v : Vec Entry Global) (d : ℕ) → d ≡ length table → list_at (table ++ v ∷ []) d ≡ v.items

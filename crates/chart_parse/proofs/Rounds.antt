@@ -1,5 +1,5 @@
 -- The steps of a round.
-use Rattle.std.proofs.Common.{◌≡◌, inl, inr, ℕ, zero, suc, ◌+◌, ◌<◌, ◌≤◌, List, [], ◌∷◌, length, map, get_or, drop, slice_get, Some, refl, sym, ap, subst, arith, ◌∙◌}
+use Rattle.std.proofs.Common.{◌≡◌, inl, inr, ℕ, zero, suc, ◌+◌, ◌<◌, ◌≤◌, List, [], ◌∷◌, length, map, get_or, slice_get, Some, refl, sym, ap, subst, arith, ◌∙◌}
 use Rattle.std.specs.Prelude.{◌↔◌}
 use Rattle.std.proofs.lemmas.Bool.Decides.{eqb_tells}
 use Rattle.std.specs.Borrow.{Bor}
@@ -9,8 +9,8 @@ use Rattle.source_lex.specs.declared.numbered.Symbol.{Symbol}
 use Rattle.source_lex.specs.declared.numbered.Symbol.TheVariants.{Word, Phrase}
 use Rattle.source_lex.specs.declared.lexeme.LexKind.{LexKind}
 use Rattle.chart_parse.specs.Rows.{Has}
-use Rattle.chart_parse.specs.Growths.{HasPieces, Grows, Steps}
-use Rattle.chart_parse.specs.Places.{Places, list_of, IsListed, IsTrueOf, RunsTo, IsPart, IsSame, IsAdded, Follows, IsMet, IsRule, IsClosedAt, BeginsOther, alternatives_in}
+use Rattle.chart_parse.specs.Growths.{Grows, Steps}
+use Rattle.chart_parse.specs.Places.{Places, IsListed, IsTrueOf, RunsTo, IsPart, IsSame, IsAdded, Follows, IsMet, IsRule, IsClosedAt, BeginsOther, alternatives_in}
 use Rattle.chart_parse.proofs.LeftCorners.{leaf_there}
 use Rattle.chart_parse.proofs.EndsOfParts.{listed_kept, run_kept, run_true, run_within, closed_kept}
 

@@ -1,5 +1,5 @@
 -- What is stored in a list of a place, and what a slice of a row has written back.
-use Rattle.std.proofs.Common.{◌≡◌, ◌∙◌, ℕ, ◌+◌, ◌<◌, ◌≤◌, List, [], ◌++◌, length, take, take_all, drop, get_or, append-nil, sym, ap, arith, Vec, Global}
+use Rattle.std.proofs.Common.{◌≡◌, ◌∙◌, ℕ, ◌<◌, List, ◌++◌, length, take, take_all, drop, get_or, append-nil, sym, ap, arith, Vec, Global}
 use Rattle.std.proofs.lemmas.List.{drop_all}
 use Rattle.chart_parse.specs.declared.rows.Entry.{Entry}
 use Rattle.chart_parse.specs.Table.{list_at}

@@ -1,8 +1,8 @@
 -- Lists of rows in a table.
-use Rattle.std.specs.Prelude.{ℕ, ◌*◌, ◌<◌, List, [], ◌∷◌, zero, suc, Vec}
+use Rattle.std.specs.Prelude.{ℕ, List, [], ◌∷◌, zero, suc, Vec}
 use Rattle.std.specs.Global.{Global}
 use Rattle.chart_parse.specs.declared.rows.Entry.{Entry}
-use Rattle.chart_parse.specs.Rows.{Lists, AreWide}
+use Rattle.chart_parse.specs.Rows.{AreWide}
 
 -- the list of the number
 abbrev pub list_at : List (Vec Entry Global) → ℕ → List Entry

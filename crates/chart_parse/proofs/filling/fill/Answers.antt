@@ -1,4 +1,4 @@
-use Rattle.std.proofs.Common.{◌≡◌, ◌∙◌, ℕ, ◌-◌, length, sym, arith}
+use Rattle.std.proofs.Common.{◌-◌, length, arith}
 use Rattle.chart_parse.specs.Places.{grammar_of}
 use Rattle.chart_parse.proofs.Rounds.{closed_next}
 use Rattle.chart_parse.proofs.filling.fill.Goals as goal

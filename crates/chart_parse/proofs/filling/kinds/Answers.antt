@@ -1,4 +1,4 @@
-use Rattle.std.proofs.Common.{◌≡◌, ◌∙◌, map, take_all, sym, ap}
+use Rattle.std.proofs.Common.{◌∙◌, map, take_all, ap}
 use Rattle.source_lex.specs.declared.lexeme.Lexeme.{Lexeme}
 use Rattle.chart_parse.proofs.filling.kinds.Goals as goal
 

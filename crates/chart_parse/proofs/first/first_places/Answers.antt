@@ -2,7 +2,7 @@ use Rattle.std.proofs.Common.{◌≡◌, ◌∙◌, ℕ, ◌+◌, length, sym, s
 use Rattle.std.proofs.lemmas.List.{length-map}
 use Rattle.source_lex.specs.Numbered.{plain_alternatives}
 use Rattle.chart_parse.specs.Table.{AllWide}
-use Rattle.chart_parse.specs.Places.{Places, grammar_of}
+use Rattle.chart_parse.specs.Places.{grammar_of}
 use Rattle.chart_parse.proofs.FirstLists.{HasFirst, AreFirst, no_places, one_place, first_part}
 use Rattle.chart_parse.proofs.first.first_places.Goals as goal
 

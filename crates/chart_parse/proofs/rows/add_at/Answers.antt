@@ -1,8 +1,6 @@
-use Rattle.std.proofs.Common.{◌≡◌, ◌≢◌, inl, inr, ◌∙◌, ◌<◌, ℕ, Bool, false, sym, ap, subst, length, List, Vec, Global, slice_set, get_or}
-use Rattle.std.specs.Prelude.{Result, Ok, Err, OnOk, IfOk}
+use Rattle.std.proofs.Common.{◌≡◌, ◌≢◌, inl, inr, ◌∙◌, ◌<◌, ℕ, false, sym, ap, subst, length, List, Vec, Global, slice_set, get_or}
 use Rattle.std.proofs.lemmas.Bool.Decides.{eqb_tells}
 use Rattle.chart_parse.specs.declared.rows.Entry.{Entry}
-use Rattle.acg_base.specs.declared.memory.Memory.{Memory}
 use Rattle.chart_parse.specs.Rows.{AreWide, ListsBoth}
 use Rattle.chart_parse.specs.Table.{list_at, AllWide}
 use Rattle.chart_parse.proofs.Answered.{on_any, on_then, if_then}

@@ -1,11 +1,10 @@
-use Rattle.std.proofs.Common.{◌≡◌, ◌∷◌, drop, length, sym, subst, ◌∙◌, refl, arith, ap, Bool, false, ℕ, ◌<◌}
+use Rattle.std.proofs.Common.{◌≡◌, drop, length, sym, subst, refl, arith, ap, false, ℕ, ◌<◌}
 use Rattle.std.proofs.lemmas.List.{length-map}
 use Rattle.source_lex.specs.Numbered.{Alternative, plain_alternatives}
-use Rattle.source_lex.specs.declared.numbered.Symbol.TheVariants.{Phrase}
 use Rattle.chart_parse.specs.Places.{Places, grammar_of, IsRule, IsMet, Follows}
 use Rattle.chart_parse.proofs.Answered.{if_then}
 use Rattle.chart_parse.proofs.EndsOfParts.{alternative_within}
-use Rattle.chart_parse.proofs.Rounds.{added_none, same_none, rule_other, rule_phrase, met_other, met_phrase}
+use Rattle.chart_parse.proofs.Rounds.{added_none, rule_other, rule_phrase, met_other, met_phrase}
 use Rattle.chart_parse.proofs.rules.add_alternative.Goals as goal
 
 pub add_run-requires-clause-nonterminal : goal.add_run-requires-clause-nonterminal

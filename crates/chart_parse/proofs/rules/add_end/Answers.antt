@@ -1,4 +1,4 @@
-use Rattle.std.proofs.Common.{inl, inr, true, false, ◌≡◌, ℕ, sym, ◌∙◌, refl}
+use Rattle.std.proofs.Common.{true, false, ◌≡◌, ℕ, sym, ◌∙◌, refl}
 use Rattle.chart_parse.specs.Rows.{Has}
 use Rattle.chart_parse.specs.Places.{grammar_of, IsListed}
 use Rattle.chart_parse.proofs.Answered.{on_then}

@@ -1,9 +1,8 @@
-use Rattle.std.proofs.Common.{◌≡◌, ◌≢◌, ◌∙◌, ◌+◌, ◌<◌, ◌≤◌, inl, inr, ℕ, Bool, true, false, List, length, slice_set, sym, ap, subst, arith, Vec, Global}
-use Rattle.std.proofs.lemmas.Bool.Decides.{eqb_tells}
+use Rattle.std.proofs.Common.{◌≡◌, ◌≢◌, ◌∙◌, ◌<◌, ℕ, false, length, slice_set, sym, ap, subst, arith, Vec, Global}
 use Rattle.chart_parse.specs.declared.rows.Entry.{Entry}
 use Rattle.chart_parse.specs.Rows.{AreWide, ListsBoth}
 use Rattle.chart_parse.specs.Table.{list_at, AllWide}
-use Rattle.chart_parse.specs.Places.{Places, grammar_of, width_of, lists_of, list_of, IsListed, IsSame, IsAdded}
+use Rattle.chart_parse.specs.Places.{Places, grammar_of, width_of, list_of, IsListed, IsSame, IsAdded}
 use Rattle.chart_parse.proofs.Answered.{on_four, if_on}
 use Rattle.chart_parse.proofs.Stored.{lists_there, list_there}
 use Rattle.chart_parse.proofs.Updated.{list_taken, then_listed, same_set}

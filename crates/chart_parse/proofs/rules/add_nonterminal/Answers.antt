@@ -1,4 +1,4 @@
-use Rattle.std.proofs.Common.{inl, inr, ◌≡◌, ◌<◌, ◌≤◌, ◌+◌, ℕ, List, [], Some, get_or, Bool, true, false, length, sym, subst, ◌∙◌, refl, arith, ap}
+use Rattle.std.proofs.Common.{inl, inr, ◌≡◌, ℕ, List, [], Some, get_or, true, false, sym, subst, ◌∙◌, arith}
 use Rattle.std.proofs.lemmas.Bool.Decides.{eqb_tells}
 use Rattle.source_lex.specs.Numbered.{Alternative, alternative_of}
 use Rattle.std.specs.Borrow.{Bor}

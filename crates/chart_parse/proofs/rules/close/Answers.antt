@@ -1,4 +1,4 @@
-use Rattle.chart_parse.specs.Places.{Places, grammar_of}
+use Rattle.chart_parse.specs.Places.{grammar_of}
 use Rattle.chart_parse.proofs.Rounds.{added_none, added_more}
 use Rattle.chart_parse.proofs.rules.close.Goals as goal
 

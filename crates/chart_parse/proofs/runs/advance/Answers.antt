@@ -1,4 +1,4 @@
-use Rattle.std.proofs.Common.{◌≡◌, ◌⊎◌, inl, inr, ◌∙◌, true, false, ◌+◌, ◌*◌, ◌<◌, ℕ, List, length, slice_get, Some, get_or, sym, ap, subst, arith, refl}
+use Rattle.std.proofs.Common.{◌≡◌, ◌⊎◌, inl, inr, ◌∙◌, true, false, ◌+◌, ◌*◌, ◌<◌, ℕ, List, length, sym, ap, subst, arith}
 use Rattle.std.specs.Prelude.{◌↔◌}
 use Rattle.std.proofs.lemmas.List.{length-map}
 use Rattle.std.proofs.lemmas.Option.{slice_get_within}
@@ -6,7 +6,7 @@ use Rattle.source_lex.specs.Numbered.{plain_alternatives}
 use Rattle.source_lex.specs.declared.numbered.Symbol.{Symbol}
 use Rattle.chart_parse.specs.declared.rows.Entry.{Entry}
 use Rattle.chart_parse.specs.Rows.{Has, Lists, AreWide}
-use Rattle.chart_parse.specs.Places.{grammar_of, width_of, list_of, lists_of, Advances}
+use Rattle.chart_parse.specs.Places.{grammar_of, width_of, list_of, Advances}
 use Rattle.chart_parse.proofs.Stored.{lists_there, list_there}
 use Rattle.chart_parse.proofs.Updated.{has_bit}
 use Rattle.chart_parse.proofs.runs.advance.Goals as goal

@@ -1,4 +1,4 @@
-use Rattle.std.proofs.Common.{◌≡◌, ◌⊎◌, inl, inr, true, false, refl, sym, ◌∙◌}
+use Rattle.std.proofs.Common.{◌≡◌, inl, inr, true, false, sym, ◌∙◌}
 use Rattle.chart_parse.proofs.runs.advance_from.Goals as goal
 
 pub returns-then-not-has-clause-joined : goal.returns-then-not-has-clause-joined

@@ -1,4 +1,4 @@
-use Rattle.std.proofs.Common.{◌≡◌, ◌∙◌, ◌+◌, ◌++◌, inl, inr, true, false, ℕ, List, [], ◌∷◌, take, take_all, get_or, add-one, sym, subst, refl, arith}
+use Rattle.std.proofs.Common.{◌≡◌, ◌∙◌, ◌+◌, ◌++◌, inl, inr, true, false, ℕ, List, [], ◌∷◌, take, take_all, get_or, add-one, sym, subst, refl}
 use Rattle.std.proofs.Math.Seq.{take-suc}
 use Rattle.chart_parse.specs.declared.rows.Entry.{Entry}
 use Rattle.chart_parse.specs.Rows.{Lists}

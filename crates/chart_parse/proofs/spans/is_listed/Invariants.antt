@@ -1,4 +1,4 @@
-use Rattle.std.proofs.Common.{ℕ, take}
+use Rattle.std.proofs.Common.{take}
 use Rattle.chart_parse.specs.Rows.{Lists}
 use Rattle.chart_parse.proofs.spans.is_listed.Given as goal
 

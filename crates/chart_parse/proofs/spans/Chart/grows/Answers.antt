@@ -1,13 +1,12 @@
-use Rattle.std.proofs.Common.{◌≡◌, ◌∙◌, ◌<◌, ◌≤◌, ℕ, List, length, sym, ap, subst, arith}
+use Rattle.std.proofs.Common.{◌≡◌, ◌∙◌, ◌<◌, ◌≤◌, List, length, sym, ap, subst, arith}
 use Rattle.std.specs.Prelude.{◌↔◌, IsTrue}
 use Rattle.std.proofs.lemmas.List.{length-map}
 use Rattle.source_lex.specs.Numbered.{plain_alternatives}
-use Rattle.source_lex.specs.Trees.{Has}
 use Rattle.chart_parse.specs.Charts.{PlainChart}
 use Rattle.chart_parse.specs.Growths.{Grows}
 use Rattle.chart_parse.specs.declared.rows.Entry.{Entry}
 use Rattle.chart_parse.specs.Rows.{Lists, AreWide}
-use Rattle.chart_parse.specs.Places.{Places, grammar_of, width_of, lists_of, list_of}
+use Rattle.chart_parse.specs.Places.{Places, grammar_of, width_of, list_of}
 use Rattle.chart_parse.proofs.Lists.{wide_room}
 use Rattle.chart_parse.proofs.Stored.{lists_there, list_there}
 use Rattle.chart_parse.proofs.Updated.{has_bit}
