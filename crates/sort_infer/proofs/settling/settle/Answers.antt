@@ -1,4 +1,5 @@
 use Rattle.std.proofs.Common.{All, List, length, subst, sym, ℕ, ◌<◌}
+use Rattle.std.proofs.lemmas.Bool.{false≢true}
 use Rattle.action_terms.specs.Meaning.{action_of}
 use Rattle.action_terms.specs.Performances.{OneOf}
 use Rattle.action_terms.proofs.AllLaws.{All-member}
@@ -11,7 +12,7 @@ use Rattle.sort_infer.proofs.Tours.{nodes-count}
 use Rattle.sort_infer.proofs.settling.settle.Goals as goal
 
 pub loop-grew-init : goal.loop-grew-init
-loop-grew-init c = record { raised = raised_refl; proper = c.requires.table; hold = λ e. absurd {0} (cc) }
+loop-grew-init c = record { raised = raised_refl; proper = c.requires.table; hold = λ e. absurd (false≢true (sym e)) }
 
 pub round-requires-clause-order : goal.round-requires-clause-order
 round-requires-clause-order c = subst (λ (zs : List ℕ). All (λ k. k < length c.args.graph.now.nodes) zs) (sym c.as_slice.ensures.value) c.in_ok-order.ensures.within
