@@ -1,5 +1,5 @@
 -- The command `act`: what it says, from what its file gave.
-use Rattle.std.proofs.Common.{◌≡◌, ◌≢◌, ◌⊎◌, inl, inr, ℕ, List, [], ◌∷◌, None, Result, Ok, Err, slice_get, refl, sym}
+use Rattle.std.proofs.Common.{◌≡◌, ◌≢◌, ◌⊎◌, inl, inr, ℕ, List, [], ◌∷◌, None, Result, Ok, Err, slice_get, refl}
 use Rattle.std.specs.Prelude.{IfErr}
 use Rattle.acg_base.specs.declared.capacity.TheConstants.{DEFAULT_BUDGET}
 use Rattle.acg_base.specs.declared.sink.Sink.{Ghosts}

@@ -1,5 +1,5 @@
 -- What a request asks a store for.
-use Rattle.std.proofs.Common.{◌≡◌, ◌≢◌, ◌⊎◌, inl, inr, ℕ, zero, suc, ◌+◌, List, [], ◌∷◌, ◌++◌, length, Option, Some, None, Result, Ok, Err, IsTrue, refl, sym, ap, ◌∙◌, subst, arith, append_assoc, append-nil, length-append}
+use Rattle.std.proofs.Common.{◌≡◌, ◌≢◌, ◌⊎◌, inl, inr, ℕ, zero, suc, ◌+◌, List, [], ◌∷◌, ◌++◌, length, Some, None, Result, Ok, Err, IsTrue, refl, sym, ap, ◌∙◌, subst, arith, append_assoc, append-nil, length-append}
 use Rattle.std.specs.Prelude.{IfErr}
 use Rattle.acg_base.specs.Outside.{Contents, SameContents, Reading, counted, front}
 use Rattle.acg_base.specs.declared.limits.TheConstants.{LIMIT_ACTION}
@@ -11,7 +11,7 @@ use Rattle.acg_words.specs.Lines.{status_of}
 use Rattle.acg_words.specs.declared.line.Line.{Line}
 use Rattle.acg_words.specs.declared.line.Line.TheVariants.{Memory, ReadFault}
 use Rattle.acg_driver.specs.Texts.{Reads, RefusesText, IsUnread}
-use Rattle.acg_driver.specs.Files.{File, file, Action, GoesOn, faults_with, counted_by, ReadsWith, AreGiven, IsGiven, ReadOnly, Lacks, first_missing, missing_file, FaultsWhere, read_status, NamesFault, AsksSurely}
+use Rattle.acg_driver.specs.Files.{File, file, Action, faults_with, counted_by, ReadsWith, AreGiven, ReadOnly, Lacks, first_missing, missing_file, FaultsWhere, read_status, NamesFault, AsksSurely}
 use Rattle.acg_driver.proofs.TextErrors.{content-refused}
 
 -- a status that isn't that of a read fault counts none

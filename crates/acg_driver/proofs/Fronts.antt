@@ -1,5 +1,5 @@
 -- What was read of the bytes of a file.
-use Rattle.std.proofs.Common.{◌≡◌, ℕ, ◌+◌, ◌<◌, ◌≤◌, List, length, arith}
+use Rattle.std.proofs.Common.{◌≡◌, ℕ, ◌+◌, ◌≤◌, List, length, arith}
 use Rattle.std.proofs.lemmas.List.{take_all, length-take}
 use Rattle.acg_base.specs.Outside.{front}
 

@@ -1,18 +1,17 @@
 -- What a command does, from what it asked the store for and what it said to the sink.
 use Rattle.std.proofs.Common.{◌≡◌, ◌≢◌, ◌⊎◌, inl, inr, ℕ, List, [], ◌++◌, Some, None, Ok, Err, IsTrue, refl, sym, ap, ◌∙◌, subst}
-use Rattle.acg_base.specs.Outside.{Contents}
 use Rattle.acg_base.specs.declared.sink.Sink.{Ghosts as Sink}
 use Rattle.acg_base.specs.declared.status.Status.{Status}
 use Rattle.acg_base.specs.declared.status.Status.TheVariants as status
 use Rattle.acg_base.specs.declared.store.Store.{Ghosts as Store}
 use Rattle.acg_words.specs.Commands.{Command}
 use Rattle.acg_words.specs.Lines.{bytes_of, status_of, read_fault_line}
-use Rattle.acg_words.specs.Prints.{Took, Answered}
+use Rattle.acg_words.specs.Prints.{Answered}
 use Rattle.acg_words.specs.declared.line.Line.{Line}
 use Rattle.acg_words.specs.declared.line.Line.TheVariants.{ReadFault, Words}
 use Rattle.acg_driver.specs.Says.{Said}
-use Rattle.acg_driver.specs.Files.{File, files_of, readings_of, ReadOnly, Lacks, missing_file, FaultsWhere, NamesFault, AsksSurely}
-use Rattle.acg_driver.specs.Serving.{Refuses, Carries, Served, ServedSurely, Handled}
+use Rattle.acg_driver.specs.Files.{files_of, readings_of, ReadOnly, missing_file, FaultsWhere, NamesFault, AsksSurely}
+use Rattle.acg_driver.specs.Serving.{Refuses, Carries, ServedSurely, Handled}
 use Rattle.acg_driver.proofs.Asking.{reads-as, reads-none}
 
 -- a status is that of a failed write, or another one

@@ -18,7 +18,7 @@ use Rattle.action_sos.specs.declared.answers.Outcome.{Outcome}
 use Rattle.action_sos.specs.declared.answers.Outcome.TheVariants as outcome
 use Rattle.acg_words.specs.Lines.{message_lines, bytes_of, status_of}
 use Rattle.acg_words.specs.declared.line.Line.{Line}
-use Rattle.acg_words.specs.declared.line.Line.TheVariants.{ReadFault, Memory, Completed, Failed, Escaped, Running}
+use Rattle.acg_words.specs.declared.line.Line.TheVariants.{Memory, Completed, Failed, Escaped, Running}
 use Rattle.acg_driver.specs.Commands.Perform.{end_line, IsGoing, IsOutcome, IsPerformed}
 use Rattle.acg_driver.specs.declared.performance.TheConstants.{STEP_LIMIT}
 use Rattle.acg_driver.proofs.MessageLemmas.{message_lines-append}

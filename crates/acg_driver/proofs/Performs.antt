@@ -10,9 +10,9 @@ use Rattle.acg_words.specs.Commands.{Command, Act, Perform, Help, Version}
 use Rattle.acg_words.specs.Lines.{status_of}
 use Rattle.acg_words.specs.declared.line.Line.{Line}
 use Rattle.acg_words.specs.declared.line.Line.TheVariants.{LimitInput, Memory, ReadFault, Running}
-use Rattle.acg_driver.specs.Texts.{Reads, IsUnread}
-use Rattle.acg_driver.specs.Files.{file, Action, Input, files_if, input_files, readings_of, reading, IsGiven, AreGiven}
-use Rattle.acg_driver.specs.Commands.Perform.{end_line, IsOutcome, IsPerformed, RefusesBytes, RefusesInput, RefusesPerform}
+use Rattle.acg_driver.specs.Texts.{IsUnread}
+use Rattle.acg_driver.specs.Files.{files_if, input_files, readings_of, IsGiven, AreGiven}
+use Rattle.acg_driver.specs.Commands.Perform.{end_line, IsOutcome, IsPerformed, RefusesBytes, RefusesInput}
 use Rattle.acg_driver.specs.Serving.{Replies, RepliesIf, IsOfPerformance, IsInput, PerformsAsked}
 use Rattle.acg_driver.proofs.Fronts.{whole-front}
 use Rattle.acg_driver.proofs.TextErrors.{content-refused}

@@ -1,5 +1,5 @@
 -- Runs of a right image can be printed as they go.
-use Rattle.std.proofs.Common.{◌≡◌, ℕ, zero, suc, ◌+◌, ◌≤◌, ℤ, List, [], ◌∷◌, length, refl, ap, ◌∙◌, subst, sym, arith}
+use Rattle.std.proofs.Common.{◌≡◌, ℕ, zero, suc, ◌+◌, ℤ, List, [], ◌∷◌, length, refl, ap, ◌∙◌, arith}
 use Rattle.std.proofs.lemmas.List.{length-append}
 use Rattle.action_terms.specs.Performances.{message_bytes, messages_bytes}
 use Rattle.rv_code.specs.Machine.{Outcome, Ran, Exited, Trapped, run}

@@ -1,12 +1,12 @@
 -- Runs whose messages are printed one by one.
-use Rattle.std.proofs.Common.{◌≡◌, ◌≢◌, ℕ, zero, suc, ◌+◌, ◌<◌, ◌≤◌, List, [], ◌∷◌, ◌++◌, refl, sym, ap, ◌∙◌, subst, arith, append_assoc, append-nil, add-one}
+use Rattle.std.proofs.Common.{◌≡◌, ◌≢◌, ℕ, zero, suc, ◌+◌, ◌<◌, ◌≤◌, List, [], ◌∷◌, ◌++◌, refl, sym, ap, ◌∙◌, subst, arith, append_assoc, append-nil}
 use Rattle.acg_base.specs.declared.status.Status.{Status}
 use Rattle.acg_base.specs.declared.status.Status.TheVariants as status
 use Rattle.rv_code.specs.Machine.{State, Outcome, Ran, Exited, Trapped, after, step, run}
 use Rattle.rv_code.specs.declared.cause.Cause.{Cause}
 use Rattle.rv_machine.specs.Machines.{MachineValue, state_of, state_behind, output_behind, last, sent, sent_in, Steps, StepExits, StepTraps, StepSends, Runs}
 use Rattle.rv_machine.proofs.GrowsLemmas.{Grows, step-grows, sent_in-passes}
-use Rattle.rv_machine.proofs.RunsLemmas.{run-suc, runs-then, sent_in-then, sent_in-more, sent_in-exit, run-exits, run-traps}
+use Rattle.rv_machine.proofs.RunsLemmas.{run-suc, sent_in-then, sent_in-more, sent_in-exit, run-exits, run-traps}
 use Rattle.acg_words.specs.Lines.{bytes_of, status_of}
 use Rattle.acg_words.specs.declared.line.Line.{Line}
 use Rattle.acg_words.specs.declared.line.Line.TheVariants.{Completed, Failed, Escaped, Full, Running}

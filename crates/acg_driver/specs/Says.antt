@@ -1,5 +1,5 @@
 -- What is said: a text, and the status that is answered with it.
-use Rattle.std.specs.Prelude.{◌≡◌, List, [], ◌++◌, ℕ}
+use Rattle.std.specs.Prelude.{◌≡◌, List, ◌++◌, ℕ}
 use Rattle.acg_base.specs.declared.status.Status.{Status}
 use Rattle.acg_base.specs.declared.sink.Sink.{Ghosts}
 use Rattle.acg_words.specs.Lines.{bytes_of, status_of}

@@ -1,5 +1,5 @@
 -- What serving a command line says, and what it does to the store and the sink.
-use Rattle.std.specs.Prelude.{◌≡◌, ◌≢◌, ◌⊎◌, ℕ, ◌≤◌, IsTrue, List, [], ◌∷◌, ◌++◌, length, Option, Some, None}
+use Rattle.std.specs.Prelude.{◌≡◌, ◌⊎◌, ℕ, ◌≤◌, IsTrue, List, [], ◌++◌, length, Option, Some, None}
 use Rattle.acg_base.specs.Outside.{Contents}
 use Rattle.acg_base.specs.declared.limits.TheConstants.{LIMIT_INPUT}
 use Rattle.acg_base.specs.declared.sink.Sink.{Ghosts as Sink}

@@ -1,8 +1,7 @@
 -- What the bytes of a file are: an action's text, or no such text.
-use Rattle.std.specs.Prelude.{◌≡◌, ◌<◌, ◌≤◌, ℕ, List, length, slice_get, Some}
+use Rattle.std.specs.Prelude.{◌≡◌, ◌<◌, ◌≤◌, ℕ, List, length}
 use Rattle.acg_base.specs.declared.limits.TheConstants.{LIMIT_ACTION}
 use Rattle.action_terms.specs.Numbering.{Listed}
-use Rattle.action_terms.specs.Meaning.{action_of}
 use Rattle.action_text.specs.Answers.{IsTextError, IsReadAs}
 use Rattle.action_text.specs.declared.errors.TextError.{TextError}
 use Rattle.action_text.specs.declared.errors.TextError.TheVariants as error

@@ -1,5 +1,5 @@
 -- The first command with a name, by the place of a loop.
-use Rattle.std.proofs.Common.{◌≡◌, ℕ, zero, suc, ◌+◌, ◌<◌, true, false, List, [], ◌∷◌, length, get_or, drop, Option, Some, None, refl, arith}
+use Rattle.std.proofs.Common.{◌≡◌, ℕ, zero, suc, ◌<◌, true, false, List, [], ◌∷◌, length, get_or, drop, Some, refl, arith}
 use Rattle.std.specs.Str.{bytes_eq}
 use Rattle.acg_words.specs.declared.table.Kind.{Kind}
 use Rattle.acg_words.specs.Commands.{name_of, first_named}

@@ -1,10 +1,10 @@
 -- Command lines: their first word, and the words behind it.
-use Rattle.std.proofs.Common.{◌≡◌, ℕ, ◌-◌, ◌<◌, ◌≤◌, List, [], ◌∷◌, length, get_or, map, take, drop, arith, refl, sym, ap, ◌∙◌, String, string_bytes, Option, Some, None}
+use Rattle.std.proofs.Common.{◌≡◌, ℕ, ◌-◌, ◌<◌, ◌≤◌, List, [], ◌∷◌, length, get_or, map, take, drop, arith, refl, sym, ap, ◌∙◌, String, string_bytes, Some, None}
 use Rattle.std.specs.declared.alloc.Global.{Global}
 use Rattle.std.proofs.lemmas.List.{take_all}
 use Rattle.std.proofs.lemmas.Slice.Eq.{bytes_eq-Decides}
 use Rattle.acg_words.specs.declared.table.Kind.{Kind}
-use Rattle.acg_words.specs.Commands.{Command, kind_of, words_of, command_of}
+use Rattle.acg_words.specs.Commands.{kind_of, words_of, command_of}
 
 -- words are the first one and the others
 pub head-words : (list : List (String Global)) (name : String Global) → 1 ≤ length list → name ≡ get_or list 0 name → map string_bytes list ≡ string_bytes name ∷ map string_bytes (take (length list - 1) (drop 1 list))

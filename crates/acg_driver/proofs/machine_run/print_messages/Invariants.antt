@@ -1,5 +1,4 @@
-use Rattle.std.proofs.Common.{◌≡◌, List, ℕ, ◌++◌, length}
-use Rattle.acg_words.specs.Prints.{Took}
+use Rattle.std.proofs.Common.{length}
 use Rattle.acg_driver.specs.Runs.{output_lines}
 use Rattle.acg_driver.proofs.Saying.{TookFront}
 use Rattle.acg_driver.proofs.machine_run.print_messages.Given as goal

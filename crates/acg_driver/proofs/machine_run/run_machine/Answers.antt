@@ -1,9 +1,8 @@
-use Rattle.std.proofs.Common.{◌≡◌, ◌≢◌, ℕ, ◌+◌, ◌<◌, ◌≤◌, List, [], ◌++◌, refl, sym, ap, ◌∙◌, subst, arith}
+use Rattle.std.proofs.Common.{◌≡◌, ◌≢◌, ℕ, ◌+◌, [], sym, ap, ◌∙◌, subst, arith}
 use Rattle.rv_code.specs.Machine.{run}
-use Rattle.rv_machine.specs.Machines.{MachineValue, left, state_of, sent, sent_in, Runs}
+use Rattle.rv_machine.specs.Machines.{left, state_of, sent, sent_in, Runs}
 use Rattle.rv_machine.proofs.RunsLemmas.{runs-none, runs-then, runs-more, sent_in-none}
 use Rattle.rv_machine.specs.declared.answers.QuietEnd.TheVariants as quiet_end
-use Rattle.acg_words.specs.Lines.{bytes_of, status_of}
 use Rattle.acg_words.specs.Prints.{Took, Broke}
 use Rattle.acg_words.specs.declared.line.Line.TheVariants.{Running}
 use Rattle.acg_words.proofs.PrintsLemmas.{took-none, took-then, broke-then}

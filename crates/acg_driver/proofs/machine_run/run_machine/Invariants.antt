@@ -1,4 +1,4 @@
-use Rattle.std.proofs.Common.{ℕ, ◌-◌, ◌≤◌, []}
+use Rattle.std.proofs.Common.{◌-◌, ◌≤◌, []}
 use Rattle.rv_machine.specs.Machines.{left, sent_in, Runs}
 use Rattle.acg_words.specs.Prints.{Took}
 use Rattle.acg_driver.specs.Runs.{output_lines}

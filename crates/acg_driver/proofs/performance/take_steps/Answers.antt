@@ -1,4 +1,4 @@
-use Rattle.std.proofs.Common.{◌≡◌, suc, ◌+◌, ℤ, List, [], ◌++◌, length, drop, refl, sym, ap, subst, ◌∙◌, arith}
+use Rattle.std.proofs.Common.{◌≡◌, suc, ◌+◌, ℤ, List, ◌++◌, length, drop, refl, sym, ap, subst, ◌∙◌, arith}
 use Rattle.action_sos.specs.Schedules.{number_at, next_number}
 use Rattle.acg_words.specs.Lines.{message_lines, bytes_of, status_of}
 use Rattle.acg_words.specs.Prints.{Took, Printed, Answered}

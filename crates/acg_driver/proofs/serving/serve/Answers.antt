@@ -1,7 +1,6 @@
-use Rattle.std.proofs.Common.{◌≡◌, sym, ◌∙◌, ap, subst, Option, List, ℕ, option_map}
-use Rattle.acg_words.specs.Commands.{Command, asked, command_of}
-use Rattle.acg_driver.specs.Files.{files_if, readings_of, FaultsWhere, Lacks, missing_file, AreGiven}
-use Rattle.acg_driver.specs.Serving.{Served, RepliesIf, ServedSurely, Names, PerformsAsked, Handled}
+use Rattle.std.proofs.Common.{sym, ◌∙◌, subst, Option}
+use Rattle.acg_words.specs.Commands.{Command, command_of}
+use Rattle.acg_driver.specs.Serving.{PerformsAsked, Handled}
 use Rattle.acg_driver.proofs.Performs.{reply-performs}
 use Rattle.acg_driver.proofs.serving.serve.Goals as goal
 

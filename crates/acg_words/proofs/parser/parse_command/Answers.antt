@@ -1,4 +1,4 @@
-use Rattle.std.proofs.Common.{◌≡◌, ◌∷◌, ◌-◌, length, map, take, drop, string_bytes, Some, rules, sym, ap, ◌∙◌, arith}
+use Rattle.std.proofs.Common.{◌≡◌, ◌∷◌, ◌-◌, length, map, take, drop, string_bytes, Some, rules, sym, ap, ◌∙◌}
 use Rattle.acg_words.specs.declared.table.Kind.TheVariants as kind
 use Rattle.acg_words.proofs.WordsLemmas.{head-words, no-words, command-none, command-unnamed, command-named}
 use Rattle.acg_words.proofs.parser.parse_command.Goals as goal

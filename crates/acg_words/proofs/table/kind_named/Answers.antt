@@ -1,4 +1,4 @@
-use Rattle.std.proofs.Common.{◌≡◌, sym, ◌∙◌, arith, add-one}
+use Rattle.std.proofs.Common.{sym, ◌∙◌, arith, add-one}
 use Rattle.acg_words.specs.declared.table.TheConstants.{KINDS}
 use Rattle.acg_words.proofs.Tables.{first_named-other}
 use Rattle.acg_words.proofs.table.kind_named.Goals as goal

@@ -1,6 +1,6 @@
-use Rattle.std.proofs.Common.{take, ℕ, List, Bor}
+use Rattle.std.proofs.Common.{take}
 use Rattle.std.specs.List.{flat_map}
-use Rattle.acg_words.specs.Usage.{command_lines, status_line}
+use Rattle.acg_words.specs.Usage.{status_line}
 use Rattle.acg_words.specs.Prints.{Took}
 use Rattle.acg_words.proofs.usage.print_statuses.Given as goal
 

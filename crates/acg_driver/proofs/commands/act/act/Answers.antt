@@ -1,4 +1,3 @@
-use Rattle.std.proofs.Common.{◌≡◌, [], Some, Ok}
 use Rattle.acg_words.specs.Commands.{act_asked}
 use Rattle.acg_driver.proofs.ActLemmas.{act-loaded, act-said}
 use Rattle.acg_driver.proofs.Handling.{handled-refused, handled-said}

@@ -1,4 +1,4 @@
-use Rattle.std.proofs.Common.{◌≡◌, ◌⊎◌, ℕ, List, [], ◌∷◌, subst}
+use Rattle.std.proofs.Common.{◌⊎◌, ℕ, List, [], ◌∷◌, subst}
 use Rattle.std.proofs.lemmas.Result.{IfOk-weaker, IfErr-weaker}
 use Rattle.acg_base.specs.declared.status.Status.TheVariants as status
 use Rattle.acg_words.specs.Lines.{status_of}

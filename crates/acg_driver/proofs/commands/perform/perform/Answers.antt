@@ -1,7 +1,7 @@
-use Rattle.std.proofs.Common.{◌≡◌, [], Some, Ok, ℕ, List, Bor, option_map}
+use Rattle.std.proofs.Common.{ℕ, List, Bor, option_map}
 use Rattle.acg_words.specs.Commands.{perform_asked}
 use Rattle.acg_driver.proofs.PerformLemmas.{starts-at, perform-said}
-use Rattle.acg_driver.proofs.Handling.{handled-refused, handled-said}
+use Rattle.acg_driver.proofs.Handling.{handled-said}
 use Rattle.acg_driver.proofs.commands.perform.perform.Goals as goal
 
 pub take_steps-requires : goal.take_steps-requires

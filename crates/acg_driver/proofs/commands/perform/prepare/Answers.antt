@@ -1,4 +1,4 @@
-use Rattle.std.proofs.Common.{◌≡◌, ℕ, List, [], ◌∷◌, Option, option_map, Bor, inl, inr, IsTrue, refl, sym, ap, subst, Ok, Err}
+use Rattle.std.proofs.Common.{ℕ, List, [], ◌∷◌, option_map, Bor, inl, inr, IsTrue, refl, sym, ap, subst, Ok, Err}
 use Rattle.std.proofs.lemmas.Result.{err_from_is_err_and}
 use Rattle.acg_base.specs.declared.status.Status.TheVariants as status
 use Rattle.action_terms.specs.Performances.{start}
