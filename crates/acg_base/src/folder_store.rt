@@ -3,7 +3,7 @@
 ghost use Rattle.std.specs.Prelude.{◌≡◌, ℕ, ◌+◌, ◌++◌, ◌⊎◌, List, [], Bool, false, Some, IsTrue, IsNone, IsErrOf, IfOk, IfSome, OnOk, OnErr};
 ghost use Rattle.std.specs.Option.{is_none};
 ghost use Rattle.std.specs.Result.{is_err, is_ok};
-ghost use Rattle.acg_base.specs.Outside.{Contents, GainsAtMost, front};
+ghost use Rattle.acg_base.specs.Outside.{Contents, SameContents, SameElsewhere, GainsAtMost, counted, front};
 
 use crate::counting::{CountingRead, CountingReader, CountingWrite, CountingWriter};
 use crate::name::Name;
@@ -13,6 +13,10 @@ use std::rt::Files;
 use std::{fs, io};
 
 /// Files that are opened by name.
+///
+/// A folder counts how often a file was to be opened, and how often one was to be made. Opening changes no
+/// content, and making a file that of its name alone; neither changes what the folder tells, or which files
+/// can be made.
 pub trait Folder {
     /// Reads an opened file.
     type Reader: CountingRead + Drop;
@@ -29,34 +33,58 @@ pub trait Folder {
     // Whether the folder tells what it has and what it can make.
     ghost tells: { Self → Bool };
 
+    // How many times a file was to be opened.
+    ghost opens: { Self → ℕ };
+
+    // How many times a file was to be made.
+    ghost creates: { Self → ℕ };
+
     /// Opens the file of that name. Answers an error where it isn't there or can't be opened.
-    fn open(&self, name: &str) -> io::Result<Self::Reader>
-        ensures gives { IfOk result (λ reader. IsTrue (tells self.now) →
-            Self.Reader.remaining reader ≡ contents self.now name.now) }
-        ensures source { IfOk result (λ reader. IsTrue (tells self.now) →
+    fn open(&mut self, name: &str) -> io::Result<Self::Reader>
+        ensures gives { IfOk result (λ reader. IsTrue (tells self.old) →
+            Self.Reader.remaining reader ≡ contents self.old name.now) }
+        ensures source { IfOk result (λ reader. IsTrue (tells self.old) →
             Self.Reader.source reader ≡ Some name.now) }
-        ensures absent { IsTrue (tells self.now) → is_err result ≡ is_none (contents self.now name.now) };
+        ensures absent { IsTrue (tells self.old) → is_err result ≡ is_none (contents self.old name.now) }
+        ensures once { opens self.new ≡ counted (opens self.old) }
+        ensures makes_none { creates self.new ≡ creates self.old }
+        ensures same { IsTrue (tells self.old) →
+            SameContents (contents self.old) (contents self.new) }
+        ensures makes_still { makes self.new ≡ makes self.old }
+        ensures tells_still { tells self.new ≡ tells self.old };
 
     /// Makes an empty file of that name, in the place of one that is there. Answers an error where it
     /// can't be made.
-    fn create(&self, name: &str) -> io::Result<Self::Writer>
-        ensures empty { IfOk result (λ writer. IsTrue (tells self.now) →
+    fn create(&mut self, name: &str) -> io::Result<Self::Writer>
+        ensures empty { IfOk result (λ writer. IsTrue (tells self.old) →
             Self.Writer.contents writer ≡ Some []) }
-        ensures target { IfOk result (λ writer. IsTrue (tells self.now) →
+        ensures target { IfOk result (λ writer. IsTrue (tells self.old) →
             Self.Writer.target writer ≡ Some name.now) }
-        ensures makes { IsTrue (tells self.now) → is_ok result ≡ makes self.now name.now };
+        ensures makes { IsTrue (tells self.old) → is_ok result ≡ makes self.old name.now }
+        ensures once { creates self.new ≡ counted (creates self.old) }
+        ensures opens_none { opens self.new ≡ opens self.old }
+        ensures others { IsTrue (tells self.old) →
+            SameElsewhere (contents self.old) (contents self.new) name.now }
+        ensures makes_still { makes self.new ≡ makes self.old }
+        ensures tells_still { tells self.new ≡ tells self.old };
 }
 
 /// The files that a runtime reaches, by paths from the working folder. It doesn't tell their bytes.
 #[derive(Drop)]
 pub struct WorkingFolder<R: Files + Drop> {
     rt: R,
+    opens: u64,
+    creates: u64,
 }
 
 impl<R: Files + Drop> WorkingFolder<R> {
     /// The working folder of the runtime.
     pub fn new(rt: R) -> WorkingFolder<R> {
-        WorkingFolder { rt }
+        WorkingFolder {
+            rt,
+            opens: 0,
+            creates: 0,
+        }
     }
 }
 
@@ -73,11 +101,17 @@ impl<R: Files + Drop> Folder for WorkingFolder<R> {
 
     ghost tells = { λ _. false };
 
-    fn open(&self, name: &str) -> io::Result<CountingReader<R::File>> {
+    ghost opens = { λ folder. folder.opens };
+
+    ghost creates = { λ folder. folder.creates };
+
+    fn open(&mut self, name: &str) -> io::Result<CountingReader<R::File>> {
+        self.opens = self.opens.saturating_add(1);
         Ok(CountingReader::new(fs::open(&self.rt, name)?))
     }
 
-    fn create(&self, name: &str) -> io::Result<CountingWriter<R::File>> {
+    fn create(&mut self, name: &str) -> io::Result<CountingWriter<R::File>> {
+        self.creates = self.creates.saturating_add(1);
         Ok(CountingWriter::new(fs::create(&self.rt, name)?))
     }
 }
@@ -96,6 +130,7 @@ impl<F: Folder + Drop> FolderStore<F> {
     /// The files of the folder, with no fault so far.
     pub fn new(folder: F) -> FolderStore<F>
         ensures folder { result.folder ≡ folder }
+        ensures none_read { ⟦<FolderStore<F> as Store>⟧.reads result ≡ 0 }
         ensures reads { ⟦<FolderStore<F> as Store>⟧.failed_reads result ≡ 0 }
         ensures writes { ⟦<FolderStore<F> as Store>⟧.failed_writes result ≡ 0 }
     {
@@ -110,19 +145,25 @@ impl<F: Folder + Drop> FolderStore<F> {
 
 // Appends at most `limit + 1` bytes of the file, or leaves `into` as it was.
 fn append_file<F: Folder>(
-    folder: &F,
+    folder: &mut F,
     name: &str,
     limit: u32,
     into: &mut Vec<u8>,
 ) -> Result<(), StoreError>
-    ensures given { OnOk result (IsTrue (F.tells folder.now) → IfSome (F.contents folder.now name.now)
+    ensures given { OnOk result (IsTrue (F.tells folder.old) → IfSome (F.contents folder.old name.now)
         (λ bytes. into.new.items ≡ into.old.items ++ front limit bytes)) }
+    ensures once { F.opens folder.new ≡ counted (F.opens folder.old) }
+    ensures makes_none { F.creates folder.new ≡ F.creates folder.old }
+    ensures same { IsTrue (F.tells folder.old) →
+        SameContents (F.contents folder.old) (F.contents folder.new) }
+    ensures makes_still { F.makes folder.new ≡ F.makes folder.old }
+    ensures tells_still { F.tells folder.new ≡ F.tells folder.old }
     ensures bound { OnOk result (GainsAtMost (limit + 1) into.old.items into.new.items) }
     ensures err { OnErr result (into.new.items ≡ into.old.items) }
-    ensures absent { IsTrue (F.tells folder.now) → IsNone (F.contents folder.now name.now) →
+    ensures absent { IsTrue (F.tells folder.old) → IsNone (F.contents folder.old name.now) →
         IsErrOf result StoreError.Failed }
-    ensures fault { IsErrOf result StoreError.Failed → IsTrue (F.tells folder.now) →
-        IsNone (F.contents folder.now name.now)
+    ensures fault { IsErrOf result StoreError.Failed → IsTrue (F.tells folder.old) →
+        IsNone (F.contents folder.old name.now)
         ⊎ ((reader : F.Reader) × (F.Reader.source reader ≡ Some name.now)
         × IsTrue (F.Reader.last_failed reader)) }
 {
@@ -134,13 +175,19 @@ fn append_file<F: Folder>(
 
 // Hands the bytes to a writer of a new file of that name.
 #[tactic(auto, using(crate::proofs::TransferLemmas::held))]
-fn write_file<F: Folder>(folder: &F, name: &str, bytes: &[u8]) -> Result<(), StoreError>
-    ensures handed { OnOk result (IsTrue (F.tells folder.now) → (writer : F.Writer) ×
+fn write_file<F: Folder>(folder: &mut F, name: &str, bytes: &[u8]) -> Result<(), StoreError>
+    ensures handed { OnOk result (IsTrue (F.tells folder.old) → (writer : F.Writer) ×
         (F.Writer.target writer ≡ Some name.now) × (F.Writer.contents writer ≡ Some bytes.now)) }
-    ensures fault { OnErr result (IsTrue (F.tells folder.now) → (F.makes folder.now name.now ≡ false)
+    ensures fault { OnErr result (IsTrue (F.tells folder.old) → (F.makes folder.old name.now ≡ false)
         ⊎ ((writer : F.Writer) × (F.Writer.target writer ≡ Some name.now)
         × IsTrue (F.Writer.last_failed writer))) }
     ensures failed { OnErr result (IsErrOf result StoreError.Failed) }
+    ensures once { F.creates folder.new ≡ counted (F.creates folder.old) }
+    ensures opens_none { F.opens folder.new ≡ F.opens folder.old }
+    ensures others { IsTrue (F.tells folder.old) →
+        SameElsewhere (F.contents folder.old) (F.contents folder.new) name.now }
+    ensures makes_still { F.makes folder.new ≡ F.makes folder.old }
+    ensures tells_still { F.tells folder.new ≡ F.tells folder.old }
 {
     let Ok(mut writer) = folder.create(name) else {
         return Err(StoreError::Failed);
@@ -153,7 +200,7 @@ fn write_file<F: Folder>(folder: &F, name: &str, bytes: &[u8]) -> Result<(), Sto
 
 impl<F: Folder + Drop> Store for FolderStore<F> {
     ghost use Rattle.std.specs.Prelude.{◌≡◌, ◌+◌, ◌≤◌, ◌⊎◌, ◌++◌, [], Some, None, false, IsTrue, IsNone, IsErrOf, IfSome, OnOk, OnErr};
-    ghost use Rattle.acg_base.specs.Outside.{GainsAtMost, counted, front};
+    ghost use Rattle.acg_base.specs.Outside.{SameContents, SameElsewhere, GainsAtMost, counted, front};
 
     ghost contents = { λ _ _. None };
 
@@ -191,9 +238,14 @@ impl<F: Folder + Drop> Store for FolderStore<F> {
             self.new.failed_reads ≡ self.old.failed_reads }
         ensures counts { self.old.failed_reads ≤ self.new.failed_reads }
         ensures writes { self.new.failed_writes ≡ self.old.failed_writes }
-        ensures folder { self.new.folder ≡ self.old.folder }
+        ensures opens { F.opens self.new.folder ≡ counted (F.opens self.old.folder) }
+        ensures makes_none { F.creates self.new.folder ≡ F.creates self.old.folder }
+        ensures folder_same { IsTrue (F.tells self.old.folder) →
+            SameContents (F.contents self.old.folder) (F.contents self.new.folder) }
+        ensures folder_makes { F.makes self.new.folder ≡ F.makes self.old.folder }
+        ensures folder_tells { F.tells self.new.folder ≡ F.tells self.old.folder }
     {
-        let outcome = append_file(&self.folder, name.text(), limit, into);
+        let outcome = append_file(&mut self.folder, name.text(), limit, into);
         self.reads = self.reads.saturating_add(1);
         if outcome == Err(StoreError::Failed) {
             self.failed_reads = self.failed_reads.saturating_add(1);
@@ -215,9 +267,14 @@ impl<F: Folder + Drop> Store for FolderStore<F> {
         ensures counts { self.old.failed_writes ≤ self.new.failed_writes }
         ensures reads { self.new.failed_reads ≡ self.old.failed_reads }
         ensures unread { self.new.reads ≡ self.old.reads }
-        ensures folder { self.new.folder ≡ self.old.folder }
+        ensures makes_one { F.creates self.new.folder ≡ counted (F.creates self.old.folder) }
+        ensures opens_none { F.opens self.new.folder ≡ F.opens self.old.folder }
+        ensures folder_others { IsTrue (F.tells self.old.folder) →
+            SameElsewhere (F.contents self.old.folder) (F.contents self.new.folder) name.now }
+        ensures folder_makes { F.makes self.new.folder ≡ F.makes self.old.folder }
+        ensures folder_tells { F.tells self.new.folder ≡ F.tells self.old.folder }
     {
-        let outcome = write_file(&self.folder, name.text(), bytes);
+        let outcome = write_file(&mut self.folder, name.text(), bytes);
         if outcome.is_err() {
             self.failed_writes = self.failed_writes.saturating_add(1);
         }

@@ -44,6 +44,7 @@ pub struct OutSink<W: Telling + Drop> {
 impl<W: Telling + Drop> OutSink<W> {
     /// A sink over the writer, with no write so far.
     pub fn new(writer: W) -> OutSink<W>
+        ensures writer { result.writer ≡ writer }
         ensures faults { ⟦<OutSink<W> as Sink>⟧.faults result ≡ 0 }
         ensures writes { ⟦<OutSink<W> as Sink>⟧.writes result ≡ 0 }
     {

@@ -7,6 +7,8 @@ use crate::{
     OutSink, Sink, SinkError, Store, StoreError, append_front, hand_on,
 };
 use std::alloc::Global;
+use std::cell::RefCell;
+use std::fmt::Display;
 use std::io;
 use std::io::{ErrorKind, Read, Write};
 use std::test::Fail;
@@ -37,10 +39,60 @@ impl CountingRead for Leaf<'_> {
     }
 }
 
-// A writer in memory of a file of this name, that takes two bytes at a time.
+// A place in memory that is still there when what writes to it is dropped.
+#[derive(Drop)]
+struct Tape {
+    bytes: RefCell<Vec<u8>>,
+}
+
+impl Tape {
+    fn new(alloc: Global) -> Tape {
+        Tape {
+            bytes: RefCell::new(Vec::new(alloc)),
+        }
+    }
+
+    fn append(&self, bytes: &[u8]) -> io::Result<()> {
+        match self.bytes.try_borrow_mut() {
+            Ok(mut kept) => Ok(kept.extend_from_slice(bytes)?),
+            Err(_) => Err(io::Error::from(ErrorKind::Other)),
+        }
+    }
+
+    fn holds(&self, bytes: &[u8]) -> bool {
+        match self.bytes.try_borrow() {
+            Ok(kept) => kept.as_slice() == bytes,
+            Err(_) => false,
+        }
+    }
+}
+
+// Takes two bytes at a time.
+impl Print for Tape {
+    fn print<D: Display + Drop>(&self, _value: D) -> io::Result<()> {
+        Err(io::Error::from(ErrorKind::Unsupported))
+    }
+
+    fn println<D: Display + Drop>(&self, _value: D) -> io::Result<()> {
+        Err(io::Error::from(ErrorKind::Unsupported))
+    }
+
+    fn write_all(&self, bytes: &[u8]) -> io::Result<()> {
+        self.append(bytes)
+    }
+
+    fn write_some(&self, bytes: &[u8]) -> io::Result<usize> {
+        let count = bytes.len().min(2);
+        self.append(&bytes[..count])?;
+        Ok(count)
+    }
+}
+
+// A writer in memory of a file of this name, that takes two bytes at a time, and puts them on a tape too.
 #[derive(Drop)]
 struct Sheet<'a> {
     name: &'a [u8],
+    tape: &'a Tape,
     bytes: Vec<u8>,
     faults: u64,
     last_failed: bool,
@@ -59,7 +111,8 @@ impl CountingWrite for Sheet<'_> {
 
     fn take(&mut self, bytes: &[u8]) -> Result<usize, SinkError> {
         let count = bytes.len().min(2);
-        self.last_failed = self.bytes.extend_from_slice(&bytes[..count]).is_err();
+        self.last_failed = self.tape.append(&bytes[..count]).is_err()
+            || self.bytes.extend_from_slice(&bytes[..count]).is_err();
         if self.last_failed {
             self.faults = self.faults.saturating_add(1);
             return Err(SinkError::Failed);
@@ -74,6 +127,9 @@ struct Page<'a> {
     alloc: Global,
     name: &'a [u8],
     bytes: &'a [u8],
+    tape: &'a Tape,
+    opens: u64,
+    creates: u64,
 }
 
 impl<'a> Folder for Page<'a> {
@@ -90,7 +146,12 @@ impl<'a> Folder for Page<'a> {
 
     ghost tells = { λ _. true };
 
-    fn open(&self, name: &str) -> io::Result<Leaf<'a>> {
+    ghost opens = { λ page. page.opens };
+
+    ghost creates = { λ page. page.creates };
+
+    fn open(&mut self, name: &str) -> io::Result<Leaf<'a>> {
+        self.opens = self.opens.saturating_add(1);
         if name.as_bytes() != self.name {
             return Err(io::Error::from(ErrorKind::NotFound));
         }
@@ -100,12 +161,14 @@ impl<'a> Folder for Page<'a> {
         })
     }
 
-    fn create(&self, name: &str) -> io::Result<Sheet<'a>> {
+    fn create(&mut self, name: &str) -> io::Result<Sheet<'a>> {
+        self.creates = self.creates.saturating_add(1);
         if name.as_bytes() != self.name {
             return Err(io::Error::from(ErrorKind::PermissionDenied));
         }
         Ok(Sheet {
             name: self.name,
+            tape: self.tape,
             bytes: Vec::new(self.alloc),
             faults: 0,
             last_failed: false,
@@ -203,10 +266,14 @@ fn writes_in_pieces_take_a_front_before_a_fault(rt: HostRuntime) -> Result<(), F
 
 #[test]
 fn a_folder_that_tells_is_read_and_written(rt: HostRuntime) -> Result<(), Fail> {
+    let tape = Tape::new(rt.alloc());
     let mut store = FolderStore::new(Page {
         alloc: rt.alloc(),
         name: b"any",
         bytes: b"page",
+        tape: &tape,
+        opens: 0,
+        creates: 0,
     });
     let name = Name::new(rt.alloc(), "any").ok().ok_or("memory")?;
     let other = Name::new(rt.alloc(), "other").ok().ok_or("memory")?;
@@ -214,8 +281,12 @@ fn a_folder_that_tells_is_read_and_written(rt: HostRuntime) -> Result<(), Fail> 
     store.read(&name, 2, &mut into)?;
     assert_eq!(rt; into.as_slice(), b"to pag".as_slice());
     store.write(&name, b"bytes")?;
+    assert!(rt; tape.holds(b"bytes"));
     assert_eq!(rt; store.read(&other, 2, &mut into), Err(StoreError::Failed));
     assert_eq!(rt; store.write(&other, b"bytes"), Err(StoreError::Failed));
+    assert!(rt; tape.holds(b"bytes"));
+    assert_eq!(rt; store.folder.opens, 2);
+    assert_eq!(rt; store.folder.creates, 2);
     Ok(())
 }
 
@@ -224,5 +295,16 @@ fn a_vector_takes_each_piece(rt: HostRuntime) -> Result<(), Fail> {
     let mut out = OutSink::new(CountingWriter::new(Vec::new(rt.alloc())));
     assert_eq!(rt; out.write(b"one "), Ok(()));
     assert_eq!(rt; out.write(b"two"), Ok(()));
+    assert_eq!(rt; out.writer.writer.as_slice(), b"one two".as_slice());
     Ok(())
+}
+
+#[test]
+fn a_printer_takes_each_piece(rt: HostRuntime) {
+    let tape = Tape::new(rt.alloc());
+    let mut out = OutSink::new(CountingWriter::new(io::writer(&tape)));
+    assert_eq!(rt; out.write(b"a line\n"), Ok(()));
+    assert_eq!(rt; out.write(b""), Ok(()));
+    assert_eq!(rt; out.write(b"more"), Ok(()));
+    assert!(rt; tape.holds(b"a line\nmore"));
 }

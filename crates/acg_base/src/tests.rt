@@ -2,12 +2,12 @@
 
 use crate::callers::{CopyError, copy};
 use crate::{
-    CountingWriter, FolderStore, ListSink, MapStore, Name, OutSink, Sink, SinkError, Status, Store,
-    StoreError, Words, WorkingFolder, decimal_into, read_decimal, unsigned_into,
+    FolderStore, ListSink, MapStore, Name, Sink, SinkError, Status, Store, StoreError, Words,
+    WorkingFolder, decimal_into, read_decimal, unsigned_into,
 };
 use std::alloc::Global;
+use std::fs;
 use std::test::Fail;
-use std::{fs, io};
 
 #[test]
 fn decimals_are_read_and_written(rt: HostRuntime) {
@@ -224,13 +224,5 @@ fn a_folder_keeps_what_is_written(rt: HostRuntime) -> Result<(), Fail> {
     fs::remove_file(&rt, "folder_store.test")?;
     assert_eq!(rt; store.read(&name, 9, &mut into), Err(StoreError::Failed));
     assert_eq!(rt; into.as_slice(), b"to threethr".as_slice());
-    Ok(())
-}
-
-#[test]
-fn standard_output_takes_a_piece(rt: HostRuntime) -> Result<(), Fail> {
-    let mut out = OutSink::new(CountingWriter::new(io::writer(&rt)));
-    assert_eq!(rt; out.write(b"a line\n"), Ok(()));
-    assert_eq!(rt; out.write(b""), Ok(()));
     Ok(())
 }

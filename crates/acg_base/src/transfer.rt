@@ -47,6 +47,8 @@ pub fn append_front<R: CountingRead>(
     ensures done { OnOk result (IfSome (R.remaining reader.old)
         (λ bytes. into.new.items ≡ into.old.items ++ front limit bytes)) }
     ensures bound { OnOk result (GainsAtMost (limit + 1) into.old.items into.new.items) }
+    ensures taken { OnOk result (Consumes (R.remaining reader.old) (R.remaining reader.new)
+        (drop (length into.old.items) into.new.items)) }
     ensures err { OnErr result (into.new.items ≡ into.old.items) }
 
     // It fails where one read failed, which is the last.

@@ -1,7 +1,6 @@
 -- The command `act`: what it says, from what its file gave.
 use Rattle.std.proofs.Common.{◌≡◌, ◌≢◌, ◌⊎◌, inl, inr, ℕ, List, [], ◌∷◌, None, Result, Ok, Err, slice_get, refl}
 use Rattle.std.specs.Prelude.{IfErr}
-use Rattle.acg_base.specs.declared.capacity.TheConstants.{DEFAULT_BUDGET}
 use Rattle.acg_base.specs.declared.sink.Sink.{Ghosts}
 use Rattle.acg_base.specs.declared.status.Status.{Status}
 use Rattle.acg_base.specs.declared.status.Status.TheVariants as status
@@ -14,7 +13,7 @@ use Rattle.acg_words.specs.declared.line.Line.TheVariants.{ReadFault}
 use Rattle.acg_driver.specs.declared.running.Loaded.{Loaded}
 use Rattle.acg_driver.specs.Texts.{RefusesText}
 use Rattle.acg_driver.specs.Says.{Said}
-use Rattle.acg_driver.specs.Runs.{IsRun, IsLoaded}
+use Rattle.acg_driver.specs.Runs.{instruction_limit, IsRun, IsLoaded}
 use Rattle.acg_driver.specs.Files.{read_status}
 use Rattle.acg_driver.specs.Commands.Act.{IsUnbuilt, LoadsAct, RunsAct}
 use Rattle.acg_driver.proofs.Asking.{text-other}
@@ -44,7 +43,7 @@ act-loaded [] loaded loads = absurd loads
 act-loaded (bytes ∷ more ∷ others) loaded loads = absurd loads
 
 is_run-other : (g : Listed) (text : List ℕ) (s : Status) → IsRun g text s → s ≢ status.ReadFault
-is_run-other g text s (image, right, (rest, is, runs)) = run-other (run DEFAULT_BUDGET (started image [])) rest s runs
+is_run-other g text s (image, right, (rest, is, runs)) = run-other (run instruction_limit (started image [])) rest s runs
 
 module _ {K : Type 0} {sink : Ghosts K} where
   -- the run of what was loaded is what the command says

@@ -19,8 +19,7 @@ use Rattle.action_sos.specs.declared.answers.Outcome.TheVariants as outcome
 use Rattle.acg_words.specs.Lines.{message_lines, bytes_of, status_of}
 use Rattle.acg_words.specs.declared.line.Line.{Line}
 use Rattle.acg_words.specs.declared.line.Line.TheVariants.{Memory, Completed, Failed, Escaped, Running}
-use Rattle.acg_driver.specs.Commands.Perform.{end_line, IsGoing, IsOutcome, IsPerformed}
-use Rattle.acg_driver.specs.declared.performance.TheConstants.{STEP_LIMIT}
+use Rattle.acg_driver.specs.Commands.Perform.{step_limit, end_line, IsGoing, IsOutcome, IsPerformed}
 use Rattle.acg_driver.proofs.MessageLemmas.{message_lines-append}
 
 -- ---- ends
@@ -58,7 +57,7 @@ failed-end (Done d b) e = absurd (cc)
 failed-end (Esc d) e = absurd (cc)
 failed-end Fail e = refl
 
-end-outcome : (count : ℕ) (tree : Tree) (z : End) → count ≤ STEP_LIMIT → tree ≡ Ended z → IsOutcome count tree (end_line z)
+end-outcome : (count : ℕ) (tree : Tree) (z : End) → count ≤ step_limit → tree ≡ Ended z → IsOutcome count tree (end_line z)
 end-outcome count tree (Done d b) within ended = (Done d b, within, ended, refl)
 end-outcome count tree (Esc d) within ended = (Esc d, within, ended, refl)
 end-outcome count tree Fail within ended = (Fail, within, ended, refl)
@@ -170,18 +169,18 @@ pub reached-performed : (n : ℕ) (g : Listed) (input : List ℤ) (count : ℕ) 
 reached-performed n g input count s line reached outcome =
     (reached.steps, s, line, reached.scheduled, subst (λ c. IsOutcome c s.tree line) (sym reached.counted) outcome, (refl, refl))
 
-pub ended-performed : (n : ℕ) (g : Listed) (input : List ℤ) (count : ℕ) (s : State) (z : End) → IsReached n g input count s → count ≤ STEP_LIMIT → s.tree ≡ Ended z
+pub ended-performed : (n : ℕ) (g : Listed) (input : List ℤ) (count : ℕ) (s : State) (z : End) → IsReached n g input count s → count ≤ step_limit → s.tree ≡ Ended z
     → IsPerformed n g input (message_lines s.world.output ++ bytes_of (end_line z)) (status_of (end_line z))
 ended-performed n g input count s z reached within ended = reached-performed n g input count s (end_line z) reached (end-outcome count s.tree z within ended)
 
 going : (t : Tree) → (IsEnd t → ⊥) → IsGoing t
 going t none = λ z ended. none (z, ended)
 
-pub running-performed : (n : ℕ) (g : Listed) (input : List ℤ) (count : ℕ) (s : State) → IsReached n g input count s → count ≡ STEP_LIMIT → (IsEnd s.tree → ⊥)
+pub running-performed : (n : ℕ) (g : Listed) (input : List ℤ) (count : ℕ) (s : State) → IsReached n g input count s → count ≡ step_limit → (IsEnd s.tree → ⊥)
     → IsPerformed n g input (message_lines s.world.output ++ bytes_of Running) (status_of Running)
 running-performed n g input count s reached all none = reached-performed n g input count s Running reached (all, going s.tree none)
 
-pub broken-performed : (n : ℕ) (g : Listed) (input : List ℤ) (count : ℕ) (s : State) → IsReached n g input count s → count < STEP_LIMIT → (IsEnd s.tree → ⊥)
+pub broken-performed : (n : ℕ) (g : Listed) (input : List ℤ) (count : ℕ) (s : State) → IsReached n g input count s → count < step_limit → (IsEnd s.tree → ⊥)
     → IsPerformed n g input (message_lines s.world.output ++ bytes_of Memory) (status_of Memory)
 broken-performed n g input count s reached within none = reached-performed n g input count s Memory reached (within, going s.tree none)
 
@@ -190,11 +189,11 @@ pub record Goes (n : ℕ) (g : Listed) (input : List ℤ) (s : State) : Type 0 w
   pub line : Line
   pub right : IsPerformed n g input (message_lines s.world.output ++ bytes_of line) (status_of line)
 
-pub step-goes : (n : ℕ) (g : Listed) (input : List ℤ) (count : ℕ) (s : State) (m : Moved) → IsReached n g input count s → count ≤ STEP_LIMIT → m ≡ moved_to s.tree → Goes n g input s
+pub step-goes : (n : ℕ) (g : Listed) (input : List ℤ) (count : ℕ) (s : State) (m : Moved) → IsReached n g input count s → count ≤ step_limit → m ≡ moved_to s.tree → Goes n g input s
 step-goes n g input count s (moved.Ended o) reached within is =
     let ended = moved-ended s.tree o is in
     record { line = end_line ended.0; right = ended-performed n g input count s ended.0 reached within ended.1 }
-step-goes n g input count s moved.Went reached within is = elim (cases_lt count STEP_LIMIT) [
+step-goes n g input count s moved.Went reached within is = elim (cases_lt count step_limit) [
   | inl below ↦ record { line = Memory; right = broken-performed n g input count s reached below (moved-on s.tree is) }
   | inr above ↦ record { line = Running; right = running-performed n g input count s reached (omega arith) (moved-on s.tree is) }
 ]

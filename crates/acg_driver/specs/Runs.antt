@@ -1,6 +1,6 @@
 -- What the run of a graph's action says.
 use Rattle.std.specs.Prelude.{◌≡◌, ℕ, zero, suc, List, [], ◌++◌}
-use Rattle.acg_base.specs.declared.capacity.TheConstants.{DEFAULT_STACK, DEFAULT_UNITS, DEFAULT_BUDGET}
+use Rattle.acg_base.specs.declared.capacity.TheConstants.{DEFAULT_STACK, DEFAULT_UNITS}
 use Rattle.acg_base.specs.declared.status.Status.{Status}
 use Rattle.action_terms.specs.Numbering.{Listed}
 use Rattle.action_terms.specs.Meaning.{action_of}
@@ -15,6 +15,10 @@ use Rattle.acg_words.specs.declared.line.Line.{Line}
 use Rattle.acg_words.specs.declared.line.Line.TheVariants.{Completed, Failed, Escaped, Full, Running}
 use Rattle.acg_driver.specs.Says.{SaysBehind}
 use Rattle.acg_driver.specs.declared.running.Loaded.{Loaded}
+
+-- the most instructions of a run
+abbrev pub instruction_limit : ℕ
+instruction_limit = 10000000
 
 -- the messages of an output, a line each
 abbrev pub output_lines : List ℕ → List ℕ
@@ -35,12 +39,12 @@ IsRunOf (Exited code output) text status = (line : Line) × IsExit code line × 
 IsRunOf (Trapped cause) text status = ⊥
 
 -- some image is right for the action of the graph, with the default capacity and the printed factor; behind the header
--- line stands its run, on no input, within the default budget
+-- line stands its run, on no input, for at most so many instructions
 abbrev pub IsRun : Listed → (text : List ℕ) → Status → Type 0
 IsRun g text status =
     (image : Image) × IsRight image (node_count g) (subject_of g DEFAULT_STACK DEFAULT_UNITS)
     × ((rest : List ℕ) × (text ≡ header_line DEFAULT_STACK DEFAULT_UNITS (factor_of (action_of g)) ++ rest)
-    × IsRunOf (run DEFAULT_BUDGET (started image [])) rest status)
+    × IsRunOf (run instruction_limit (started image [])) rest status)
 
 -- the machine stands before the first instruction of an image that is right for the graph's action, with the default
 -- capacity

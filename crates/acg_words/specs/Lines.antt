@@ -56,6 +56,11 @@ abbrev pub is_one_piece : Line → Bool
 is_one_piece (ReadFault name) = false
 is_one_piece _ = true
 
+-- by how many writes it is printed: the name of a read fault is a piece of its own
+abbrev pub piece_count : Line → ℕ
+piece_count (ReadFault name) = 3
+piece_count _ = 1
+
 -- before a run: the words of the stack, the units, and the factor
 abbrev pub header_line : (stack units factor : ℕ) → List ℕ
 header_line stack units factor =

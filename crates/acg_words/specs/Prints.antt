@@ -1,10 +1,15 @@
 -- What a print does to a sink.
-use Rattle.std.specs.Prelude.{◌≡◌, ◌≢◌, ℕ, List, ◌++◌, IsTrue, Result, OnOk, OnErr}
+use Rattle.std.specs.Prelude.{◌≡◌, ◌≢◌, ℕ, zero, suc, List, ◌++◌, IsTrue, Result, OnOk, OnErr}
 use Rattle.acg_base.specs.Outside.{counted, GainsFrontOf}
 use Rattle.acg_base.specs.declared.sink.Sink.{Ghosts}
 use Rattle.acg_base.specs.declared.sink.SinkError.{SinkError}
 use Rattle.acg_base.specs.declared.status.Status.{Status}
 use Rattle.acg_base.specs.declared.status.Status.TheVariants as status
+
+-- the count of writes behind so many more
+abbrev pub writes_behind : (more old : ℕ) → ℕ
+writes_behind zero old = old
+writes_behind (suc more) old = counted (writes_behind more old)
 
 -- the sink took exactly the text, and no write failed
 pub record Took {K : Type 0} (sink : Ghosts K) (text : List ℕ) (old new : K) : Type 0 where

@@ -70,10 +70,10 @@ impl From<Memory> for Line {
 }
 
 impl Line {
-    ghost use Rattle.std.specs.Prelude.{◌≡◌, IsTrue};
+    ghost use Rattle.std.specs.Prelude.{◌≡◌, IsTrue, OnOk};
     ghost use Rattle.acg_base.specs.Outside.{counted};
-    ghost use Rattle.acg_words.specs.Lines.{bytes_of, status_of, is_one_piece};
-    ghost use Rattle.acg_words.specs.Prints.{Printed, Answered};
+    ghost use Rattle.acg_words.specs.Lines.{bytes_of, status_of, is_one_piece, piece_count};
+    ghost use Rattle.acg_words.specs.Prints.{Printed, Answered, writes_behind};
 
     /// The status that goes with the line.
     pub fn status(&self) -> Status
@@ -96,9 +96,12 @@ impl Line {
         }
     }
 
-    /// Prints the line, by one write or, for a read fault, by three. Answers `Failed` where the sink fails: it has a front of the line then.
+    /// Prints the line, by one write or, for a read fault, by three. Answers `Failed` where the sink
+    /// fails: it has a front of the line then.
     pub fn print<K: Sink>(&self, out: &mut K) -> Result<(), SinkError>
         ensures printed { Printed K.Sink (bytes_of self.now) out.old out.new result }
+        ensures pieces { OnOk result
+            (K.writes out.new ≡ writes_behind (piece_count self.now) (K.writes out.old)) }
         ensures once { IsTrue (is_one_piece self.now) → K.writes out.new ≡ counted (K.writes out.old) }
     {
         match self {

@@ -1,10 +1,10 @@
 //! Pieces of text that a sink gets, each by one write.
 
-ghost use Rattle.std.specs.Prelude.{◌≡◌, ◌≤◌, length};
+ghost use Rattle.std.specs.Prelude.{◌≡◌, ◌≤◌, length, OnOk};
 ghost use Rattle.std.specs.List.{flat_map};
 ghost use Rattle.acg_base.specs.Outside.{counted};
 ghost use Rattle.acg_words.specs.Lines.{numbered_line, header_line, message_line, read_fault_line};
-ghost use Rattle.acg_words.specs.Prints.{Printed};
+ghost use Rattle.acg_words.specs.Prints.{Printed, writes_behind};
 
 use crate::buffer::Buffer;
 use acg_base::{Sink, SinkError};
@@ -19,7 +19,9 @@ pub(crate) fn print<K: Sink>(out: &mut K, text: &[u8]) -> Result<(), SinkError>
 
 /// Prints the pieces, each by one write.
 pub(crate) fn print_all<K: Sink>(out: &mut K, pieces: &[&[u8]]) -> Result<(), SinkError>
-    ensures { Printed K.Sink (flat_map (λ piece. piece.now) pieces.now) out.old out.new result }
+    ensures printed { Printed K.Sink (flat_map (λ piece. piece.now) pieces.now) out.old out.new result }
+    ensures each { OnOk result
+        (K.writes out.new ≡ writes_behind (length pieces.now) (K.writes out.old)) }
 {
     for piece in pieces {
         print(out, piece)?;
@@ -46,7 +48,8 @@ pub(crate) fn print_numbered<K: Sink>(
 
 /// Prints that a read of the store failed, with the name that was read, of any length, by three writes.
 pub(crate) fn print_read_fault<K: Sink>(out: &mut K, name: &[u8]) -> Result<(), SinkError>
-    ensures { Printed K.Sink (read_fault_line name.now) out.old out.new result }
+    ensures printed { Printed K.Sink (read_fault_line name.now) out.old out.new result }
+    ensures three { OnOk result (K.writes out.new ≡ writes_behind 3 (K.writes out.old)) }
 {
     print_all(out, &[b"read fault ".as_slice(), name, b"\n".as_slice()])
 }

@@ -1,6 +1,7 @@
 -- The nodes of a tree by number: action nodes from 0 in preorder, and yielders from 0 in preorder.
 use Rattle.std.specs.Prelude.{All, ◌≡◌, ℕ, suc, ◌+◌, ◌≤◌, List, [], ◌∷◌, ◌++◌, take, drop, Option, Some, None, FitsSigned}
 use Rattle.std.specs.Int.{w64}
+use Rattle.acg_base.specs.declared.limits.TheConstants.{LIMIT_NODES}
 use Rattle.action_terms.specs.Labels.{ActionNode, YielderNode, operand_lengths}
 use Rattle.action_terms.specs.Trees.{Tree, tree, Trees, none, more, IsAction}
 use Rattle.action_terms.specs.declared.kinds.Kind.{Kind}
@@ -139,9 +140,9 @@ abbrev mutual
 abbrev pub strays : Tree → List ℕ
 strays t = strays_of None 0 t
 
--- the most nodes of a graph
+-- the most action nodes and yielders of a graph, together
 abbrev pub node_limit : ℕ
-node_limit = 65536
+node_limit = LIMIT_NODES
 
 -- the graph is that of an action within the limit, with no stray `unfold`
 pub record IsGraphOf (g : Listed) (t : Tree) : Type 0 where

@@ -2,6 +2,7 @@
 use Rattle.std.specs.Prelude.{◌≡◌, ◌≤◌, ℕ, Bool, true, false, List, [], ◌∷◌, ◌++◌, length, count_by}
 use Rattle.action_terms.specs.Labels.{Label, ActionNode, YielderNode, AnAction}
 use Rattle.action_terms.specs.Places.{fills, expects}
+use Rattle.action_terms.specs.Numbering.{node_limit}
 use Rattle.action_terms.specs.declared.places.Expected.{Expected}
 use Rattle.action_terms.specs.declared.pushed.Pushed.{Pushed}
 use Rattle.action_terms.specs.declared.pushed.Pushed.TheVariants.{Action, Yielder}
@@ -24,5 +25,5 @@ is_yielder_node (YielderNode k t) = true
 pub record Keeps (labels : List Label) (expected : Expected) (actions yielders : ℕ) : Type 0 where
   pub actions_are : actions ≡ count_by is_action_node labels
   pub yielders_are : yielders ≡ count_by is_yielder_node labels
-  pub few : length labels ≤ 65536
+  pub few : length labels ≤ node_limit
   pub expects_rest : (more : List Label) → fills (AnAction ∷ []) (labels ++ more) ≡ expects expected more

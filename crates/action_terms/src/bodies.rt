@@ -1,6 +1,7 @@
 //! The numbers of pushed nodes, the bodies that they name, and stray `unfold` nodes.
 ghost use Rattle.std.specs.Prelude.{◌≡◌, ℕ, ◌+◌, ◌<◌, ◌≤◌, ◌^◌, List, [], ◌∷◌, ◌++◌, None, Some, IfOk, OnOk, OnErr, IsErrOf, IsTrue, ◌↔◌, length, map, drop, replicate, slice_get, sum, option_to_list, if◌then◌else◌};
 ghost use Rattle.action_terms.specs.Labels.{operand_lengths};
+ghost use Rattle.action_terms.specs.Numbering.{node_limit};
 ghost use Rattle.action_terms.specs.Pushed.{label_of};
 ghost use Rattle.action_terms.specs.Entries.{entry_of, next_entry, entries, strays_in, strays_at, innermost, number_at, next_action, next_yielder, body_at, around_under, around_next, action_places, yielder_places, part_count, closure_count, argument_count};
 
@@ -101,7 +102,7 @@ fn places_under(node: Pushed<'_>) -> u64
 
 // the innermost `unfolding` around the parts of a node, by the root of its body
 fn around_under(node: Pushed<'_>, action: u32, around: Option<u32>) -> Option<u32>
-    requires { action < 65536 }
+    requires { action < node_limit }
     ensures { result ≡ around_under (label_of node.entry) action around }
 {
     match node {
@@ -118,7 +119,7 @@ fn around_under(node: Pushed<'_>, action: u32, around: Option<u32>) -> Option<u3
 
 // the body that a node names, or 0; an `unfold` names that of the `unfolding` around it
 fn body_at(node: Pushed<'_>, action: u32, around: Option<u32>) -> u32
-    requires { action < 65536 }
+    requires { action < node_limit }
     ensures { result ≡ body_at (label_of node.entry) action around }
 {
     match node {
@@ -186,7 +187,7 @@ fn number_at(node: Pushed<'_>, action: u32, yielder: u32) -> u32
 }
 
 fn next_action(node: Pushed<'_>, action: u32) -> u32
-    requires { action < 65536 }
+    requires { action < node_limit }
     ensures { result ≡ next_action (label_of node.entry) action }
 {
     match node {
@@ -196,7 +197,7 @@ fn next_action(node: Pushed<'_>, action: u32) -> u32
 }
 
 fn next_yielder(node: Pushed<'_>, yielder: u32) -> u32
-    requires { yielder < 65536 }
+    requires { yielder < node_limit }
     ensures { result ≡ next_yielder (label_of node.entry) yielder }
 {
     match node {
@@ -208,8 +209,8 @@ fn next_yielder(node: Pushed<'_>, yielder: u32) -> u32
 impl Walk {
     // the node is the next one
     fn enter<'a>(&mut self, node: Pushed<'a>) -> Result<Entered<'a>, GraphError>
-        requires action { self.old.action < 65536 }
-        requires yielder { self.old.yielder < 65536 }
+        requires action { self.old.action < node_limit }
+        requires yielder { self.old.yielder < node_limit }
         ensures entered { IfOk result (λ e. entry_of e ≡ next_entry
             (label_of node.entry) self.old.action self.old.yielder self.old.contexts.items) }
         ensures around { OnOk result (self.new.contexts.items
@@ -243,7 +244,7 @@ impl Walk {
 
 /// Numbers the nodes and finds their bodies, or the first stray `unfold`.
 pub fn enter_all<'a>(alloc: Global, pushed: &[Pushed<'a>]) -> Result<Vec<Entered<'a>>, GraphError>
-    requires { length pushed.now ≤ 65536 }
+    requires { length pushed.now ≤ node_limit }
     ensures entered { IfOk result (λ v. map entry_of v.items
         ≡ entries (None ∷ []) 0 0 (map label_of pushed.now)) }
     ensures none_stray { OnOk result (strays_in (None ∷ []) 0 (map label_of pushed.now) ≡ []) }

@@ -2,7 +2,7 @@
 ghost use Rattle.std.specs.Prelude.{◌≡◌, ℕ, ◌+◌, ◌<◌, ◌≤◌, ◌↔◌, [], ◌∷◌, ◌++◌, length, IsTrue, IfOk, OnOk, OnErr, IsErrOf, Some, count_by, slice_get};
 ghost use Rattle.action_terms.specs.Labels.{ActionNode, YielderNode};
 ghost use Rattle.action_terms.specs.Trees.{Tree, IsAction, IsWhole, preorder};
-ghost use Rattle.action_terms.specs.Numbering.{IsGraphOf, strays};
+ghost use Rattle.action_terms.specs.Numbering.{IsGraphOf, strays, node_limit};
 ghost use Rattle.action_terms.specs.Pushed.{is_action_node, is_yielder_node};
 
 use crate::bodies::enter_all;
@@ -61,7 +61,7 @@ impl<'a> GraphBuilder<'a> {
         ensures number { IfOk result (λ number. number ≡ count_by is_action_node self.old) }
         ensures pushed { OnOk result (self.new
             ≡ self.old ++ ActionNode new.entry.kind new.entry.items new.entry.token.now ∷ []) }
-        ensures nodes { IsErrOf result GraphError.Nodes ↔ (65536 ≤ length self.old) }
+        ensures nodes { IsErrOf result GraphError.Nodes ↔ (node_limit ≤ length self.old) }
         ensures never_stray { (node : ℕ) → IsErrOf result (GraphError.StrayUnfold node) → ⊥ }
         ensures err { OnErr result (self.new ≡ self.old) }
     {
@@ -87,7 +87,7 @@ impl<'a> GraphBuilder<'a> {
         ensures number { IfOk result (λ number. number ≡ count_by is_yielder_node self.old) }
         ensures pushed { OnOk result (self.new
             ≡ self.old ++ YielderNode new.entry.kind new.entry.token.now ∷ []) }
-        ensures nodes { IsErrOf result GraphError.Nodes ↔ (65536 ≤ length self.old) }
+        ensures nodes { IsErrOf result GraphError.Nodes ↔ (node_limit ≤ length self.old) }
         ensures never_stray { (node : ℕ) → IsErrOf result (GraphError.StrayUnfold node) → ⊥ }
         ensures err { OnErr result (self.new ≡ self.old) }
     {

@@ -1,5 +1,6 @@
 -- Images: what a machine is loaded from.
 use Rattle.std.specs.Prelude.{◌≡◌, ◌⊎◌, ◌+◌, ◌-◌, ◌^◌, ◌≤◌, ℕ, List, ◌++◌, length, map, replicate, sum_by, All, AllPairs}
+use Rattle.acg_base.specs.declared.limits.TheConstants.{LIMIT_IMAGE}
 use Rattle.rv_code.specs.Machine.{Segment, State, loaded}
 
 -- a segment of an image: flags are the sum of X 1, W 2 and R 4, and zeros stand behind its bytes up to its size
@@ -20,7 +21,7 @@ AreApart s t = (s.size ≡ 0) ⊎ ((t.size ≡ 0) ⊎ ((s.address + s.size ≤ t
 
 -- the most bytes of an image's segments
 abbrev pub image_limit : ℕ
-image_limit = 536870912
+image_limit = LIMIT_IMAGE
 
 -- what is asked of every image
 pub record IsImage (image : Image) : Type 0 where

@@ -27,9 +27,9 @@ fn yielder_count(graph: &Graph<'_>, counts: &[usize], k: usize) -> usize
     }
 }
 
-/// How many instructions the machine takes at most for each step of a performance of the graph's action, on the
-/// image of the code that `generate` makes: 424, and 24 more for each yielder of the node that has most. An `Err` comes
-/// for want of memory alone.
+/// How many instructions the machine takes at most for each step of a performance of the graph's action, and one factor
+/// more, on the image of the code that `generate` makes: 424, and 24 more for each yielder of the node that has most. An
+/// `Err` says want of memory.
 pub fn instructions_per_step(alloc: Global, graph: &Graph<'_>) -> Result<u64, Memory>
     requires { unbuilt (action_of graph.now) ≡ [] }
     ensures { IfOk result (λ factor. factor ≡ factor_of (action_of graph.now)) }

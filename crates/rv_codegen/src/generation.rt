@@ -91,7 +91,7 @@ fn assemble(alloc: Global, graph: &Graph<'_>) -> Result<Code, Memory>
 
 /// The code of an action whose nodes are built: words of 32 bits, for the image of which it is
 /// proved that it is right for the action, whatever capacity in its ranges is written into it. An
-/// `Err` comes for want of memory alone.
+/// `Err` says want of memory.
 pub fn generate(alloc: Global, graph: &Graph<'_>) -> Result<Code, Memory>
     requires built { unbuilt (action_of graph.now) ≡ [] }
     ensures right { IfOk result (λ code. (stack units : ℕ)

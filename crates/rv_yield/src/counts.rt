@@ -5,12 +5,12 @@ ghost use Rattle.action_terms.specs.Forms.{yielder_at};
 ghost use Rattle.action_terms.specs.Need.{yielder_count};
 ghost use Rattle.rv_yield.specs.Counts.{AreCounts, capped};
 
-use acg_base::Memory;
+use acg_base::{LIMIT_NODES, Memory};
 use action_terms::{Graph, YielderView};
 use std::alloc::Global;
 
 /// The most nodes of a graph.
-const LIMIT: usize = 65536;
+const LIMIT: usize = LIMIT_NODES as usize;
 
 /// How many yielders are in yielder k, by how many are in those behind it.
 fn count_at(graph: &Graph<'_>, counts: &[usize], k: usize) -> usize
@@ -31,8 +31,8 @@ fn count_at(graph: &Graph<'_>, counts: &[usize], k: usize) -> usize
     (inside + 1).min(LIMIT)
 }
 
-/// How many yielders are in each yielder, itself among them, by the yielder's number: 65536 where
-/// they are more. An `Err` comes for want of memory alone.
+/// How many yielders are in each yielder, itself among them, by the yielder's number: `LIMIT_NODES`
+/// where they are more. An `Err` comes for want of memory alone.
 pub fn yielder_counts(alloc: Global, graph: &Graph<'_>) -> Result<Vec<usize>, Memory>
     ensures { IfOk result (λ counts. AreCounts graph.now.yielders counts.items) }
 {

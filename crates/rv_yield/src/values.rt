@@ -5,6 +5,7 @@ ghost use Rattle.rv_asm.specs.Assembly.{total, is_placed};
 ghost use Rattle.rv_asm.specs.Pieces.{appended};
 ghost use Rattle.action_terms.specs.Forms.{yielder_at, IsDatum};
 ghost use Rattle.action_terms.specs.Need.{yielder_count};
+ghost use Rattle.action_terms.specs.Numbering.{node_limit};
 ghost use Rattle.rv_yield.specs.Registers.{AreNeeds, registers_needed, is_built, first_register, registers_end};
 ghost use Rattle.rv_yield.specs.YielderCode.{value_items, store_items, stored_items};
 ghost use Rattle.rv_yield.specs.Evaluates.{Evaluates, Stores};
@@ -112,7 +113,7 @@ pub fn yield_code(
 ) -> Result<(), Memory>
     requires datum { IsDatum graph.now.yielders yielder }
     requires built { is_built (yielder_at graph.now.yielders yielder) ≡ true }
-    requires few { yielder_count (yielder_at graph.now.yielders yielder) < 65536 }
+    requires few { yielder_count (yielder_at graph.now.yielders yielder) < node_limit }
     requires needs { AreNeeds graph.now.yielders needs.now }
     requires target { slots.target < 33554432 }
     requires label { slots.nothing < asm.old.labels }

@@ -1,5 +1,6 @@
 -- When each error of `scan` comes.
 use Rattle.std.specs.Prelude.{ℕ, ◌<◌, List, length}
+use Rattle.acg_base.specs.declared.limits.TheConstants.{LIMIT_LEXEMES}
 use Rattle.source_lex.specs.Lexemes.{PlainLexeme, AreLexemes, AreNoOthers, IsBadByte}
 use Rattle.source_lex.specs.declared.errors.ScanError.{ScanError}
 use Rattle.source_lex.specs.declared.errors.ScanError.TheVariants.{Memory, BadByte, Count}
@@ -11,4 +12,4 @@ IsScanError literals bytes Memory = Unit {0}
 IsScanError literals bytes (BadByte offset) =
     IsBadByte literals bytes offset × ((ls : List PlainLexeme) → AreLexemes literals bytes ls → ⊥)
 IsScanError literals bytes Count =
-    (ls : List PlainLexeme) × AreLexemes literals bytes ls × AreNoOthers literals bytes ls × (4096 < length ls)
+    (ls : List PlainLexeme) × AreLexemes literals bytes ls × AreNoOthers literals bytes ls × (LIMIT_LEXEMES < length ls)

@@ -1,5 +1,6 @@
 //! Cutting a source into lexemes.
 ghost use Rattle.std.specs.Prelude.{◌≡◌, ◌≢◌, AllPairs, ◌<◌, ◌≤◌, length, drop, IfOk, IfErr, MatchOption};
+ghost use Rattle.acg_base.specs.declared.limits.TheConstants.{LIMIT_LEXEMES};
 ghost use Rattle.gram_form.specs.Plain.{texts};
 ghost use Rattle.meta_lex.specs.Tokens.{after_blanks};
 ghost use Rattle.source_lex.specs.Lexemes.{AreLexemes, AreNoOthers, IsLexemeAt, HasNone, plain_lexeme};
@@ -10,13 +11,14 @@ use crate::errors::ScanError;
 use crate::lexeme::{Lexeme, Lexemes};
 use crate::literals::Literals;
 use crate::longest::longest;
+use acg_base::LIMIT_LEXEMES;
 use bumpalo::Bump;
 use gram_form::Grammar;
 use meta_lex::bytes::blanks;
 use std::alloc::Global;
 
 // The most lexemes of a source.
-const MOST: usize = 4096;
+const MOST: usize = LIMIT_LEXEMES as usize;
 
 // The lexeme at the place.
 fn lexeme_at<'a>(literals: &Literals<'_>, text: &'a [u8], at: usize) -> Option<Lexeme<'a>>
@@ -55,7 +57,7 @@ fn after_blanks(text: &[u8], from: usize) -> usize
 ///
 /// `ScanError::BadByte` comes exactly where, after some lexemes and blanks, no lexeme begins, with
 /// the first such place; `ScanError::Count` exactly where the whole source is lexemes, and there are
-/// more than 4096; `ScanError::Memory` where no memory is left.
+/// more than `LIMIT_LEXEMES`; `ScanError::Memory` where no memory is left.
 pub fn scan<'a>(
     alloc: Global,
     arena: &'a Bump,
@@ -65,7 +67,7 @@ pub fn scan<'a>(
     requires small { length bytes.now < 4294967296 }
     requires few { length grammar.now.literals < 4294967296 }
     ensures lexemes { IfOk result (λ ls. AreLexemes grammar.now.literals bytes.now ls) }
-    ensures count { IfOk result (λ ls. length ls ≤ 4096) }
+    ensures count { IfOk result (λ ls. length ls ≤ LIMIT_LEXEMES) }
     ensures no_others { IfOk result (λ ls. AreNoOthers grammar.now.literals bytes.now ls) }
     ensures error { IfErr result (λ e. IsScanError grammar.now.literals bytes.now e) }
 {

@@ -12,9 +12,12 @@ use Rattle.action_sos.specs.Schedules.{IsScheduled}
 use Rattle.acg_words.specs.Lines.{message_lines}
 use Rattle.acg_words.specs.declared.line.Line.{Line}
 use Rattle.acg_words.specs.declared.line.Line.TheVariants.{LimitInput, Memory, Completed, Failed, Escaped, Running}
-use Rattle.acg_driver.specs.declared.performance.TheConstants.{STEP_LIMIT}
 use Rattle.acg_driver.specs.Texts.{Reads, RefusesText, IsUnread}
 use Rattle.acg_driver.specs.Says.{SaysBehind}
+
+-- the most steps of a performance
+abbrev pub step_limit : ℕ
+step_limit = 1000000
 
 -- the line of an end
 abbrev pub end_line : End → Line
@@ -29,9 +32,9 @@ IsGoing tree = (z : End) → tree ≡ Ended z → ⊥
 -- the line behind the messages of so many steps that lead to a tree: that of its end; or `running` where there is none
 -- within the limit; or memory ran out before the limit, where there is none yet
 abbrev pub IsOutcome : (count : ℕ) → Tree → Line → Type 0
-IsOutcome count tree Running = (count ≡ STEP_LIMIT) × IsGoing tree
-IsOutcome count tree Memory = (count < STEP_LIMIT) × IsGoing tree
-IsOutcome count tree line = (z : End) × (count ≤ STEP_LIMIT) × (tree ≡ Ended z) × (line ≡ end_line z)
+IsOutcome count tree Running = (count ≡ step_limit) × IsGoing tree
+IsOutcome count tree Memory = (count < step_limit) × IsGoing tree
+IsOutcome count tree line = (z : End) × (count ≤ step_limit) × (tree ≡ Ended z) × (line ≡ end_line z)
 
 -- what a performance says: the messages of the steps that n chooses, and then how far they lead
 abbrev pub IsPerformed : ℕ → Listed → (input : List ℤ) (text : List ℕ) → Status → Type 0

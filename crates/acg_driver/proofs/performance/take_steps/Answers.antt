@@ -5,8 +5,7 @@ use Rattle.acg_words.specs.Prints.{Took, Printed, Answered}
 use Rattle.acg_words.specs.declared.line.Line.{Line}
 use Rattle.acg_words.specs.declared.line.Line.TheVariants.{Memory, Running}
 use Rattle.acg_words.proofs.PrintsLemmas.{took-none, took-then, broke-then}
-use Rattle.acg_driver.specs.Commands.Perform.{IsPerformed, end_line}
-use Rattle.acg_driver.specs.declared.performance.TheConstants.{STEP_LIMIT}
+use Rattle.acg_driver.specs.Commands.Perform.{IsPerformed, step_limit, end_line}
 use Rattle.acg_driver.proofs.PerformanceLemmas.{chosen-within, moved-ended, moved-on, one-more, start-going, start-silent, reached-start, reached-more, same-graph, lines-step, step-goes, ended-performed, running-performed, broken-performed}
 use Rattle.acg_driver.proofs.Saying.{printed-whole, printed-failed, said-line, said-broke}
 use Rattle.acg_driver.proofs.performance.take_steps.Goals as goal
@@ -74,7 +73,7 @@ pub returns : goal.returns
 returns g c =
     let start = c.args.performer.now in
     let before = c.loop-turn.invariant in
-    let all : c.loop-turn._turn ≡ STEP_LIMIT = omega arith in
+    let all : c.loop-turn._turn ≡ step_limit = omega arith in
     said-line {P = IsPerformed c.args.number start.graph start.state.world.input} Running before.took c.answer-2.ensures.answered
     (running-performed c.args.number start.graph start.state.world.input c.loop-turn._turn c.loop-turn.performer.state before.reached all before.going)
 

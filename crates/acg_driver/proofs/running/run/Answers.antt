@@ -1,10 +1,10 @@
 use Rattle.std.proofs.Common.{ℕ, [], ◌++◌, ap, sym, subst}
-use Rattle.acg_base.specs.declared.capacity.TheConstants.{DEFAULT_STACK, DEFAULT_UNITS, DEFAULT_BUDGET}
+use Rattle.acg_base.specs.declared.capacity.TheConstants.{DEFAULT_STACK, DEFAULT_UNITS}
 use Rattle.rv_code.specs.Machine.{run}
 use Rattle.rv_machine.specs.Machines.{state_of, sent_in}
 use Rattle.rv_codegen.specs.Measures.{subject_of, node_count}
 use Rattle.acg_words.specs.Lines.{bytes_of, status_of, header_line}
-use Rattle.acg_driver.specs.Runs.{output_lines, IsRunOf, IsRun}
+use Rattle.acg_driver.specs.Runs.{instruction_limit, output_lines, IsRunOf, IsRun}
 use Rattle.acg_driver.specs.Sending.{SendsMessages}
 use Rattle.acg_driver.proofs.RightRuns.{right-sends}
 use Rattle.acg_driver.proofs.RunLemmas.{whole-run}
@@ -20,14 +20,14 @@ run_machine-requires g c =
 pub returns-in-Ok : goal.returns-in-Ok
 returns-in-Ok g c = λ graph loaded.
     let start = loaded.0 in
-    said-then {P = IsRunOf (run DEFAULT_BUDGET (state_of c.args.loaded.now.machine [] []))} {Q = IsRun graph} c.in-Ok.ensures.printed.done
+    said-then {P = IsRunOf (run instruction_limit (state_of c.args.loaded.now.machine [] []))} {Q = IsRun graph} c.in-Ok.ensures.printed.done
     (λ rest s runs. (
       start.0,
       start.1,
       (
         rest,
         ap (λ factor. header_line DEFAULT_STACK DEFAULT_UNITS factor ++ rest) loaded.1,
-        subst (λ machine. IsRunOf (run DEFAULT_BUDGET (state_of machine [] [])) rest s) start.2 runs,
+        subst (λ machine. IsRunOf (run instruction_limit (state_of machine [] [])) rest s) start.2 runs,
       ),
     ))
     c.run_machine.ensures
@@ -37,14 +37,14 @@ returns-in-Err-Failed g c = λ graph loaded.
     let start = loaded.0 in
     let machine = c.args.loaded.now.machine in
     let sane : (m : ℕ) → SendsMessages (run m (state_of machine [] [])) = λ m. subst (λ k. SendsMessages (run m (state_of k [] []))) (sym start.2) (right-sends start.0 (node_count graph) (subject_of graph DEFAULT_STACK DEFAULT_UNITS) start.1 m) in
-    let whole = whole-run DEFAULT_BUDGET machine sane in
-    let rest = output_lines (sent_in DEFAULT_BUDGET machine []) ++ bytes_of whole.line in
+    let whole = whole-run instruction_limit machine sane in
+    let rest = output_lines (sent_in instruction_limit machine []) ++ bytes_of whole.line in
     said-broke {P = IsRun graph} rest (status_of whole.line) c.in-Err-Failed.ensures.printed.failed (
       start.0,
       start.1,
       (
         rest,
         ap (λ factor. header_line DEFAULT_STACK DEFAULT_UNITS factor ++ rest) loaded.1,
-        subst (λ k. IsRunOf (run DEFAULT_BUDGET (state_of k [] [])) rest (status_of whole.line)) start.2 whole.right,
+        subst (λ k. IsRunOf (run instruction_limit (state_of k [] [])) rest (status_of whole.line)) start.2 whole.right,
       ),
     )
