@@ -28,7 +28,7 @@ fn without_first(alloc: Global, args: Args) -> Result<Vec<String>, AllocError>
 }
 
 // The words of the command line: the arguments without the program's name, or one empty word where they aren't text.
-// An `Err` comes for want of memory alone, which words need: where there is none, it doesn't come.
+// An `Err` says want of memory for the words; where there are none, it doesn't come.
 fn words_of(alloc: Global, args: io::Result<Args>) -> Result<Words, AllocError>
     ensures ok { IfOk result (λ words. words ≡ words_of args) }
     ensures err { OnErr result (words_of args ≢ []) }

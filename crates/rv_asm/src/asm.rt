@@ -54,7 +54,7 @@ impl Asm {
         })
     }
 
-    /// A label of its own, which isn't placed yet. An `Err` comes for want of memory alone, here and below.
+    /// A label of its own, which isn't placed yet. An `Err` says want of memory, here and below.
     pub fn label(&mut self) -> Result<Label, Memory>
         ensures label { IfOk result (λ label. label ≡ self.old.labels) }
         ensures ok { OnOk result (self.new ≡ record self.old { labels = self.old.labels + 1 }) }

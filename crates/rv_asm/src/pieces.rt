@@ -1,5 +1,5 @@
-//! Short pieces of code that generated code is made of: constants, copies of words, messages and exits. An `Err` comes
-//! for want of memory alone, and the assembler then holds a front of the piece.
+//! Short pieces of code that generated code is made of: constants, copies of words, messages and exits. An `Err` says
+//! want of memory, and the assembler then holds a front of the piece.
 
 ghost use Rattle.std.specs.Prelude.{◌≡◌, ℕ, ◌+◌, ◌-◌, ◌*◌, ◌^◌, ◌<◌, ◌≤◌, ◌++◌, ◌∷◌, [], List, OnOk, OnErr, pos};
 ghost use Rattle.rv_code.specs.declared.instruction.Inst.TheVariants.{OpImm, Upper, Shift, Load, Store, Ecall};

@@ -10,7 +10,7 @@ use rv_code::Reg;
 use std::alloc::Global;
 
 /// A program that sends the words in order, each as its 8 bytes, and exits with 0. Its region stands at address 69632.
-/// An `Err` comes for want of memory alone.
+/// An `Err` says want of memory.
 pub fn messages_program(alloc: Global, messages: &[u64]) -> Result<Code, Memory>
     requires { length messages.now ≤ 64 }
 

@@ -48,8 +48,8 @@ fn is_built(graph: &Graph<'_>, needs: &[usize], k: usize) -> bool
     }
 }
 
-/// The first node whose code can't be generated, by its number from 0. An `Err` comes for want of
-/// memory alone.
+/// The first node whose code can't be generated, by its number from 0. An `Err` says want of
+/// memory.
 pub fn first_unbuilt(alloc: Global, graph: &Graph<'_>) -> Result<Option<u32>, Memory>
     ensures { IfOk result (λ first. first ≡ slice_get (unbuilt (action_of graph.now)) 0) }
 {

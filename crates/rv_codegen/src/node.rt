@@ -6,6 +6,7 @@ ghost use Rattle.action_terms.specs.Actions.{Simple, Both, Phases, node_at};
 ghost use Rattle.action_terms.specs.Forms.{HasPrimitiveOperands, IsDatum, primitive_viewed, yielder_at, join_viewed, chain_viewed};
 ghost use Rattle.action_terms.specs.Meaning.{action_of};
 ghost use Rattle.action_terms.specs.Need.{node_yielder_count, yielder_count};
+ghost use Rattle.action_terms.specs.Numbering.{node_limit};
 ghost use Rattle.rv_yield.specs.Registers.{is_built};
 ghost use Rattle.rv_codegen.specs.Blocks.{first_label, stop_of, goes, leaves, sends, body, block};
 ghost use Rattle.rv_codegen.specs.Marks.{extended, AreFresh, PlacesStop};
@@ -40,7 +41,7 @@ fn append_sends(asm: &mut Asm, plan: Plan<'_, '_>, k: usize, yielder: u32) -> Re
     requires made { first_label + length plan.labels.row.now ≤ asm.old.labels }
     requires datum { IsDatum plan.graph.now.yielders yielder }
     requires built { is_built (yielder_at plan.graph.now.yielders yielder) ≡ true }
-    requires few { yielder_count (yielder_at plan.graph.now.yielders yielder) < 65536 }
+    requires few { yielder_count (yielder_at plan.graph.now.yielders yielder) < node_limit }
     requires stop { is_placed asm.old.items (stop_of k) ≡ false }
     ensures items { OnOk result (asm.new
         ≡ extended asm.old (sends k (yielder_at plan.entry.graph.now.yielders yielder))) }
@@ -72,7 +73,7 @@ fn append_sending(
     requires exit { exit < asm.old.labels }
     requires datum { IsDatum plan.graph.now.yielders yielder }
     requires built { is_built (yielder_at plan.graph.now.yielders yielder) ≡ true }
-    requires few { yielder_count (yielder_at plan.graph.now.yielders yielder) < 65536 }
+    requires few { yielder_count (yielder_at plan.graph.now.yielders yielder) < node_limit }
     requires stop { is_placed asm.old.items (stop_of k) ≡ false }
     ensures items { OnOk result (asm.new ≡ extended asm.old
         (sends k (yielder_at plan.entry.graph.now.yielders yielder) ++ leaves k exit)) }
@@ -101,7 +102,7 @@ fn append_primitive(
     requires built { is_built_node
         (Simple (primitive_viewed plan.graph.now.yielders primitive)) ≡ true }
     requires few { node_yielder_count
-        (Simple (primitive_viewed plan.graph.now.yielders primitive)) < 65536 }
+        (Simple (primitive_viewed plan.graph.now.yielders primitive)) < node_limit }
     requires exit { exit < asm.old.labels }
     requires stop { is_placed asm.old.items (stop_of k) ≡ false }
     ensures items { OnOk result (asm.new ≡ extended asm.old

@@ -4,6 +4,7 @@ ghost use Rattle.std.specs.Prelude.{◌≡◌, ℕ, ◌+◌, ◌*◌, ◌<◌, [
 ghost use Rattle.action_terms.specs.Actions.{node_at};
 ghost use Rattle.action_terms.specs.Meaning.{action_of};
 ghost use Rattle.action_terms.specs.Need.{node_yielder_count};
+ghost use Rattle.action_terms.specs.Numbering.{node_limit};
 ghost use Rattle.rv_yield.specs.Registers.{AreNeeds};
 ghost use Rattle.rv_codegen.specs.Blocks.{first_label, exits_of};
 ghost use Rattle.rv_codegen.specs.Works.{unbuilt};
@@ -29,7 +30,7 @@ pub(crate) struct Plan<'a, 'l> {
     pub(crate) exits: &'a [Label],
     /// The labels of the entries.
     pub(crate) entries: &'a Entries,
-    ghost few: { (k : ℕ) → node_yielder_count (node_at (action_of graph.now) k) < 65536 },
+    ghost few: { (k : ℕ) → node_yielder_count (node_at (action_of graph.now) k) < node_limit },
     ghost built: { unbuilt (action_of graph.now) ≡ [] },
     ghost needed: { AreNeeds graph.now.yielders needs.now },
     ghost rows: { length labels.row.now ≡ 4 * length graph.now.nodes + 4 },

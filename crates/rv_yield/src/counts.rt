@@ -32,7 +32,7 @@ fn count_at(graph: &Graph<'_>, counts: &[usize], k: usize) -> usize
 }
 
 /// How many yielders are in each yielder, itself among them, by the yielder's number: `LIMIT_NODES`
-/// where they are more. An `Err` comes for want of memory alone.
+/// where they are more. An `Err` says want of memory.
 pub fn yielder_counts(alloc: Global, graph: &Graph<'_>) -> Result<Vec<usize>, Memory>
     ensures { IfOk result (λ counts. AreCounts graph.now.yielders counts.items) }
 {

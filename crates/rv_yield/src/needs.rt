@@ -58,7 +58,7 @@ fn need_at(graph: &Graph<'_>, needs: &[usize], k: usize) -> usize
 }
 
 /// How many registers the code of each yielder needs at once, by the yielder's number: 0 where
-/// its code can't be made, and for `them`. An `Err` comes for want of memory alone.
+/// its code can't be made, and for `them`. An `Err` says want of memory.
 pub fn registers_needed(alloc: Global, graph: &Graph<'_>) -> Result<Vec<usize>, Memory>
     ensures { IfOk result (λ needs. AreNeeds graph.now.yielders needs.items) }
 {

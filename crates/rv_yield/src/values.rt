@@ -38,8 +38,8 @@ pub struct Slots {
 }
 
 /// Appends code that leaves the word of a yielder's datum in a register, by way of those behind
-/// it, and goes to a label where the yielder yields nothing. An `Err` comes for want of memory
-/// alone; the assembler is then to be given up.
+/// it, and goes to a label where the yielder yields nothing. An `Err` says want of memory;
+/// the assembler is then to be given up.
 pub fn value_code(
     alloc: Global,
     asm: &mut Asm,
@@ -101,8 +101,8 @@ fn append_store(asm: &mut Asm, offset: u32) -> Result<(), Memory>
 }
 
 /// Appends code that leaves the word of a yielder's datum in a word of the frame, and goes to a
-/// label where the yielder yields nothing. An `Err` comes for want of memory alone; the assembler
-/// is then to be given up.
+/// label where the yielder yields nothing. An `Err` says want of memory; the assembler is
+/// then to be given up.
 pub fn yield_code(
     alloc: Global,
     asm: &mut Asm,

@@ -5,9 +5,10 @@ ghost use Rattle.std.specs.Prelude.{◌≡◌, ◌≢◌, ◌<◌, ◌≤◌, �
 ghost use Rattle.rv_asm.specs.Assembly.{total};
 ghost use Rattle.action_terms.specs.Forms.{IsDatum, yielder_at};
 ghost use Rattle.action_terms.specs.Need.{yielder_count};
+ghost use Rattle.action_terms.specs.Numbering.{node_limit};
 ghost use Rattle.rv_yield.specs.Registers.{AreNeeds, is_built};
 
-use acg_base::{ListSink, Memory};
+use acg_base::{LIMIT_NODES, ListSink, Memory};
 use action_terms::{
     Graph, GraphBuilder, Kind, NewAction, NewYielder, NodeView, PrimitiveView, YKind,
 };
@@ -82,7 +83,7 @@ fn assembled(
 ) -> Result<Code, Memory>
     requires datum { IsDatum graph.now.yielders yielder }
     requires built { is_built (yielder_at graph.now.yielders yielder) ≡ true }
-    requires few { yielder_count (yielder_at graph.now.yielders yielder) < 65536 }
+    requires few { yielder_count (yielder_at graph.now.yielders yielder) < node_limit }
     requires needs { AreNeeds graph.now.yielders needs.now }
     requires offset { offset < 512 }
 {
@@ -112,7 +113,9 @@ fn code_of(alloc: Global, graph: &Graph<'_>, offset: u32) -> Result<Code, Fail>
     let NodeView::Simple(PrimitiveView::Send { yielder }) = graph.view(0) else {
         return Err("no send".into());
     };
-    if counts[yielder as usize] >= 65536 || registers_of(graph, &needs, yielder).is_none() {
+    if counts[yielder as usize] >= LIMIT_NODES as usize
+        || registers_of(graph, &needs, yielder).is_none()
+    {
         return Err("no code".into());
     }
     Ok(assembled(alloc, graph, &needs, yielder, offset)?)
