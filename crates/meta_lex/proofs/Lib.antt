@@ -5,3 +5,4 @@ pub mod Symbols
 pub mod QuotedTexts
 pub mod Steps
 pub mod OneReading
+pub mod Counting

@@ -12,3 +12,5 @@ pub mod Leading
 pub mod FoundRuns
 pub mod FirstRuns
 pub mod Reading
+pub mod ItemCounts
+pub mod Numbering

@@ -3,3 +3,4 @@ pub mod Names
 pub mod Templates
 pub mod Nodes
 pub mod PlainItems
+pub mod ItemKinds
