@@ -6,8 +6,8 @@ use Rattle.std.specs.Io.KnownBytes.{Appends, Consumes, IsAtEnd}
 use Rattle.std.proofs.KnownBytes.{Appends-trans, starts_with_rest}
 use Rattle.std.proofs.lemmas.List.{take_at, take_all, take_rest}
 use Rattle.std.proofs.Math.Seq.{take-add}
-use Rattle.acg_base.specs.Outside.{GainsFrontOf, front}
-use Rattle.acg_base.specs.Transfers.{AppendsFrontOf}
+use Rattle.acg_base.specs.Outside.{Contents, SameElsewhere, GainsFrontOf, front}
+use Rattle.acg_base.specs.Transfers.{AppendsFrontOf, HoldsFront}
 
 -- a write took more of the bytes
 pub handed-more :
@@ -59,4 +59,16 @@ told-front old new piece told e t h = (h.0, told-all old new (take h.0 piece) to
 
 pub ruleset known = (told-all, told-front)
 
-pub ruleset held = (held-all)
+-- a new writer holds a front of what it was handed, where it failed
+pub held-front :
+    (target old new : Option (List ℕ)) (name bytes : List ℕ) → target ≡ Some name → old ≡ Some [] →
+    AppendsFrontOf bytes old new → HoldsFront target new name bytes
+held-front target old new name bytes t e h = (h.0, (t, held-all old new (take h.0 bytes) e h.1))
+
+-- contents that twice stayed at every other name
+pub elsewhere :
+    (old mid new : Contents) (name : List ℕ) → SameElsewhere old mid name →
+    SameElsewhere mid new name → SameElsewhere old new name
+elsewhere old mid new name first second = λ other differs. second other differs ∙ first other differs
+
+pub ruleset held = (held-all, held-front)

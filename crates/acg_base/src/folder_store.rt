@@ -1,9 +1,10 @@
 //! The files of a folder.
 
-ghost use Rattle.std.specs.Prelude.{◌≡◌, ℕ, ◌+◌, ◌++◌, ◌⊎◌, List, [], Bool, false, Some, IsTrue, IsNone, IsErrOf, IfOk, IfSome, OnOk, OnErr};
+ghost use Rattle.std.specs.Prelude.{◌≡◌, ℕ, ◌+◌, ◌++◌, ◌⊎◌, List, [], Bool, false, Option, Some, IsTrue, IsNone, IsErrOf, IfOk, IfSome, OnOk, OnErr};
 ghost use Rattle.std.specs.Option.{is_none};
 ghost use Rattle.std.specs.Result.{is_err, is_ok};
 ghost use Rattle.acg_base.specs.Outside.{Contents, SameContents, SameElsewhere, GainsAtMost, counted, front};
+ghost use Rattle.acg_base.specs.Transfers.{Holds, HoldsFront};
 
 use crate::counting::{CountingRead, CountingReader, CountingWrite, CountingWriter};
 use crate::name::Name;
@@ -14,9 +15,10 @@ use std::{fs, io};
 
 /// Files that are opened by name.
 ///
-/// A folder counts how often a file was to be opened, and how often one was to be made. Opening changes no
-/// content, and making a file that of its name alone; neither changes what the folder tells, or which files
-/// can be made.
+/// A folder counts how often a file was to be opened, and how often one was to be made, and may tell
+/// what the writer held that it closed last. Opening changes no content, and making and closing a
+/// file that of its name alone; none of them changes what the folder tells, or which files can be
+/// made.
 pub trait Folder {
     /// Reads an opened file.
     type Reader: CountingRead + Drop;
@@ -38,6 +40,12 @@ pub trait Folder {
 
     // How many times a file was to be made.
     ghost creates: { Self → ℕ };
+
+    // The name for which the writer was created that was closed last, where the folder tells it.
+    ghost closed_target: { Self → Option (List ℕ) };
+
+    // The bytes that this writer held, where the folder tells them.
+    ghost closed_contents: { Self → Option (List ℕ) };
 
     /// Opens the file of that name. Answers an error where it isn't there or can't be opened.
     fn open(&mut self, name: &str) -> io::Result<Self::Reader>
@@ -65,6 +73,20 @@ pub trait Folder {
         ensures opens_none { opens self.new ≡ opens self.old }
         ensures others { IsTrue (tells self.old) →
             SameElsewhere (contents self.old) (contents self.new) name.now }
+        ensures makes_still { makes self.new ≡ makes self.old }
+        ensures tells_still { tells self.new ≡ tells self.old };
+
+    /// Closes a writer that the folder created.
+    fn close(&mut self, writer: Self::Writer)
+        ensures target { IsTrue (tells self.old) →
+            closed_target self.new ≡ Self.Writer.target writer }
+        ensures contents { IsTrue (tells self.old) →
+            closed_contents self.new ≡ Self.Writer.contents writer }
+        ensures opens_none { opens self.new ≡ opens self.old }
+        ensures makes_none { creates self.new ≡ creates self.old }
+        ensures others { IsTrue (tells self.old) → (name : List ℕ) →
+            Self.Writer.target writer ≡ Some name →
+            SameElsewhere (contents self.old) (contents self.new) name }
         ensures makes_still { makes self.new ≡ makes self.old }
         ensures tells_still { tells self.new ≡ tells self.old };
 }
@@ -105,6 +127,10 @@ impl<R: Files + Drop> Folder for WorkingFolder<R> {
 
     ghost creates = { λ folder. folder.creates };
 
+    ghost closed_target = { λ _. None };
+
+    ghost closed_contents = { λ _. None };
+
     fn open(&mut self, name: &str) -> io::Result<CountingReader<R::File>> {
         self.opens = self.opens.saturating_add(1);
         Ok(CountingReader::new(fs::open(&self.rt, name)?))
@@ -114,6 +140,8 @@ impl<R: Files + Drop> Folder for WorkingFolder<R> {
         self.creates = self.creates.saturating_add(1);
         Ok(CountingWriter::new(fs::create(&self.rt, name)?))
     }
+
+    fn close(&mut self, _writer: CountingWriter<R::File>) {}
 }
 
 /// A store over a folder. It tells no content, logs no read and isn't sure.
@@ -173,11 +201,13 @@ fn append_file<F: Folder>(
     }
 }
 
-// Hands the bytes to a writer of a new file of that name.
+// Hands the bytes to a writer of a new file of that name, and closes it.
 #[tactic(auto, using(crate::proofs::TransferLemmas::held))]
 fn write_file<F: Folder>(folder: &mut F, name: &str, bytes: &[u8]) -> Result<(), StoreError>
-    ensures handed { OnOk result (IsTrue (F.tells folder.old) → (writer : F.Writer) ×
-        (F.Writer.target writer ≡ Some name.now) × (F.Writer.contents writer ≡ Some bytes.now)) }
+    ensures handed { OnOk result (IsTrue (F.tells folder.old) →
+        Holds (F.closed_target folder.new) (F.closed_contents folder.new) name.now bytes.now) }
+    ensures part { OnErr result (IsTrue (F.tells folder.old) → IsTrue (F.makes folder.old name.now) →
+        HoldsFront (F.closed_target folder.new) (F.closed_contents folder.new) name.now bytes.now) }
     ensures fault { OnErr result (IsTrue (F.tells folder.old) → (F.makes folder.old name.now ≡ false)
         ⊎ ((writer : F.Writer) × (F.Writer.target writer ≡ Some name.now)
         × IsTrue (F.Writer.last_failed writer))) }
@@ -192,7 +222,9 @@ fn write_file<F: Folder>(folder: &mut F, name: &str, bytes: &[u8]) -> Result<(),
     let Ok(mut writer) = folder.create(name) else {
         return Err(StoreError::Failed);
     };
-    if hand_on(&mut writer, bytes).is_err() {
+    let outcome = hand_on(&mut writer, bytes);
+    folder.close(writer);
+    if outcome.is_err() {
         return Err(StoreError::Failed);
     }
     Ok(())
@@ -201,6 +233,7 @@ fn write_file<F: Folder>(folder: &mut F, name: &str, bytes: &[u8]) -> Result<(),
 impl<F: Folder + Drop> Store for FolderStore<F> {
     ghost use Rattle.std.specs.Prelude.{◌≡◌, ◌+◌, ◌≤◌, ◌⊎◌, ◌++◌, [], Some, None, false, IsTrue, IsNone, IsErrOf, IfSome, OnOk, OnErr};
     ghost use Rattle.acg_base.specs.Outside.{SameContents, SameElsewhere, GainsAtMost, counted, front};
+    ghost use Rattle.acg_base.specs.Transfers.{Holds, HoldsFront};
 
     ghost contents = { λ _ _. None };
 
@@ -253,11 +286,16 @@ impl<F: Folder + Drop> Store for FolderStore<F> {
         outcome
     }
 
-    /// Hands the bytes to a writer that the folder creates for the name, and fails only where the folder
-    /// can't make it or the writer failed.
+    /// Hands the bytes to a writer that the folder creates for the name, and closes it. Fails only
+    /// where the folder can't make it or the writer failed, which then has a front of the bytes.
     fn write(&mut self, name: &Name, bytes: &[u8]) -> Result<(), StoreError>
-        ensures handed { OnOk result (IsTrue (F.tells self.old.folder) → (writer : F.Writer) ×
-            (F.Writer.target writer ≡ Some name.now) × (F.Writer.contents writer ≡ Some bytes.now)) }
+        ensures handed { OnOk result (IsTrue (F.tells self.old.folder) →
+            Holds (F.closed_target self.new.folder) (F.closed_contents self.new.folder)
+            name.now bytes.now) }
+        ensures part { OnErr result (IsTrue (F.tells self.old.folder) →
+            IsTrue (F.makes self.old.folder name.now) →
+            HoldsFront (F.closed_target self.new.folder) (F.closed_contents self.new.folder)
+            name.now bytes.now) }
         ensures fault { OnErr result (IsTrue (F.tells self.old.folder) →
             (F.makes self.old.folder name.now ≡ false) ⊎ ((writer : F.Writer) ×
             (F.Writer.target writer ≡ Some name.now) × IsTrue (F.Writer.last_failed writer))) }

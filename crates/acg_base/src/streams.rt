@@ -130,10 +130,12 @@ struct Page<'a> {
     tape: &'a Tape,
     opens: u64,
     creates: u64,
+    closed: Option<Sheet<'a>>,
 }
 
 impl<'a> Folder for Page<'a> {
     ghost use Rattle.std.specs.Prelude.{Some, None, true, if◌then◌else◌};
+    ghost use Rattle.std.specs.Option.{option_map};
     ghost use Rattle.std.specs.Str.{bytes_eq};
 
     type Reader = Leaf<'a>;
@@ -149,6 +151,10 @@ impl<'a> Folder for Page<'a> {
     ghost opens = { λ page. page.opens };
 
     ghost creates = { λ page. page.creates };
+
+    ghost closed_target = { λ page. option_map (λ sheet. sheet.name.now) page.closed };
+
+    ghost closed_contents = { λ page. option_map (λ sheet. sheet.bytes.items) page.closed };
 
     fn open(&mut self, name: &str) -> io::Result<Leaf<'a>> {
         self.opens = self.opens.saturating_add(1);
@@ -173,6 +179,10 @@ impl<'a> Folder for Page<'a> {
             faults: 0,
             last_failed: false,
         })
+    }
+
+    fn close(&mut self, writer: Sheet<'a>) {
+        self.closed = Some(writer);
     }
 }
 
@@ -274,6 +284,7 @@ fn a_folder_that_tells_is_read_and_written(rt: HostRuntime) -> Result<(), Fail> 
         tape: &tape,
         opens: 0,
         creates: 0,
+        closed: None,
     });
     let name = Name::new(rt.alloc(), "any").ok().ok_or("memory")?;
     let other = Name::new(rt.alloc(), "other").ok().ok_or("memory")?;
