@@ -5,7 +5,6 @@ use Rattle.action_terms.specs.Labels.{Label, ActionNode, YielderNode, Wanted, un
 use Rattle.action_terms.specs.Trees.{Tree, tree, Trees, none, more, preorder, preorders, Is, Are, IsAction}
 use Rattle.action_terms.specs.Numbering.{action_count, action_counts, yielder_count, yielder_counts}
 use Rattle.action_terms.specs.Entries.{Entry, number_at, body_at, around_under, next_action, next_yielder, entries}
-use Rattle.action_terms.proofs.RootCounts.{places-under}
 
 -- the entries of a tree whose first action node has number a and whose first yielder has number y
 abbrev mutual
@@ -31,8 +30,7 @@ mutual
   entries-preorder (tree l ts) x c around a y ls h =
       let below = around_under l a c in
       let first : Entry = record { label = l; number = number_at l a y; body = body_at l a c } in
-      ap (λ n. first ∷ entries (replicate n below ++ around) (next_action l a) (next_yielder l y) (preorders ts ++ ls)) (places-under l)
-      ∙ ap (λ es. first ∷ es) (entries-preorders ts (under l) below around (next_action l a) (next_yielder l y) ls h.1)
+      ap (λ es. first ∷ es) (entries-preorders ts (under l) below around (next_action l a) (next_yielder l y) ls h.1)
       ∙ ap (λ n. first ∷ (entries_of_all below (next_action l a) (next_yielder l y) ts ++ entries around n (next_yielder l y + yielder_counts ts) ls)) (next_action-counts l a ts)
       ∙ ap (λ n. first ∷ (entries_of_all below (next_action l a) (next_yielder l y) ts ++ entries around (a + action_count (tree l ts)) n ls)) (next_yielder-counts l y ts)
 

@@ -5,7 +5,6 @@ use Rattle.action_terms.specs.Labels.{Label, ActionNode, YielderNode, Wanted, An
 use Rattle.action_terms.specs.Trees.{Tree, tree, Trees, none, more, preorder, preorders, Is, Are, IsAction}
 use Rattle.action_terms.specs.Numbering.{action_count, action_counts, stray, around_parts, around_arguments, strays_of, strays_of_all, strays}
 use Rattle.action_terms.specs.Entries.{strays_in}
-use Rattle.action_terms.proofs.RootCounts.{places-under}
 
 mutual
   strays_in-preorder : (t : Tree) (x : Wanted) (c : Option ℕ) (around : List (Option ℕ)) (a : ℕ) (ls : List Label) → Is x t
@@ -13,14 +12,11 @@ mutual
   strays_in-preorder (tree (ActionNode k n tk) ts) x c around a ls h =
       let below = around_parts k a c in
       let counts : suc a + action_counts ts ≡ a + suc (action_counts ts) = omega arith in
-      ap (λ m. stray k a c ++ strays_in (replicate m below ++ around) (suc a) (preorders ts ++ ls)) (places-under (ActionNode k n tk))
-      ∙ ap (λ es. stray k a c ++ es) (strays_in-preorders ts (under (ActionNode k n tk)) below around (suc a) ls h.1)
+      ap (λ es. stray k a c ++ es) (strays_in-preorders ts (under (ActionNode k n tk)) below around (suc a) ls h.1)
       ∙ sym (append_assoc (stray k a c) (strays_of_all below (suc a) ts) (strays_in around (suc a + action_counts ts) ls))
       ∙ ap (λ m. (stray k a c ++ strays_of_all below (suc a) ts) ++ strays_in around m ls) counts
   strays_in-preorder (tree (YielderNode k tk) ts) x c around a ls h =
-      let below = around_arguments k c in
-      ap (λ m. strays_in (replicate m below ++ around) a (preorders ts ++ ls)) (places-under (YielderNode k tk))
-      ∙ strays_in-preorders ts (under (YielderNode k tk)) below around a ls h.1
+      strays_in-preorders ts (under (YielderNode k tk)) (around_arguments k c) around a ls h.1
 
   strays_in-preorders : (ts : Trees) (xs : List Wanted) (c : Option ℕ) (around : List (Option ℕ)) (a : ℕ) (ls : List Label) → Are xs ts
       → strays_in (replicate (length xs) c ++ around) a (preorders ts ++ ls) ≡ strays_of_all c a ts ++ strays_in around (a + action_counts ts) ls

@@ -1,16 +1,15 @@
 -- The graph of pushed nodes without their tree: a walk from the first node to the last gives numbers and bodies, and a walk from the last to the first gives children and operands.
-use Rattle.std.specs.Prelude.{◌≡◌, ℕ, suc, ◌+◌, List, [], ◌∷◌, ◌++◌, map, take, drop, sum, replicate, Option, None, All}
-use Rattle.action_terms.specs.Labels.{Label, ActionNode, YielderNode, operand_lengths}
+use Rattle.std.specs.Prelude.{◌≡◌, ℕ, suc, List, [], ◌∷◌, ◌++◌, length, map, take, drop, sum, replicate, Option, None, All}
+use Rattle.action_terms.specs.Labels.{Label, ActionNode, YielderNode, operand_lengths, under_action, under_yielder, under}
 use Rattle.action_terms.specs.Numbering.{ListedNode, ListedYielder, pieces, children_of, body_of, around_parts, closure_body, around_arguments, stray, KindFits}
 use Rattle.action_terms.specs.Nodes.{listed_node, listed_yielder}
+use Rattle.action_terms.specs.Places.{actions_wanted, yielders_wanted}
 use Rattle.action_terms.specs.Pushed.{label_of}
 use Rattle.action_terms.specs.declared.bodies.Entered.{Entered}
 use Rattle.action_terms.specs.declared.linking.Linker.{Linker}
 use Rattle.action_terms.specs.declared.pushed.Pushed.{Pushed}
 use Rattle.action_terms.specs.declared.kinds.Kind.{Kind}
-use Rattle.action_terms.specs.declared.kinds.Kind.TheVariants as kind
 use Rattle.action_terms.specs.declared.kinds.YKind.{YKind}
-use Rattle.action_terms.specs.declared.kinds.YKind.TheVariants as ykind
 
 -- a pushed node, its number among its own sort of node, and its body
 pub record Entry : Type 0 where
@@ -23,38 +22,14 @@ entry_of e = record { label = label_of e.node; number = e.number; body = e.body 
 
 -- how many actions stand under an action node, and under a yielder
 abbrev pub part_count : Kind → ℕ
-part_count kind.Unfolding = 1
-part_count kind.Furthermore = 1
-part_count kind.Or = 2
-part_count kind.And = 2
-part_count kind.AndThen = 2
-part_count kind.Then = 2
-part_count kind.Trap = 2
-part_count kind.Hence = 2
-part_count kind.Moreover = 2
-part_count kind.Before = 2
-part_count kind.Branch = 2
-part_count _ = 0
+part_count k = actions_wanted (under_action k 0)
 
 abbrev pub closure_count : YKind → ℕ
-closure_count ykind.Closure = 1
-closure_count _ = 0
+closure_count k = actions_wanted (under_yielder k)
 
 -- how many yielders stand under a yielder
 abbrev pub argument_count : YKind → ℕ
-argument_count (ykind.Stored s) = 1
-argument_count ykind.Sum = 2
-argument_count ykind.Difference = 2
-argument_count ykind.Product = 2
-argument_count ykind.Quotient = 2
-argument_count ykind.Remainder = 2
-argument_count ykind.Negation = 1
-argument_count ykind.Is = 2
-argument_count ykind.Less = 2
-argument_count ykind.Not = 1
-argument_count ykind.Both = 2
-argument_count ykind.Either = 2
-argument_count _ = 0
+argument_count k = yielders_wanted (under_yielder k)
 
 -- how many actions, and how many yielders, stand under a node
 abbrev pub action_places : Label → ℕ
@@ -95,7 +70,7 @@ next_yielder (ActionNode k n t) y = y
 next_yielder (YielderNode k t) y = suc y
 
 abbrev pub around_next : Label → ℕ → List (Option ℕ) → List (Option ℕ)
-around_next l a around = replicate (action_places l + yielder_places l) (around_under l a (innermost around)) ++ drop 1 around
+around_next l a around = replicate (length (under l)) (around_under l a (innermost around)) ++ drop 1 around
 
 -- the entry of a label that comes next
 abbrev pub next_entry : Label → (a y : ℕ) → List (Option ℕ) → Entry

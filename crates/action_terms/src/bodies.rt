@@ -1,13 +1,13 @@
 //! The numbers of pushed nodes, the bodies that they name, and stray `unfold` nodes.
 ghost use Rattle.std.specs.Prelude.{◌≡◌, ℕ, ◌+◌, ◌<◌, ◌≤◌, ◌^◌, List, [], ◌∷◌, ◌++◌, None, Some, IfOk, OnOk, OnErr, IsErrOf, IsTrue, ◌↔◌, length, map, drop, replicate, slice_get, sum, option_to_list, if◌then◌else◌};
-ghost use Rattle.action_terms.specs.Labels.{operand_lengths};
 ghost use Rattle.action_terms.specs.Numbering.{node_limit};
 ghost use Rattle.action_terms.specs.Pushed.{label_of};
-ghost use Rattle.action_terms.specs.Entries.{entry_of, next_entry, entries, strays_in, strays_at, innermost, number_at, next_action, next_yielder, body_at, around_under, around_next, action_places, yielder_places, part_count, closure_count, argument_count};
+ghost use Rattle.action_terms.specs.Entries.{entry_of, next_entry, entries, strays_in, strays_at, innermost, number_at, next_action, next_yielder, body_at, around_under, around_next};
 
 use crate::graph::GraphError;
 use crate::kinds::{Kind, YKind};
 use crate::pushed::Pushed;
+use crate::under::parts_of;
 use std::alloc::{AllocError, Global};
 use std::collections::VecDeque;
 
@@ -20,84 +20,6 @@ pub struct Entered<'a> {
     pub number: u32,
     /// The root of its body, or 0.
     pub body: u32,
-}
-
-/// How many actions stand under an action node, the body of an `unfolding` among them.
-pub fn part_count(kind: Kind) -> u32
-    ensures { result ≡ part_count kind }
-{
-    match kind {
-        Kind::Unfolding | Kind::Furthermore => 1,
-        Kind::Or
-        | Kind::And
-        | Kind::AndThen
-        | Kind::Then
-        | Kind::Trap
-        | Kind::Hence
-        | Kind::Moreover
-        | Kind::Before
-        | Kind::Branch => 2,
-        _ => 0,
-    }
-}
-
-/// How many yielders stand under a yielder.
-pub fn argument_count(kind: YKind) -> u32
-    ensures { result ≡ argument_count kind }
-{
-    match kind {
-        YKind::Stored { sort: _ } | YKind::Negation | YKind::Not => 1,
-        YKind::Sum
-        | YKind::Difference
-        | YKind::Product
-        | YKind::Quotient
-        | YKind::Remainder
-        | YKind::Is
-        | YKind::Less
-        | YKind::Both
-        | YKind::Either => 2,
-        _ => 0,
-    }
-}
-
-/// How many actions stand under a yielder: the body of a closure.
-pub fn closure_count(kind: YKind) -> u32
-    ensures { result ≡ closure_count kind }
-{
-    match kind {
-        YKind::Closure => 1,
-        _ => 0,
-    }
-}
-
-/// How many items the first and the second operand of a node have, so far as it has two.
-pub fn operand_lengths(kind: Kind, items: u32) -> (Option<u32>, Option<u32>)
-    ensures { option_to_list result.0 ++ option_to_list result.1 ≡ operand_lengths kind items }
-{
-    match kind {
-        Kind::Give | Kind::EscapeWith => (Some(items), None),
-        Kind::Check | Kind::Bind | Kind::BindRec | Kind::Send | Kind::Enact | Kind::Branch => {
-            (Some(1), None)
-        }
-        Kind::Store => (Some(1), Some(1)),
-        Kind::Apply => (Some(1), Some(items)),
-        _ => (None, None),
-    }
-}
-
-// how many trees stand under a node
-fn places_under(node: Pushed<'_>) -> u64
-    ensures { result
-        ≡ action_places (label_of node.entry) + yielder_places (label_of node.entry) }
-{
-    match node {
-        Pushed::Action(new) => {
-            let (first, second) = operand_lengths(new.kind, new.items);
-            let operands = first.unwrap_or(0) as u64 + second.unwrap_or(0) as u64;
-            part_count(new.kind) as u64 + operands
-        }
-        Pushed::Yielder(new) => closure_count(new.kind) as u64 + argument_count(new.kind) as u64,
-    }
 }
 
 // the innermost `unfolding` around the parts of a node, by the root of its body
@@ -157,7 +79,7 @@ fn take_around(contexts: &mut VecDeque<Option<u32>>) -> Option<u32>
 fn put_around(
     contexts: &mut VecDeque<Option<u32>>,
     around: Option<u32>,
-    count: u64,
+    count: usize,
 ) -> Result<(), AllocError>
     ensures { OnOk result (contexts.new.items ≡ replicate count around ++ contexts.old.items) }
 {
@@ -235,7 +157,7 @@ impl Walk {
             body: body_at(node, self.action, around),
         };
         let below = around_under(node, self.action, around);
-        put_around(&mut self.contexts, below, places_under(node))?;
+        put_around(&mut self.contexts, below, parts_of(node).count())?;
         self.action = next_action(node, self.action);
         self.yielder = next_yielder(node, self.yielder);
         Ok(entered)

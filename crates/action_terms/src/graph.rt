@@ -1,5 +1,5 @@
 //! A graph: the nodes of one action by number, in an arena.
-ghost use Rattle.std.specs.Prelude.{◌≡◌, map, All};
+ghost use Rattle.std.specs.Prelude.{◌≡◌, length, map, All};
 ghost use Rattle.action_terms.specs.Nodes.{listed_node, listed_yielder, listed_graph};
 ghost use Rattle.action_terms.specs.Numbering.{IsGraph, KindFits};
 ghost use Rattle.action_terms.specs.Meaning.{action_of};
@@ -68,6 +68,27 @@ impl<'a> Graph<'a> {
         ensures { result ≡ listed_graph nodes.now yielders.now }
     {
         Graph { nodes, yielders }
+    }
+
+    /// The same graph once more. Its lists stay where they are.
+    pub fn share(&self) -> Graph<'a>
+        ensures { result ≡ self.now }
+    {
+        Graph::of_lists(self.nodes(), self.yielders())
+    }
+
+    /// How many action nodes it has.
+    pub fn node_count(&self) -> usize
+        ensures { result ≡ length self.now.nodes }
+    {
+        self.nodes.len()
+    }
+
+    /// How many yielders it has.
+    pub fn yielder_count(&self) -> usize
+        ensures { result ≡ length self.now.yielders }
+    {
+        self.yielders.len()
     }
 
     /// Its action nodes, in preorder. The root is the first.

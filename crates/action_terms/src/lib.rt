@@ -9,6 +9,7 @@ pub mod kinds;
 mod linking;
 mod places;
 pub mod pushed;
+pub mod under;
 pub mod view;
 
 pub use builder::GraphBuilder;

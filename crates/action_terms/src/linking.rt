@@ -4,10 +4,11 @@ ghost use Rattle.action_terms.specs.Labels.{operand_lengths};
 ghost use Rattle.action_terms.specs.Numbering.{pieces, children_of};
 ghost use Rattle.action_terms.specs.Entries.{entry_of, part_count, closure_count, argument_count, Links, LinksNode};
 
-use crate::bodies::{Entered, argument_count, closure_count, operand_lengths, part_count};
+use crate::bodies::Entered;
 use crate::graph::{Node, YNode};
 use crate::kinds::Kind;
 use crate::pushed::{NewAction, NewYielder, Pushed};
+use crate::under::{parts_of_action, parts_of_yielder};
 use bumpalo::Bump;
 use bumpalo::collections::into_bump_slice;
 use std::alloc::{AllocError, Global};
@@ -44,7 +45,7 @@ fn take_root(roots: &mut VecDeque<u32>, taken: &mut Vec<u32, &Bump>) -> Result<(
 fn take_roots<'a>(
     arena: &'a Bump,
     roots: &mut VecDeque<u32>,
-    count: u32,
+    count: usize,
 ) -> Result<&'a [u32], AllocError>
     ensures taken { IfOk result (λ r. r.now ≡ take count roots.old.items) }
     ensures left { OnOk result (roots.new.items ≡ drop count roots.old.items) }
@@ -69,7 +70,7 @@ fn take_operand<'a>(
         (roots.new.items ≡ drop (sum (option_to_list length)) roots.old.items) }
 {
     if let Some(count) = length {
-        operands.push(take_roots(arena, roots, count)?)?;
+        operands.push(take_roots(arena, roots, count as usize)?)?;
     }
     Ok(())
 }
@@ -87,7 +88,7 @@ fn take_operands<'a>(
     ensures left { OnOk result
         (roots.new.items ≡ drop (sum (operand_lengths kind items)) roots.old.items) }
 {
-    let (first, second) = operand_lengths(kind, items);
+    let (first, second) = parts_of_action(kind, items).operands();
     let mut operands = Vec::new(arena);
     take_operand(arena, roots, first, &mut operands)?;
     take_operand(arena, roots, second, &mut operands)?;
@@ -104,7 +105,7 @@ fn take_children<'a>(
         (λ r. r.now ≡ children_of kind (take (part_count kind) roots.old.items)) }
     ensures left { OnOk result (roots.new.items ≡ drop (part_count kind) roots.old.items) }
 {
-    let parts = take_roots(arena, roots, part_count(kind))?;
+    let parts = take_roots(arena, roots, parts_of_action(kind, 0).actions())?;
     match kind {
         Kind::Unfolding => Ok(&[]),
         _ => Ok(parts),
@@ -168,12 +169,9 @@ impl<'a> Linker<'a> {
         ensures { OnOk result
             (LinksNode (Pushed.Yielder new.entry) number body self.old self.new) }
     {
-        let children = take_roots(
-            self.arena,
-            &mut self.yielder_roots,
-            argument_count(new.kind),
-        )?;
-        if closure_count(new.kind) > 0 {
+        let under = parts_of_yielder(new.kind);
+        let children = take_roots(self.arena, &mut self.yielder_roots, under.yielders())?;
+        if under.actions() > 0 {
             let _body = self.action_roots.pop_front();
         }
         self.yielders.push_front(YNode {

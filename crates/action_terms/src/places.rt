@@ -1,30 +1,18 @@
 //! The places that are still wanted while nodes are pushed, and which node may stand in one.
 ghost use Rattle.std.specs.Prelude.{◌≡◌, ◌+◌, ◌≤◌, List, [], ◌∷◌, ◌++◌, MatchOption, IfOk, OnOk, OnErr, vec_len, vec_capacity, false, if◌then◌else◌};
 ghost use Rattle.std.specs.List.{list_all};
-ghost use Rattle.action_terms.specs.Labels.{Label, AnAction, is_token_byte, is_token, has_no_token, token_fits, items_fit, yielder_fits, is_datum, is_closure, serves, copies, under_action, under_yielder, under};
+ghost use Rattle.action_terms.specs.Labels.{Label, AnAction, is_token_byte, is_token, has_no_token, token_fits, items_fit, yielder_fits, is_datum, is_closure, serves, under};
 ghost use Rattle.action_terms.specs.Pushed.{label_of};
-ghost use Rattle.action_terms.specs.Places.{fills, wanted_by, places_of, wanted_on, expects};
+ghost use Rattle.action_terms.specs.Places.{fills, wanted_by, places_of, run_of, wanted_on, expects};
 
 use crate::kinds::{Kind, YKind};
 use crate::pushed::Pushed;
+use crate::under::{Place, Places, parts_of};
 use std::alloc::{AllocError, Global};
 
-/// What may stand in a place under a node.
+/// A place, and places of the same sort that follow it.
 #[derive(Clone, Copy, Debug, PartialEq, Eq)]
-pub enum Place {
-    /// An action.
-    Action,
-    /// One datum.
-    Yielder,
-    /// An item of data: one datum, or `them`.
-    Item,
-    /// A closure.
-    Closure,
-}
-
-/// Places of one sort that follow one another.
-#[derive(Clone, Copy, Debug, PartialEq, Eq)]
-pub struct Places {
+pub struct Run {
     /// What may stand in each.
     pub place: Place,
     /// How many follow the first.
@@ -35,7 +23,7 @@ pub struct Places {
 #[derive(Drop)]
 pub struct Expected {
     // the places that are wanted, the first of them last
-    places: Vec<Places>,
+    places: Vec<Run>,
     // whether each node so far could stand in its place
     fits: bool,
 }
@@ -107,85 +95,21 @@ pub fn serves(place: Place, node: Pushed<'_>) -> bool
     }
 }
 
-// so many places of one sort
-fn several(place: Place, count: u32) -> Option<Places>
-    ensures { places_of result ≡ copies count (wanted_by place) }
+// the places, if they are any
+fn run_of(places: Option<Places>) -> Option<Run>
+    ensures { run_of result ≡ places_of places }
 {
-    if count == 0 {
-        return None;
-    }
-    Some(Places {
-        place,
-        more: count - 1,
-    })
-}
-
-fn under_action(kind: Kind, items: u32) -> (Option<Places>, Option<Places>)
-    ensures { places_of result.0 ++ places_of result.1 ≡ under_action kind items }
-{
-    match kind {
-        Kind::Give | Kind::EscapeWith => (several(Place::Item, items), None),
-        Kind::Check | Kind::Bind | Kind::Send | Kind::Enact => (several(Place::Yielder, 1), None),
-        Kind::BindRec => (several(Place::Closure, 1), None),
-        Kind::Store => (several(Place::Yielder, 2), None),
-        Kind::Apply => (several(Place::Yielder, 1), several(Place::Item, items)),
-        Kind::Unfolding | Kind::Furthermore => (several(Place::Action, 1), None),
-        Kind::Or
-        | Kind::And
-        | Kind::AndThen
-        | Kind::Then
-        | Kind::Trap
-        | Kind::Hence
-        | Kind::Moreover
-        | Kind::Before => (several(Place::Action, 2), None),
-        Kind::Branch => (several(Place::Yielder, 1), several(Place::Action, 2)),
-        Kind::Complete
-        | Kind::Fail
-        | Kind::Escape
-        | Kind::Commit
-        | Kind::Regive
-        | Kind::Rebind
-        | Kind::Allocate
-        | Kind::Receive
-        | Kind::Unfold => (None, None),
-    }
-}
-
-fn under_yielder(kind: YKind) -> Option<Places>
-    ensures { places_of result ≡ under_yielder kind }
-{
-    match kind {
-        YKind::Stored { sort: _ } | YKind::Negation | YKind::Not => several(Place::Yielder, 1),
-        YKind::Sum
-        | YKind::Difference
-        | YKind::Product
-        | YKind::Quotient
-        | YKind::Remainder
-        | YKind::Is
-        | YKind::Less
-        | YKind::Both
-        | YKind::Either => several(Place::Yielder, 2),
-        YKind::Closure => several(Place::Action, 1),
-        YKind::Number(_)
-        | YKind::Truth(_)
-        | YKind::Them
-        | YKind::Given { sort: _, place: _ }
-        | YKind::Bound { sort: _ } => None,
-    }
-}
-
-// the places under a node, in the order of the text
-fn under(node: Pushed<'_>) -> (Option<Places>, Option<Places>)
-    ensures { places_of result.0 ++ places_of result.1 ≡ under (label_of node.entry) }
-{
-    match node {
-        Pushed::Action(new) => under_action(new.kind, new.items),
-        Pushed::Yielder(new) => (under_yielder(new.kind), None),
+    match places {
+        Some(group) if group.count > 0 => Some(Run {
+            place: group.place,
+            more: group.count - 1,
+        }),
+        _ => None,
     }
 }
 
 // takes the first place off the stack, whose last places come first
-fn take_place(stack: &mut Vec<Places>) -> Option<Place>
+fn take_place(stack: &mut Vec<Run>) -> Option<Place>
     ensures first { MatchOption result (wanted_on stack.old.items ≡ [])
         (λ place. wanted_on stack.old.items ≡ wanted_by place ∷ wanted_on stack.new.items) }
     ensures room { vec_capacity stack.new ≡ vec_capacity stack.old }
@@ -195,7 +119,7 @@ fn take_place(stack: &mut Vec<Places>) -> Option<Place>
         return None;
     };
     if top.more > 0 {
-        let rest = Places {
+        let rest = Run {
             place: top.place,
             more: top.more - 1,
         };
@@ -205,7 +129,7 @@ fn take_place(stack: &mut Vec<Places>) -> Option<Place>
 }
 
 // puts the node in the first place, and wants what stands under it
-fn fill_place(stack: &mut Vec<Places>, node: Pushed<'_>) -> bool
+fn fill_place(stack: &mut Vec<Run>, node: Pushed<'_>) -> bool
     requires { vec_len stack.old + 2 ≤ vec_capacity stack.old }
     ensures { (more : List Label)
         → (if result then fills (wanted_on stack.new.items) more else false)
@@ -217,12 +141,12 @@ fn fill_place(stack: &mut Vec<Places>, node: Pushed<'_>) -> bool
     if !serves(place, node) {
         return false;
     }
-    let (first, second) = under(node);
-    if let Some(places) = second {
-        stack.push_reserved(places);
+    let under = parts_of(node);
+    if let Some(second) = run_of(under.second) {
+        stack.push_reserved(second);
     }
-    if let Some(places) = first {
-        stack.push_reserved(places);
+    if let Some(first) = run_of(under.first) {
+        stack.push_reserved(first);
     }
     true
 }
@@ -234,7 +158,7 @@ impl Expected {
             (λ e. (more : List Label) → expects e more ≡ fills (AnAction ∷ []) more) }
     {
         let mut places = Vec::with_capacity(alloc, 8)?;
-        places.push(Places {
+        places.push(Run {
             place: Place::Action,
             more: 0,
         })?;
