@@ -16,7 +16,7 @@ use Rattle.action_terms.specs.declared.kinds.YKind.TheVariants as ykind
 use Rattle.action_text.specs.Shapes.{Piece, Fixed, Numeral, Quoted, Part, shape, items, more_items, operator, operator_of, open_paren, close_paren}
 use Rattle.action_text.specs.ActionText.{IsPlain, IsChain, ArePartsOf, IsPart, IsOperand, IsActionText, Weaves, label_of, Spells}
 use Rattle.action_text.specs.Canonical.{printed_shape, woven, is_some_word, is_operator, same_words, plain_tokens, chain_tokens, operand_tokens, action_tokens, IsReadableLabel, IsReadable, AreReadable}
-use Rattle.action_text.proofs.PreorderWalk.{length-copies}
+use Rattle.action_terms.proofs.PlacesLemmas.{length-copies}
 use Rattle.action_text.proofs.Words.{same_is}
 
 -- how many parts the pieces have

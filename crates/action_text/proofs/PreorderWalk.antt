@@ -5,17 +5,13 @@ use Rattle.meta_terms.specs.Nodes.{label_of}
 use Rattle.meta_terms.specs.declared.template.TemplateNode.{TemplateNode}
 use Rattle.std.proofs.lemmas.Bool.Decides.{eqb_tells}
 use Rattle.std.proofs.lemmas.List.{reverse-append, map-append, get_or_append_left}
-use Rattle.action_terms.specs.Labels.{Wanted, AnAction, copies}
+use Rattle.action_terms.specs.Labels.{Wanted, AnAction}
 use Rattle.meta_terms.specs.Templates.{Label, under, Tree, Trees, Is, Are, IsAction}
 use Rattle.action_terms.specs.Trees.{TreeOf, TreesOf, tree, none, more, preorder, preorders}
 use Rattle.action_text.specs.Posts.{postorder, postorders}
 use Rattle.action_text.specs.Sizes.{step_back, start_back, tree_ends, AreSizes}
 use Rattle.action_text.proofs.OneTree.{count_of}
 use Rattle.action_text.proofs.TreeSizes.{tree_ends_last, start_front, trees_begin, under_count, label_at, inside, regroup}
-
-pub length-copies : (n : ℕ) (x : Wanted) → length (copies n x) ≡ n
-length-copies zero x = refl
-length-copies (suc n) x = ap suc (length-copies n x)
 
 -- the tree ends before the place
 pub record EndsAt (L : List Label) (end : ℕ) (t : Tree) : Type 0 where

@@ -1,70 +1,24 @@
 //! From labels in postorder to labels in preorder, in linear time and without recursion.
 ghost use Rattle.std.specs.Prelude.{◌≡◌, ◌≤◌, ◌++◌, length, map, IfOk, OnOk};
-ghost use Rattle.action_terms.specs.Labels.{under_action, under_yielder};
 ghost use Rattle.meta_terms.specs.Templates.{under};
 ghost use Rattle.meta_terms.specs.Nodes.{label_of};
 ghost use Rattle.action_text.specs.Sizes.{step_back, start_back, tree_ends, AreSizes, IsPostorder, IsReordered};
 
-use action_terms::kinds::{Kind, YKind};
+use action_terms::under::{parts_of_action, parts_of_yielder};
 use meta_terms::TemplateNode;
 use std::alloc::{AllocError, Global};
-
-// How many trees stand under an action node.
-fn action_parts(kind: Kind, items: u32) -> usize
-    ensures { result ≡ length (under_action kind items) }
-{
-    match kind {
-        Kind::Give | Kind::EscapeWith => items as usize,
-        Kind::Apply => items as usize + 1,
-        Kind::Check
-        | Kind::Bind
-        | Kind::BindRec
-        | Kind::Send
-        | Kind::Enact
-        | Kind::Unfolding
-        | Kind::Furthermore => 1,
-        Kind::Store
-        | Kind::Or
-        | Kind::And
-        | Kind::AndThen
-        | Kind::Then
-        | Kind::Trap
-        | Kind::Hence
-        | Kind::Moreover
-        | Kind::Before => 2,
-        Kind::Branch => 3,
-        _ => 0,
-    }
-}
-
-// How many trees stand under a yielder.
-fn yielder_parts(kind: YKind) -> usize
-    ensures { result ≡ length (under_yielder kind) }
-{
-    match kind {
-        YKind::Stored { .. } | YKind::Negation | YKind::Not | YKind::Closure => 1,
-        YKind::Sum
-        | YKind::Difference
-        | YKind::Product
-        | YKind::Quotient
-        | YKind::Remainder
-        | YKind::Is
-        | YKind::Less
-        | YKind::Both
-        | YKind::Either => 2,
-        _ => 0,
-    }
-}
 
 // How many trees stand under a node.
 fn part_count(label: TemplateNode<'_>) -> usize
     ensures { result ≡ length (under (label_of label.entry)) }
 {
     match label {
-        TemplateNode::Action(node) => action_parts(node.kind, node.items),
-        TemplateNode::Yielder(node) => yielder_parts(node.kind),
-        TemplateNode::ActionTokenOf { node, .. } => action_parts(node.kind, node.items),
-        TemplateNode::YielderTokenOf { node, .. } => yielder_parts(node.kind),
+        TemplateNode::Action(node) => parts_of_action(node.kind, node.items).count(),
+        TemplateNode::Yielder(node) => parts_of_yielder(node.kind).count(),
+        TemplateNode::ActionTokenOf { node, .. } => {
+            parts_of_action(node.kind, node.items).count()
+        }
+        TemplateNode::YielderTokenOf { node, .. } => parts_of_yielder(node.kind).count(),
         TemplateNode::Apply { .. } | TemplateNode::ValueOf { .. } => 0,
     }
 }
