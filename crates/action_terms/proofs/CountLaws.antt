@@ -1,5 +1,5 @@
 -- How many yielders the nodes of a graph have together: no more than the graph has.
-use Rattle.std.proofs.Common.{◌≡◌, ℕ, zero, suc, ◌+◌, ◌≤◌, List, [], ◌∷◌, ◌++◌, length, map, take, drop, Option, None, append-nil, sum_by, refl, sym, ap, ◌∙◌, subst, arith, append_assoc, length-append}
+use Rattle.std.proofs.Common.{◌≡◌, ℕ, zero, suc, ◌+◌, ◌≤◌, List, [], ◌∷◌, ◌++◌, length, map, take, drop, Option, None, append-nil, sum_by, refl, sym, ap, ◌∙◌, arith, append_assoc, length-append}
 use Rattle.std.proofs.lemmas.List.Sums.{sum_by-cons}
 use Rattle.action_terms.specs.Labels.{ActionNode, YielderNode, operand_lengths}
 use Rattle.action_terms.specs.Trees.{Tree, tree, Trees, none, more}
