@@ -2,7 +2,7 @@
 use Rattle.std.proofs.Common.{◌≡◌, ℕ, zero, suc, ◌+◌, ◌*◌, ◌<◌, ◌≤◌, List, [], ◌∷◌, ◌++◌}
 use Rattle.rv_asm.specs.Assembly.{address_of}
 use Rattle.rv_asm.specs.DataWords.{Heap}
-use Rattle.action_terms.specs.Information.{Binds, Data}
+use Rattle.action_terms.specs.Information.{Token, Binds, Data}
 use Rattle.action_terms.specs.Actions.{Join, Chain, Furthermore, Both, Phases, Either, Trapping, node_at}
 use Rattle.action_terms.specs.Acting.{Done, Tree, Run, Ended}
 use Rattle.action_terms.specs.Frames.{Frame, InCalled, InParLeft, InParRight, InFirst, InSecond, InOr, InCut, InTrap, InOver, InTail}
@@ -39,7 +39,7 @@ module _ (s : Setting) where
     -- the first words of the frame of a body that is called keep where it returns to
     pub low : (k x : ℕ) → s.places.Writes k x → x < frame_words s k → 32 ≤ x
     pub some_frame : (n c : ℕ) → s.procedures.calls n c → 32 ≤ frame_words s c
-    pub keep_apart : (n k i : ℕ) → KeepsRecord (node_at s.action n) → IsPartOf (node_at s.action n) k → i < 8 → s.places.Writes k (s.places.keep n + i) → ⊥
+    pub keep_apart : s.Opens → (n k i : ℕ) → KeepsRecord (node_at s.action n) → IsPartOf (node_at s.action n) k → i < 8 → s.places.Writes k (s.places.keep n + i) → ⊥
 
   -- node n performs first its part l, then its part r
   pub record InOrder (n l r : ℕ) : Type 0 where
@@ -117,6 +117,7 @@ module _ (s : Setting) where
       pub binds : BindsLeft f l b1
 
     pub record OrFrame (f k k2 n : ℕ) (now before : Chains) (d : Data) (b : Binds) : Type 0 where
+      pub opens : s.Opens
       pub node : node_at s.action n ≡ Either k k2
       pub given : Given f n d
       pub receives : Receives f n b
@@ -124,13 +125,27 @@ module _ (s : Setting) where
       pub same : record now { alternative = before.alternative } ≡ before
       pub kept : Kept words n f before (front s k2)
 
+    pub record CutFrame (k n : ℕ) : Type 0 where
+      pub opens : s.Opens
+      pub r : ℕ
+      pub node : node_at s.action n ≡ Either k r
+
     pub record TrapFrame (f k n : ℕ) (now before : Chains) (b : Binds) : Type 0 where
+      pub opens : s.Opens
       pub r : ℕ
       pub node : node_at s.action n ≡ Trapping k r
       pub receives : Receives f n b
       pub at : now.trap ≡ s.base + 8 * (f + s.places.keep n)
       pub kept : Kept words n f before (front s r)
       pub chain : now.alternative ≡ left_open now.mark before.alternative
+
+    -- the node has completed where its tail has, with what the tail leaves
+    pub record TailFrame (k n : ℕ) : Type 0 where
+      pub tail : IsTailOf (node_at s.action n) k
+      pub exit_is : exit s k ≡ exit s n
+      pub ends : s.places.out n ≡ s.places.out k
+      pub ends_bound : s.places.bound_out n ≡ s.places.bound_out k
+      pub table : (t : Token) → s.places.BindsAt k t → s.places.BindsAt n t
 
     pub record OverFrame (f k n : ℕ) (b : Binds) : Type 0 where
       pub node : node_at s.action n ≡ Furthermore k
@@ -153,8 +168,8 @@ module _ (s : Setting) where
     Around (InFirst n d b ∷ fs) f k c = FirstFrame f n k d b × Around fs f n c
     Around (InSecond n d b ∷ fs) f k c = SecondFrame f n k d b × Around fs f n c
     Around (InOr k2 d b ∷ fs) f k c = (n : ℕ) × (before : Chains) × OrFrame f k k2 n c before d b × Around fs f n before
-    Around (InCut ∷ fs) f k c = (n : ℕ) × (r : ℕ) × (node_at s.action n ≡ Either k r) × (c.alternative ≡ 0) × Around fs f n c
+    Around (InCut ∷ fs) f k c = (n : ℕ) × CutFrame k n × (c.alternative ≡ 0) × Around fs f n c
     Around (InTrap n b ∷ fs) f k c = (before : Chains) × TrapFrame f k n c before b × Around fs f n (record { alternative = c.alternative; trap = before.trap; mark = either_mark c.mark before.mark })
-    Around (InTail n ∷ fs) f k c = IsTailOf (node_at s.action n) k × Around fs f n c
+    Around (InTail n ∷ fs) f k c = TailFrame k n × Around fs f n c
     Around (InCalled c' ∷ fs) f k c = (n : ℕ) × (up : ℕ) × CalledFrame c' up f k n × Around fs up n c
     Around (InOver b ∷ fs) f k c = (n : ℕ) × OverFrame f k n b × Around fs f n c

@@ -9,7 +9,7 @@ use Rattle.rv_asm.specs.Pieces.{exit_with}
 use Rattle.rv_asm.specs.WordMachine.{Has}
 use Rattle.rv_asm.proofs.Labels.{length-code}
 use Rattle.rv_asm.proofs.Regions.{compiled-below}
-use Rattle.action_terms.specs.Actions.{And, AndThen, Complete, Join, Chain, Then, Hence, Before, Moreover, Node, Simple, Both, Phases, Either, Trapping, Action, node_at, node_or_stray}
+use Rattle.action_terms.specs.Actions.{Complete, Join, Chain, Then, Node, Simple, Both, Phases, Stray, Action, node_at, node_or_stray}
 use Rattle.action_terms.specs.Literals.{NumbersFit}
 use Rattle.action_terms.specs.Need.{node_yielder_count}
 use Rattle.rv_codegen.specs.Blocks.{first_label, start_of, exits_of, action_items, opening, goes, body}
@@ -17,11 +17,12 @@ use Rattle.rv_codegen.specs.RightImage.{Subject}
 use Rattle.rv_codegen.specs.Works.{is_built_node}
 use Rattle.rv_codegen.proofs.Around.{IsPlaced, InOrder}
 use Rattle.rv_codegen.proofs.ExitLaws.{HasTree, PartExits, both-exits, phases-exits, root-exit}
-use Rattle.rv_codegen.proofs.NodeParts.{IsNode, IsPartOf, KeepsRecord, part-node}
-use Rattle.rv_codegen.proofs.RestPoints.{LaidPhases, LaidBoth}
-use Rattle.rv_codegen.proofs.Settings.{Way, DataPlaces, Procedures, Bodies, Setting, code, front, start}
+use Rattle.rv_codegen.proofs.NodeParts.{IsNode, IsPartOf, part-node}
+use Rattle.rv_codegen.proofs.RestPoints.{PhasePlaces, LaidPhases, LaidBoth}
+use Rattle.rv_codegen.proofs.Settings.{Way, DataPlaces, Procedures, Bodies, Setting, code, point, front, start}
 use Rattle.rv_codegen.proofs.Standing.{Stood, NodeStands, opens, action-stands}
 use Rattle.rv_codegen.proofs.Turns.{Compiled}
+use Rattle.rv_codegen.proofs.Unbound.{no_slots, NoTokens, joins-none, chains-none}
 use Rattle.rv_codegen.proofs.Walk.{Cursor, way-stands}
 
 -- an action whose nodes have code and make a tree
@@ -39,20 +40,13 @@ there (Some n) h = refl
 there None h = absurd h
 
 built-node : (n : Node) → is_built_node n ≡ true → IsNode n
-built-node (Simple p) h = tt
-built-node (Both j l r) h = tt
-built-node (Phases q l r) h = tt
-built-node _ h = absurd (let r : false ≡ true = h in cc)
-
-keeps-unbuilt : (n : Node) → KeepsRecord n → IsNode n × (is_built_node n ≡ false)
-keeps-unbuilt (Either l r) h = (tt, refl)
-keeps-unbuilt (Trapping l r) h = (tt, refl)
-keeps-unbuilt _ h = absurd h
+built-node Stray h = absurd (let r : false ≡ true = h in cc)
+built-node _ h = tt
 
 -- ---- no data, no bindings, no bodies
 
 abbrev empty_places : DataPlaces
-empty_places = record { given = λ k. []; out = λ k. []; bound = λ k. []; bound_out = λ k. []; BindsAt = λ k t. ⊥; Writes = λ k x. Unit {0}; keep = λ k. 0 }
+empty_places = record { given = λ k. []; out = λ k. []; bound = no_slots; bound_out = no_slots; BindsAt = NoTokens; Writes = λ k x. Unit {0}; keep = λ k. 0 }
 
 abbrev one_procedure : Procedures
 one_procedure = record { root_of = λ k. 0; words = λ r. 0; calls = λ n c. ⊥ }
@@ -121,15 +115,14 @@ module _ (x : Subject) (ok : IsCompilable x.action) (labels : LabelsStand (actio
   start-leads : (k l : ℕ) (n : Node) → IsNode n → NodeStands s.items s.exits k n → k < length x.action → body k (get_or s.exits k 0) n ≡ goes (start_of (suc k)) (start_of l) → Way (code s) (start s k) (start s l)
   start-leads k l n there stands lt is =
       let c = subst (λ b. Cursor s.items stands.place (b ++ (opening (suc k) ++ stands.behind))) is stands.opened.cursor in
-      subst (λ m. Way (code s) (record { place = m; rank = s.labels - start_of k }) (start s l)) (sym stands.opened.start)
-      (way-stands s.items stands.place (s.labels - start_of k) (start_of (suc k)) (start_of l) (opening (suc k) ++ stands.behind) (λ j. s.labels - j) c (λ c'. (opens s.items labels (suc k) stands.place stands.behind c').start) (omega (arith, lt)))
+      way-stands s stands.place (start_of k) (start_of (suc k)) (start_of l) (opening (suc k) ++ stands.behind) stands.opened.start c (λ c'. (opens s.items labels (suc k) stands.place stands.behind c').start) (omega (arith, lt))
 
   in-order : (k l r : ℕ) → IsNode (node_at x.action r) → Way (code s) (start s k) (start s l) → PartExits x.action ok.tree k l r → InOrder s k l r
   in-order k l r there enter exits = record {
     enter = enter;
-    first_exit = ap (λ i. record { place = spot s.items i; rank = s.labels - i }) exits.first;
+    first_exit = ap (point s) exits.first;
     turn = front-leads r there;
-    second_exit = ap (λ i. record { place = spot s.items i; rank = s.labels - i }) exits.second;
+    second_exit = ap (point s) exits.second;
     stays = tt;
     stays_bound = tt;
   }
@@ -137,42 +130,38 @@ module _ (x : Subject) (ok : IsCompilable x.action) (labels : LabelsStand (actio
   node-there : (k : ℕ) (n : Node) → node_at x.action k ≡ n → IsNode n → slice_get x.action k ≡ Some n
   node-there k n e h = here k (subst IsNode (sym e) h) ∙ ap Some e
 
-  unbuilt : (k : ℕ) (n : Node) → node_at x.action k ≡ n → IsNode n → is_built_node n ≡ false → ⊥
-  unbuilt k n e there not = let r : true ≡ false = sym (ok.built k n (node-there k n e there)) ∙ not in cc
+  -- the parts of a node with two parts are performed in order
+  parts-in-order : (k l r : ℕ) (n : Node) → node_at x.action k ≡ n → IsNode n → IsPartOf n r → body k (get_or s.exits k 0) n ≡ goes (start_of (suc k)) (start_of l) → PartExits x.action ok.tree k l r → InOrder s k l r
+  parts-in-order k l r n e some part is exits =
+      let there : IsNode (node_at x.action k) = subst IsNode (sym e) some in
+      let second = part-there k r (subst (λ m. IsPartOf m r) (sym e) part) in
+      let stands = subst (NodeStands s.items s.exits k) e (each k there) in
+      in-order k l r second (start-leads k l n some stands (within k there) is) exits
+
+  -- no data have places
+  no-data : (q : Chain) (k l r : ℕ) → PhasePlaces s q k l r
+  no-data Then k l r = record { right_given = refl; ends = refl }
+  no-data _ k l r = record { right_given = refl; joins = refl }
 
   both-laid : (k l r : ℕ) (j : Join) → node_at x.action k ≡ Both j l r → LaidBoth s j k l r
-  both-laid k l r Moreover e = absurd (unbuilt k (Both Moreover l r) e tt refl)
-  both-laid k l r And e =
-      let there : IsNode (node_at x.action k) = subst IsNode (sym e) tt in
-      let second = part-there k r (subst (λ n. IsPartOf n r) (sym e) (inr refl)) in
-      let stands = subst (NodeStands s.items s.exits k) e (each k there) in
-      let enter = start-leads k l (Both And l r) tt stands (within k there) refl in
-      record {
-        order = inl (in-order k l r second enter (both-exits x.action ok.tree k l r And (node-there k (Both And l r) e tt)));
-        left_given = refl;
-        right_given = refl;
-        left_bound = refl;
-        right_bound = refl;
-        joins = refl;
-        binds = record { overlays = record { slots = tt; left = λ t h. h; right = λ t h. h }; apart = λ t h g. h };
-      }
+  both-laid k l r j e = record {
+    order = inl (parts-in-order k l r (Both j l r) e tt (inr refl) refl (both-exits x.action ok.tree k l r j (node-there k (Both j l r) e tt)));
+    left_given = refl;
+    right_given = refl;
+    left_bound = refl;
+    right_bound = refl;
+    joins = refl;
+    binds = joins-none j k l r;
+  }
 
   phases-laid : (k l r : ℕ) (q : Chain) → node_at x.action k ≡ Phases q l r → LaidPhases s q k l r
-  phases-laid k l r Then e = absurd (unbuilt k (Phases Then l r) e tt refl)
-  phases-laid k l r Hence e = absurd (unbuilt k (Phases Hence l r) e tt refl)
-  phases-laid k l r Before e = absurd (unbuilt k (Phases Before l r) e tt refl)
-  phases-laid k l r AndThen e =
-      let there : IsNode (node_at x.action k) = subst IsNode (sym e) tt in
-      let second = part-there k r (subst (λ n. IsPartOf n r) (sym e) (inr refl)) in
-      let stands = subst (NodeStands s.items s.exits k) e (each k there) in
-      let enter = start-leads k l (Phases AndThen l r) tt stands (within k there) refl in
-      record {
-        order = in-order k l r second enter (phases-exits x.action ok.tree k l r AndThen (node-there k (Phases AndThen l r) e tt));
-        left_given = refl;
-        left_bound = refl;
-        places = record { right_given = refl; joins = refl };
-        binds = (refl, record { overlays = record { slots = tt; left = λ t h. h; right = λ t h. h }; apart = λ t h g. h });
-      }
+  phases-laid k l r q e = record {
+    order = parts-in-order k l r (Phases q l r) e tt (inr refl) refl (phases-exits x.action ok.tree k l r q (node-there k (Phases q l r) e tt));
+    left_given = refl;
+    left_bound = refl;
+    places = no-data q k l r;
+    binds = chains-none q k l r;
+  }
 
   placed : IsPlaced s
   placed = record {
@@ -182,7 +171,7 @@ module _ (x : Subject) (ok : IsCompilable x.action) (labels : LabelsStand (actio
     beyond = λ k o le. tt;
     low = λ k o w lt. absurd (omega arith);
     some_frame = λ n c h. absurd h;
-    keep_apart = λ n k i keeps part lt w. let z = keeps-unbuilt (node_at x.action n) keeps in unbuilt n (node_at x.action n) refl z.0 z.1;
+    keep_apart = λ opens. absurd opens;
   }
 
   base-below : s.base + region_size x.stack x.units < 2000000000
@@ -213,6 +202,7 @@ module _ (x : Subject) (ok : IsCompilable x.action) (labels : LabelsStand (actio
     within = λ k h. omega (arith, within k h);
     none = λ k p e. record { out = refl; bound_out = refl };
     closed = λ h. h;
+    uncalled = λ n c h. h;
     completed = subst (λ i. Has (code s) (address_of (spot s.items i)) (exit_with 0)) (sym (root-exit x.action ok.tree ok.some)) stood.completed;
     failed = stood.failed;
     escaped = stood.escaped;

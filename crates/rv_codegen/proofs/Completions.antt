@@ -1,5 +1,5 @@
 -- A node that completes where its last part did: its frame's own step needs no instruction.
-use Rattle.std.proofs.Common.{◌≡◌, ℕ, List, ◌∷◌, refl, ap, ◌∙◌, arith, inl, inr}
+use Rattle.std.proofs.Common.{◌≡◌, ℕ, List, ◌∷◌, refl, sym, ap, ◌∙◌, subst, arith, inl, inr}
 use Rattle.rv_asm.specs.Assembly.{address_of}
 use Rattle.rv_asm.proofs.Moments.{quiet-advance}
 use Rattle.action_terms.specs.Information.{Binds, Data}
@@ -7,11 +7,12 @@ use Rattle.action_terms.specs.Actions.{node_at}
 use Rattle.action_terms.specs.Acting.{Done, Ended}
 use Rattle.action_terms.specs.Performances.{OneOf}
 use Rattle.action_terms.specs.Steps.{Letter, open_steps}
-use Rattle.action_terms.specs.Frames.{Frame, wrap, plugged}
+use Rattle.action_terms.specs.Frames.{Frame, InTail, wrap, plugged}
 use Rattle.action_terms.proofs.Parts.{quiet, reaches-quiet}
-use Rattle.rv_codegen.proofs.Around.{Leaves, BindsLeft, Around}
+use Rattle.rv_codegen.proofs.Around.{Leaves, BindsLeft, TailFrame, Around}
 use Rattle.rv_codegen.proofs.Configurations.{depth, performances}
-use Rattle.rv_codegen.proofs.NodeParts.{IsPartOf, part-node}
+use Rattle.rv_codegen.proofs.Holding.{Holds, HoldsBinds}
+use Rattle.rv_codegen.proofs.NodeParts.{IsPartOf, tail-part, part-node}
 use Rattle.rv_codegen.proofs.RestPoints.{Laid, IsAt, Completing, completes, EndGoesOn}
 use Rattle.rv_codegen.proofs.Settings.{Setting, code, exit}
 use Rattle.rv_codegen.proofs.Units.{units-more}
@@ -69,4 +70,53 @@ module _ (s : Setting) (laid : Laid s) where
         };
         reached = reaches-quiet s.action s.input x.steps x.frames c.letters (wrap frame (Ended (Done x.d x.b))) next x.world x.reached c.step;
         paid = omega (arith, s.ample);
+      }))
+
+  -- where the tail of a node has completed, the node has: the tree has no frame for it, and there is no step
+  pub tail-done : (n : ℕ) (x : Completing s (InTail n)) → EndGoesOn s (InTail n) x
+  tail-done n x =
+      let h = x.done.here in
+      let k = x.done.k in
+      let tail : TailFrame s h.heap h.words k n = h.around.0 in
+      let part = tail-part (node_at s.action n) k tail.tail in
+      let held = x.done.binds in
+      inl
+      (quiet-advance s.base (code s) (performances s) depth (IsAt s) x.rank x.state (completes s (InTail n) x)
+      (record {
+        count = 0;
+        to = x.state;
+        next = record { steps = x.steps; frames = x.frames; focus = Ended (Done x.d x.b); world = x.world };
+        next_rank = x.rank;
+        some = inr (inr (refl, omega arith));
+        runs = refl;
+        quiet = refl;
+        output = x.shown;
+        related = record {
+          rests = record {
+            k = n;
+            here = record {
+              f = h.f;
+              chains = h.chains;
+              heap = h.heap;
+              words = h.words;
+              stands = h.stands;
+              region = h.region;
+              clear = omega (arith, h.clear, laid.same_frame n k part);
+              units_are = h.units_are;
+              around = h.around.1;
+              node = part-node (node_at s.action n) k part;
+            };
+            at = x.done.at ∙ ap (λ z. address_of z.place) tail.exit_is;
+            rank_is = x.done.rank_is ∙ ap (λ z. z.rank) tail.exit_is;
+            leaves = subst (λ os. Holds s.base h.heap h.words h.f os x.d) (sym tail.ends) x.done.leaves;
+            binds = record {
+              held = subst (λ ss. HoldsBinds s.base h.heap h.words h.f ss x.b) (sym tail.ends_bound) held.held;
+              table = record { ascends = held.table.ascends; among = λ t d e. tail.table t (held.table.among t d e) };
+            };
+          };
+          shown = x.shown;
+          left = x.left;
+        };
+        reached = x.reached;
+        paid = omega arith;
       }))

@@ -38,8 +38,7 @@ module _ (s : Setting) where
   -- where a node goes on, from a label before which its code has come
   pub leaves-stand : LabelsStand s.items → (k n from : ℕ) (behind : List Item) → spot s.items from ≡ n → from < front_of (suc k) → from < s.labels → Cursor s.items n (leaves k (get_or s.exits k 0) ++ (opening (suc k) ++ behind)) → Way (code s) (point s from) (exit s k)
   leaves-stand labels k n from behind here lower within c =
-      subst (λ m. Way (code s) (record { place = m; rank = s.labels - from }) (exit s k)) (sym here)
-      (way-stands s.items n (s.labels - from) (front_of (suc k)) (get_or s.exits k 0) (opening (suc k) ++ behind) (λ l. s.labels - l) c (λ c'. (opens s.items labels (suc k) n behind c').front) (omega arith))
+      way-stands s n from (front_of (suc k)) (get_or s.exits k 0) (opening (suc k) ++ behind) here c (λ c'. (opens s.items labels (suc k) n behind c').front) (omega arith)
 
   module _ (laid : Laid s) (x : Starting s) where
     -- a way from the node's start is all that its code does

@@ -48,9 +48,9 @@ module _ (s : Setting) (laid : Laid s) where
     frame-within (InFirst n d b ∷ fs) f k c h = omega (arith, frame-within fs f n c h.1, laid.same_frame n k (part-at s.action n k (Phases h.0.q k h.0.r) h.0.node (inl refl)))
     frame-within (InSecond n d b ∷ fs) f k c h = omega (arith, frame-within fs f n c h.1, laid.same_frame n k (part-at s.action n k (Phases h.0.q h.0.l k) h.0.node (inr refl)))
     frame-within (InOr k2 d b ∷ fs) f k c h = omega (arith, frame-within fs f h.0 h.1 h.3, laid.same_frame h.0 k (part-at s.action h.0 k (Either k k2) h.2.node (inl refl)))
-    frame-within (InCut ∷ fs) f k c h = omega (arith, frame-within fs f h.0 c h.4, laid.same_frame h.0 k (part-at s.action h.0 k (Either k h.1) h.2 (inl refl)))
+    frame-within (InCut ∷ fs) f k c h = omega (arith, frame-within fs f h.0 c h.3, laid.same_frame h.0 k (part-at s.action h.0 k (Either k h.1.r) h.1.node (inl refl)))
     frame-within (InTrap n b ∷ fs) f k c h = omega (arith, frame-within fs f n _ h.2, laid.same_frame n k (part-at s.action n k (Trapping k h.1.r) h.1.node (inl refl)))
-    frame-within (InTail n ∷ fs) f k c h = omega (arith, frame-within fs f n c h.1, laid.same_frame n k (tail-part (node_at s.action n) k h.0))
+    frame-within (InTail n ∷ fs) f k c h = omega (arith, frame-within fs f n c h.1, laid.same_frame n k (tail-part (node_at s.action n) k h.0.tail))
     frame-within (InCalled c' ∷ fs) f k c h = omega (arith, frame-within fs h.1 h.0 c h.3, h.2.above, ap (frame_words s) h.2.body, laid.body_within h.0 c' h.2.may)
     frame-within (InOver b ∷ fs) f k c h = omega (arith, frame-within fs f h.0 c h.2, laid.same_frame h.0 k (part-at s.action h.0 k (Furthermore k) h.1.node refl))
 

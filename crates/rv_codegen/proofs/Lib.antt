@@ -12,6 +12,7 @@ pub mod Holding
 pub mod Tokens
 pub mod Overlaid
 pub mod BindTables
+pub mod Unbound
 pub mod InputLeft
 pub mod Settings
 pub mod Units

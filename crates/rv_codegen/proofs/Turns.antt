@@ -9,7 +9,7 @@ use Rattle.rv_asm.specs.WordMachine.{WordState, Has}
 use Rattle.rv_asm.proofs.Calls.{before_exit, before_exit-runs, exit-stops}
 use Rattle.rv_asm.proofs.Moments.{quiet-stop}
 use Rattle.action_terms.specs.Information.{Binds, Data, World}
-use Rattle.action_terms.specs.Actions.{And, AndThen, Primitive, Complete, Failing, Send, Node, Simple, Enact, Apply, Unfolding, Unfold, Furthermore, Both, Phases, Either, Trapping, Branch, node_at}
+use Rattle.action_terms.specs.Actions.{Primitive, Complete, Failing, Send, Node, Simple, Furthermore, Both, Phases, node_at}
 use Rattle.action_terms.specs.Literals.{NodeFits, NumbersFit}
 use Rattle.action_terms.specs.Acting.{Done, End, Esc, Fail, Tree, Run, Ended}
 use Rattle.action_terms.specs.Need.{node_yielder_count}
@@ -20,32 +20,18 @@ use Rattle.action_terms.proofs.Parts.{Reaches, EachPasses, reaches-rise}
 use Rattle.rv_codegen.specs.Blocks.{send_label, stop_of, send_entry}
 use Rattle.rv_codegen.specs.Works.{is_built_node}
 use Rattle.rv_codegen.proofs.Around.{Chains, Around}
+use Rattle.rv_codegen.proofs.Completions.{tail-done}
 use Rattle.rv_codegen.proofs.Configurations.{Configuration, EndCode, depth, performances}
 use Rattle.rv_codegen.proofs.Ending.{LeavesNone, complete-goes, fail-goes}
 use Rattle.rv_codegen.proofs.InputLeft.{Left}
 use Rattle.rv_codegen.proofs.Joins.{both-start, left-done, right-done}
-use Rattle.rv_codegen.proofs.NodeParts.{IsNode, IsTailOf, Calls, tail-part, part-node}
+use Rattle.rv_codegen.proofs.NodeParts.{IsNode}
 use Rattle.rv_codegen.proofs.NumberWords.{node-fits}
 use Rattle.rv_codegen.proofs.Phases.{phases-start, first-done, second-done}
 use Rattle.rv_codegen.proofs.RestPoints.{Laid, RestsAt, RunsAt, DoneAt, FailsAt, EscapesAt, IsAt, GoesOn, Starting, StartGoesOn}
 use Rattle.rv_codegen.proofs.Sending.{IsSendable, send-goes}
 use Rattle.rv_codegen.proofs.Settings.{Setting, code, point, start, exit, failure, escape}
 use Rattle.rv_codegen.proofs.Standing.{NodeStands}
-
--- ---- what is not built yet
-
-tail-unbuilt : (m : Node) (k : ℕ) → IsTailOf m k → is_built_node m ≡ false
-tail-unbuilt (Either l r) k h = refl
-tail-unbuilt (Trapping l r) k h = refl
-tail-unbuilt (Branch y l r) k h = refl
-tail-unbuilt _ k h = absurd h
-
-calls-unbuilt : (m : Node) (k : ℕ) → Calls m k → IsNode m × (is_built_node m ≡ false)
-calls-unbuilt (Enact y) k h = (tt, refl)
-calls-unbuilt (Apply y is) k h = (tt, refl)
-calls-unbuilt (Unfolding c) k h = (tt, refl)
-calls-unbuilt (Unfold c) k h = (tt, refl)
-calls-unbuilt _ k h = absurd h
 
 module _ (s : Setting) where
   -- the nodes are of kinds that are built, their code stands, and so do the exits and the entry that sends
@@ -57,9 +43,10 @@ module _ (s : Setting) where
     pub numbers : NumbersFit s.action
     pub few : (k : ℕ) → node_yielder_count (node_at s.action k) < 65536
     pub within : (k : ℕ) → IsNode (node_at s.action k) → stop_of k < s.labels
-    -- the primitives that are built leave nothing, and no alternatives or traps are opened
+    -- the primitives that are built leave nothing, no alternatives or traps are opened, and nothing is called
     pub none : (k : ℕ) (p : Primitive) → node_at s.action k ≡ Simple p → LeavesNone s k
     pub closed : s.Opens → ⊥
+    pub uncalled : (n c : ℕ) → s.procedures.calls n c → ⊥
     pub completed : Has (code s) (address_of (exit s 0).place) (exit_with 0)
     pub failed : Has (code s) (address_of (failure s).place) (exit_with 1)
     pub escaped : Has (code s) (address_of (escape s).place) (exit_with 2)
@@ -72,12 +59,6 @@ module _ (s : Setting) where
         let here : is_built_node m ≡ true = subst (λ x. is_built_node x ≡ true) e built in
         let r : true ≡ false = sym here ∙ not in cc
 
-    no-tail : (n k : ℕ) → IsTailOf (node_at s.action n) k → ⊥
-    no-tail n k h = unbuilt n (node_at s.action n) refl (part-node (node_at s.action n) k (tail-part (node_at s.action n) k h)) (tail-unbuilt (node_at s.action n) k h)
-
-    no-call : (n k : ℕ) → Calls (node_at s.action n) k → ⊥
-    no-call n k h = let z = calls-unbuilt (node_at s.action n) k h in unbuilt n (node_at s.action n) refl z.0 z.1
-
     -- ---- a node is to be performed
 
     run-goes : (x : Starting s) (n : Node) → node_at s.action x.k ≡ n → NodeStands s.items s.exits x.k n → is_built_node n ≡ true → StartGoesOn s x
@@ -86,8 +67,8 @@ module _ (s : Setting) where
     run-goes x (Simple (Send y)) e stands b =
         let ok : IsSendable y = record { built = b; few = subst (λ n. node_yielder_count n < 65536) e (it.few x.k); fits = subst NodeFits e (node-fits s.action x.k it.numbers) } in
         send-goes s it.laid it.send x y e ok it.closed it.labels (it.within x.k x.runs.here.node) (it.none x.k (Send y) e) stands
-    run-goes x (Both And l r) e stands b = both-start s it.laid x And l r e
-    run-goes x (Phases AndThen l r) e stands b = phases-start s it.laid x AndThen l r e
+    run-goes x (Both j l r) e stands b = both-start s it.laid x j l r e
+    run-goes x (Phases q l r) e stands b = phases-start s it.laid x q l r e
     run-goes x _ e stands b = absurd (let r : false ≡ true = b in cc)
 
     -- ---- no alternative and no trap is open: a failure or an escape passes all frames
@@ -98,8 +79,8 @@ module _ (s : Setting) where
     fail-passes heap words (InParRight n x ∷ fs) f k c h = (tt, fail-passes heap words fs f n c h.1)
     fail-passes heap words (InFirst n d b ∷ fs) f k c h = (tt, fail-passes heap words fs f n c h.1)
     fail-passes heap words (InSecond n d b ∷ fs) f k c h = (tt, fail-passes heap words fs f n c h.1)
-    fail-passes heap words (InOr k2 d b ∷ fs) f k c h = absurd (unbuilt h.0 (Either k k2) h.2.node tt refl)
-    fail-passes heap words (InCut ∷ fs) f k c h = (tt, fail-passes heap words fs f h.0 c h.4)
+    fail-passes heap words (InOr k2 d b ∷ fs) f k c h = absurd (it.closed h.2.opens)
+    fail-passes heap words (InCut ∷ fs) f k c h = (tt, fail-passes heap words fs f h.0 c h.3)
     fail-passes heap words (InTrap n b ∷ fs) f k c h = (tt, fail-passes heap words fs f n _ h.2)
     fail-passes heap words (InTail n ∷ fs) f k c h = (tt, fail-passes heap words fs f n c h.1)
     fail-passes heap words (InCalled c' ∷ fs) f k c h = (tt, fail-passes heap words fs h.1 h.0 c h.3)
@@ -112,8 +93,8 @@ module _ (s : Setting) where
     escape-passes e heap words (InFirst n d b ∷ fs) f k c h = (tt, escape-passes e heap words fs f n c h.1)
     escape-passes e heap words (InSecond n d b ∷ fs) f k c h = (tt, escape-passes e heap words fs f n c h.1)
     escape-passes e heap words (InOr k2 d b ∷ fs) f k c h = (tt, escape-passes e heap words fs f h.0 h.1 h.3)
-    escape-passes e heap words (InCut ∷ fs) f k c h = (tt, escape-passes e heap words fs f h.0 c h.4)
-    escape-passes e heap words (InTrap n b ∷ fs) f k c h = absurd (unbuilt n (Trapping k h.1.r) h.1.node tt refl)
+    escape-passes e heap words (InCut ∷ fs) f k c h = (tt, escape-passes e heap words fs f h.0 c h.3)
+    escape-passes e heap words (InTrap n b ∷ fs) f k c h = absurd (it.closed h.1.opens)
     escape-passes e heap words (InTail n ∷ fs) f k c h = (tt, escape-passes e heap words fs f n c h.1)
     escape-passes e heap words (InCalled c' ∷ fs) f k c h = (tt, escape-passes e heap words fs h.1 h.0 c h.3)
     escape-passes e heap words (InOver b ∷ fs) f k c h = (tt, escape-passes e heap words fs f h.0 c h.2)
@@ -177,11 +158,11 @@ module _ (s : Setting) where
     done-goes steps (InParRight n y ∷ fs) w state rank d b shown left x r = right-done s it.laid n y (record { steps = steps; frames = fs; d = d; b = b; world = w; rank = rank; state = state; shown = shown; left = left; done = x; reached = r })
     done-goes steps (InFirst n d0 b0 ∷ fs) w state rank d b shown left x r = first-done s it.laid n d0 b0 (record { steps = steps; frames = fs; d = d; b = b; world = w; rank = rank; state = state; shown = shown; left = left; done = x; reached = r })
     done-goes steps (InSecond n d1 b1 ∷ fs) w state rank d b shown left x r = second-done s it.laid n d1 b1 (record { steps = steps; frames = fs; d = d; b = b; world = w; rank = rank; state = state; shown = shown; left = left; done = x; reached = r })
-    done-goes steps (InOr k2 d0 b0 ∷ fs) w state rank d b shown left x r = absurd (unbuilt x.here.around.0 (Either x.k k2) x.here.around.2.node tt refl)
-    done-goes steps (InCut ∷ fs) w state rank d b shown left x r = absurd (unbuilt x.here.around.0 (Either x.k x.here.around.1) x.here.around.2 tt refl)
-    done-goes steps (InTrap n b0 ∷ fs) w state rank d b shown left x r = absurd (unbuilt n (Trapping x.k x.here.around.1.r) x.here.around.1.node tt refl)
-    done-goes steps (InTail n ∷ fs) w state rank d b shown left x r = absurd (no-tail n x.k x.here.around.0)
-    done-goes steps (InCalled c ∷ fs) w state rank d b shown left x r = absurd (no-call x.here.around.0 c x.here.around.2.node)
+    done-goes steps (InOr k2 d0 b0 ∷ fs) w state rank d b shown left x r = absurd (it.closed x.here.around.2.opens)
+    done-goes steps (InCut ∷ fs) w state rank d b shown left x r = absurd (it.closed x.here.around.1.opens)
+    done-goes steps (InTrap n b0 ∷ fs) w state rank d b shown left x r = absurd (it.closed x.here.around.1.opens)
+    done-goes steps (InTail n ∷ fs) w state rank d b shown left x r = tail-done s it.laid n (record { steps = steps; frames = fs; d = d; b = b; world = w; rank = rank; state = state; shown = shown; left = left; done = x; reached = r })
+    done-goes steps (InCalled c ∷ fs) w state rank d b shown left x r = absurd (it.uncalled x.here.around.0 c x.here.around.2.may)
     done-goes steps (InOver b0 ∷ fs) w state rank d b shown left x r = absurd (unbuilt x.here.around.0 (Furthermore x.k) x.here.around.1.node tt refl)
 
     -- ---- from each rest point

@@ -10,7 +10,7 @@ use Rattle.rv_asm.proofs.Labels.{total-append}
 use Rattle.rv_asm.proofs.LabelsArrive.{piece-stands}
 use Rattle.rv_codegen.specs.Blocks.{goes}
 use Rattle.rv_codegen.proofs.Fresh.{total-plain}
-use Rattle.rv_codegen.proofs.Settings.{Way}
+use Rattle.rv_codegen.proofs.Settings.{Way, Setting, code, point}
 
 -- n instructions stand before the rest of the items
 pub record Cursor (items : List Item) (n : ℕ) (rest : List Item) : Type 0 where
@@ -68,16 +68,17 @@ module _ (items : List Item) where
   pub mark-at : LabelsStand items → (n l : ℕ) (rest : List Item) → Cursor items n (Mark l ∷ rest) → spot items l ≡ n
   mark-at labels n l rest c = labels c.before rest l c.split ∙ c.count
 
-  -- the way to a label stands, where the label that comes next stands behind it, at a lower rank
-  pub way-stands : (n rank next label : ℕ) (rest : List Item) (ranks : ℕ → ℕ) → Cursor items n (goes next label ++ rest) → (Cursor items n rest → spot items next ≡ n) → ranks next < rank → Way (code_of items) (record { place = n; rank = rank }) (record { place = spot items label; rank = ranks label })
-  way-stands n rank next label rest ranks c here lower = by (eqb label next) refl
-    where
-      by : (b : Bool) → eqb label next ≡ b → Way (code_of items) (record { place = n; rank = rank }) (record { place = spot items label; rank = ranks label })
-      by true e =
-          let same : label ≡ next = eqb-true label next e in
-          let none : goes next label ≡ [] = rw e refl in
-          let at = here (subst (λ p. Cursor items n (p ++ rest)) none c) in
-          inl (sym at ∙ ap (spot items) (sym same), subst (λ r. r < rank) (ap ranks (sym same)) lower)
-      by false e =
-          let one : goes next label ≡ Jump label ∷ [] = rw e refl in
-          inr (jump-stands n label rest (subst (λ p. Cursor items n (p ++ rest)) one c))
+-- the way from a label to another stands, where the label that comes next stands behind it, at a lower rank
+pub way-stands : (s : Setting) (n from next label : ℕ) (rest : List Item) → spot s.items from ≡ n → Cursor s.items n (goes next label ++ rest) → (Cursor s.items n rest → spot s.items next ≡ n) → (point s next).rank < (point s from).rank → Way (code s) (point s from) (point s label)
+way-stands s n from next label rest at c here lower = by (eqb label next) refl
+  where
+    by : (b : Bool) → eqb label next ≡ b → Way (code s) (point s from) (point s label)
+    by true e =
+        let same : label ≡ next = eqb-true label next e in
+        let none : goes next label ≡ [] = rw e refl in
+        let there = here (subst (λ p. Cursor s.items n (p ++ rest)) none c) in
+        inl (at ∙ sym there ∙ ap (spot s.items) (sym same), subst (λ l. (point s l).rank < (point s from).rank) (sym same) lower)
+    by false e =
+        let one : goes next label ≡ Jump label ∷ [] = rw e refl in
+        let far = jump-stands s.items n label rest (subst (λ p. Cursor s.items n (p ++ rest)) one c) in
+        inr (subst (λ m. Has (code s) (address_of m) (far_jump m (spot s.items label))) (sym at) far)

@@ -9,7 +9,7 @@ use Rattle.rv_code.specs.declared.instruction.UpperOp.TheVariants.{Lui}
 use Rattle.rv_asm.specs.Pieces.{send_word, exit_with}
 use Rattle.rv_asm.specs.declared.item.Item.{Item}
 use Rattle.rv_asm.specs.declared.item.Item.TheVariants.{Plain, Mark, Jump, Address}
-use Rattle.action_terms.specs.Actions.{Yielder, And, AndThen, Complete, Failing, Send, Node, Simple, Both, Phases, Action}
+use Rattle.action_terms.specs.Actions.{Yielder, Complete, Failing, Send, Node, Simple, Both, Phases, Action}
 use Rattle.rv_yield.specs.YielderCode.{value_items}
 
 -- ---- labels
@@ -105,8 +105,8 @@ abbrev pub body : (k exit : ℕ) → Node → List Item
 body k exit (Simple Complete) = leaves k exit
 body k exit (Simple Failing) = Jump fail_label ∷ []
 body k exit (Simple (Send y)) = sends k y ++ leaves k exit
-body k exit (Both And l r) = goes (start_of (suc k)) (start_of l)
-body k exit (Phases AndThen l r) = goes (start_of (suc k)) (start_of l)
+body k exit (Both j l r) = goes (start_of (suc k)) (start_of l)
+body k exit (Phases q l r) = goes (start_of (suc k)) (start_of l)
 body k exit _ = []
 
 -- the marks before the body of node k

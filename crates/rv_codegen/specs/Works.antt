@@ -1,6 +1,6 @@
 -- Which nodes have code.
 use Rattle.std.specs.Prelude.{ℕ, suc, Bool, true, false, if◌then◌else◌, List, [], ◌∷◌}
-use Rattle.action_terms.specs.Actions.{And, AndThen, Complete, Failing, Send, Node, Simple, Both, Phases, Action}
+use Rattle.action_terms.specs.Actions.{Complete, Failing, Send, Node, Simple, Both, Phases, Action}
 use Rattle.rv_yield.specs.Registers.{is_built}
 
 -- whether the code of a node can be generated: its kind, and each yielder of it, is built
@@ -8,8 +8,8 @@ abbrev pub is_built_node : Node → Bool
 is_built_node (Simple Complete) = true
 is_built_node (Simple Failing) = true
 is_built_node (Simple (Send y)) = is_built y
-is_built_node (Both And l r) = true
-is_built_node (Phases AndThen l r) = true
+is_built_node (Both j l r) = true
+is_built_node (Phases q l r) = true
 is_built_node _ = false
 
 -- the numbers, from k on, of the nodes whose code can't be generated

@@ -34,16 +34,7 @@ fn is_built(graph: &Graph<'_>, needs: &[usize], k: usize) -> bool
 {
     match graph.view(k) {
         NodeView::Simple(primitive) => is_built_primitive(graph, needs, primitive),
-        NodeView::Both {
-            join,
-            left: _,
-            right: _,
-        } => matches!(join, Join::And),
-        NodeView::Phases {
-            chain,
-            left: _,
-            right: _,
-        } => matches!(chain, Chain::AndThen),
+        NodeView::Both { .. } | NodeView::Phases { .. } => true,
         _ => false,
     }
 }

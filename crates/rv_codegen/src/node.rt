@@ -120,60 +120,19 @@ fn append_primitive(
     }
 }
 
-/// Appends the code of node k behind its start where it has two parts in either order.
-fn append_both(
-    asm: &mut Asm,
-    plan: Plan<'_, '_>,
-    k: usize,
-    join: Join,
-    first: u32,
-) -> Result<(), Memory>
+/// Appends the code of node k behind its start where it has two parts, by the part that is
+/// performed first.
+fn append_parts(asm: &mut Asm, plan: Plan<'_, '_>, k: usize, first: u32) -> Result<(), Memory>
     requires node { k < length plan.graph.now.nodes }
     requires part { first < length plan.graph.now.nodes }
     requires made { first_label + length plan.labels.row.now ≤ asm.old.labels }
-    ensures items { (exit : ℕ) → (second : ℕ) → OnOk result (asm.new
-        ≡ extended asm.old (body k exit (Both (join_viewed join) first second))) }
+    ensures items { OnOk result
+        (asm.new ≡ extended asm.old (goes (start_of (k + 1)) (start_of first))) }
     ensures marks { OnOk result (PlacesStop k asm.old.items asm.new.items) }
     ensures short { OnOk result (total asm.new.items ≤ total asm.old.items + 6) }
 {
-    match join {
-        Join::And => {
-            append_way(
-                asm,
-                plan.labels.start(k + 1),
-                plan.labels.start(first as usize),
-            )
-        }
-        Join::Moreover => Ok(()),
-    }
-}
-
-/// Appends the code of node k behind its start where it has two parts in order.
-fn append_phases(
-    asm: &mut Asm,
-    plan: Plan<'_, '_>,
-    k: usize,
-    chain: Chain,
-    first: u32,
-) -> Result<(), Memory>
-    requires node { k < length plan.graph.now.nodes }
-    requires part { first < length plan.graph.now.nodes }
-    requires made { first_label + length plan.labels.row.now ≤ asm.old.labels }
-    ensures items { (exit : ℕ) → (second : ℕ) → OnOk result (asm.new
-        ≡ extended asm.old (body k exit (Phases (chain_viewed chain) first second))) }
-    ensures marks { OnOk result (PlacesStop k asm.old.items asm.new.items) }
-    ensures short { OnOk result (total asm.new.items ≤ total asm.old.items + 6) }
-{
-    match chain {
-        Chain::AndThen => {
-            append_way(
-                asm,
-                plan.labels.start(k + 1),
-                plan.labels.start(first as usize),
-            )
-        }
-        Chain::Then | Chain::Hence | Chain::Before => Ok(()),
-    }
+    let next = plan.labels.start(k + 1);
+    append_way(asm, next, plan.labels.start(first as usize))
 }
 
 /// Appends the code of node k behind its start, where the node goes on at a label.
@@ -191,15 +150,15 @@ fn append_body(asm: &mut Asm, plan: Plan<'_, '_>, k: usize, exit: Label) -> Resu
     match plan.graph.view(k) {
         NodeView::Simple(primitive) => append_primitive(asm, plan, k, exit, primitive),
         NodeView::Both {
-            join,
+            join: _,
             left,
             right: _,
-        } => append_both(asm, plan, k, join, left),
-        NodeView::Phases {
-            chain,
+        }
+        | NodeView::Phases {
+            chain: _,
             left,
             right: _,
-        } => append_phases(asm, plan, k, chain, left),
+        } => append_parts(asm, plan, k, left),
         _ => Ok(()),
     }
 }

@@ -17,10 +17,3 @@ append_primitive-requires-clause-built c =
 pub append_primitive-requires-clause-few : goal.append_primitive-requires-clause-few
 append_primitive-requires-clause-few c = subst (λ n. node_yielder_count n < 65536) c.in-Simple.ensures.node (c.args.plan.few c.args.k)
 
-pub returns-in-Both-clause-items : goal.returns-in-Both-clause-items
-returns-in-Both-clause-items c =
-    subst (λ n. OnOk c.append_both.result (c.append_both.new.asm ≡ extended c.args.asm.now (body c.args.k c.args.exit n))) (sym c.in-Both.ensures.node) (c.append_both.ensures.items c.args.exit _)
-
-pub returns-in-Phases-clause-items : goal.returns-in-Phases-clause-items
-returns-in-Phases-clause-items c =
-    subst (λ n. OnOk c.append_phases.result (c.append_phases.new.asm ≡ extended c.args.asm.now (body c.args.k c.args.exit n))) (sym c.in-Phases.ensures.node) (c.append_phases.ensures.items c.args.exit _)
