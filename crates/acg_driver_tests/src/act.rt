@@ -32,6 +32,14 @@ fn performances(rt: HostRuntime) -> Result<(), Fail> {
     assert!(rt;
         acts(
             alloc,
+            b"(complete then send 1) moreover ((send 2 before complete) hence (send 3 and then fail))",
+            b"stack 1048576 units 262144 factor 448\n1\n2\n3\nfailed\n",
+            Status::Failed,
+        )?
+    );
+    assert!(rt;
+        acts(
+            alloc,
             b"fail and then send 1",
             b"stack 1048576 units 262144 factor 448\nfailed\n",
             Status::Failed,

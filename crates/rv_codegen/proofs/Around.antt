@@ -70,6 +70,20 @@ module _ (s : Setting) where
     pub mark : word_at words f (s.places.keep n + 3) ≡ before.mark
     pub frame : word_at words f (s.places.keep n + 4) ≡ s.base + 8 * f
 
+  -- an alternative that a commitment has closed
+  pub record CutFrame (k n : ℕ) : Type 0 where
+    pub opens : s.Opens
+    pub r : ℕ
+    pub node : node_at s.action n ≡ Either k r
+
+  -- the node has completed where its tail has, with what the tail leaves
+  pub record TailFrame (k n : ℕ) : Type 0 where
+    pub tail : IsTailOf (node_at s.action n) k
+    pub exit_is : exit s k ≡ exit s n
+    pub ends : s.places.out n ≡ s.places.out k
+    pub ends_bound : s.places.bound_out n ≡ s.places.bound_out k
+    pub table : (t : Token) → s.places.BindsAt k t → s.places.BindsAt n t
+
   module _ (heap : Heap) (words : List ℕ) where
     abbrev pub Given : (f n : ℕ) → Data → Type 0
     Given f n d = Holds s.base heap words f (s.places.given n) d
@@ -125,11 +139,6 @@ module _ (s : Setting) where
       pub same : record now { alternative = before.alternative } ≡ before
       pub kept : Kept words n f before (front s k2)
 
-    pub record CutFrame (k n : ℕ) : Type 0 where
-      pub opens : s.Opens
-      pub r : ℕ
-      pub node : node_at s.action n ≡ Either k r
-
     pub record TrapFrame (f k n : ℕ) (now before : Chains) (b : Binds) : Type 0 where
       pub opens : s.Opens
       pub r : ℕ
@@ -138,14 +147,6 @@ module _ (s : Setting) where
       pub at : now.trap ≡ s.base + 8 * (f + s.places.keep n)
       pub kept : Kept words n f before (front s r)
       pub chain : now.alternative ≡ left_open now.mark before.alternative
-
-    -- the node has completed where its tail has, with what the tail leaves
-    pub record TailFrame (k n : ℕ) : Type 0 where
-      pub tail : IsTailOf (node_at s.action n) k
-      pub exit_is : exit s k ≡ exit s n
-      pub ends : s.places.out n ≡ s.places.out k
-      pub ends_bound : s.places.bound_out n ≡ s.places.bound_out k
-      pub table : (t : Token) → s.places.BindsAt k t → s.places.BindsAt n t
 
     pub record OverFrame (f k n : ℕ) (b : Binds) : Type 0 where
       pub node : node_at s.action n ≡ Furthermore k

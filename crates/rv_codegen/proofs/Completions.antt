@@ -77,7 +77,7 @@ module _ (s : Setting) (laid : Laid s) where
   tail-done n x =
       let h = x.done.here in
       let k = x.done.k in
-      let tail : TailFrame s h.heap h.words k n = h.around.0 in
+      let tail : TailFrame s k n = h.around.0 in
       let part = tail-part (node_at s.action n) k tail.tail in
       let held = x.done.binds in
       inl

@@ -1,5 +1,5 @@
 -- Nodes whose code is a way at most: `complete` and `fail`.
-use Rattle.std.proofs.Common.{◌≡◌, ℕ, suc, ◌-◌, ◌<◌, List, [], ◌++◌, None, Some, get_or, refl, sym, ◌∙◌, subst, arith, inr}
+use Rattle.std.proofs.Common.{◌≡◌, ℕ, suc, ◌<◌, List, [], ◌++◌, None, Some, get_or, refl, sym, ◌∙◌, subst, arith, inr}
 use Rattle.rv_asm.specs.Arrivals.{LabelsStand}
 use Rattle.rv_asm.specs.Assembly.{address_of, far_jump, spot}
 use Rattle.rv_asm.specs.DataWords.{Heap}

@@ -1,14 +1,14 @@
 //! Which nodes have code.
 
 ghost use Rattle.std.specs.Prelude.{◌≡◌, ℕ, ◌<◌, length, slice_get, IfOk};
-ghost use Rattle.action_terms.specs.Actions.{Simple, Both, Phases, node_at};
-ghost use Rattle.action_terms.specs.Forms.{HasPrimitiveOperands, primitive_viewed, join_viewed, chain_viewed};
+ghost use Rattle.action_terms.specs.Actions.{Simple, node_at};
+ghost use Rattle.action_terms.specs.Forms.{HasPrimitiveOperands, primitive_viewed};
 ghost use Rattle.action_terms.specs.Meaning.{action_of};
 ghost use Rattle.rv_yield.specs.Registers.{AreNeeds};
 ghost use Rattle.rv_codegen.specs.Works.{is_built_node, unbuilt};
 
 use acg_base::Memory;
-use action_terms::{Chain, Graph, Join, NodeView, PrimitiveView};
+use action_terms::{Graph, NodeView, PrimitiveView};
 use rv_yield::{registers_needed, registers_of};
 use std::alloc::Global;
 

@@ -2,20 +2,20 @@
 
 ghost use Rattle.std.specs.Prelude.{◌≡◌, ℕ, ◌+◌, ◌*◌, ◌<◌, ◌≤◌, ◌++◌, OnOk, true, false, length};
 ghost use Rattle.rv_asm.specs.Assembly.{total, is_placed};
-ghost use Rattle.action_terms.specs.Actions.{Simple, Both, Phases, node_at};
-ghost use Rattle.action_terms.specs.Forms.{HasPrimitiveOperands, IsDatum, primitive_viewed, yielder_at, join_viewed, chain_viewed};
+ghost use Rattle.action_terms.specs.Actions.{Simple, node_at};
+ghost use Rattle.action_terms.specs.Forms.{HasPrimitiveOperands, IsDatum, primitive_viewed, yielder_at};
 ghost use Rattle.action_terms.specs.Meaning.{action_of};
 ghost use Rattle.action_terms.specs.Need.{node_yielder_count, yielder_count};
 ghost use Rattle.action_terms.specs.Numbering.{node_limit};
 ghost use Rattle.rv_yield.specs.Registers.{is_built};
-ghost use Rattle.rv_codegen.specs.Blocks.{first_label, stop_of, goes, leaves, sends, body, block};
+ghost use Rattle.rv_codegen.specs.Blocks.{first_label, start_of, stop_of, goes, leaves, sends, body, block};
 ghost use Rattle.rv_codegen.specs.Marks.{extended, AreFresh, PlacesStop};
 ghost use Rattle.rv_codegen.specs.Works.{is_built_node};
 
 use crate::entries::{ARGUMENT, RETURN, append_opening};
 use crate::plan::Plan;
 use acg_base::Memory;
-use action_terms::{Chain, Join, NodeView, PrimitiveView};
+use action_terms::{NodeView, PrimitiveView};
 use rv_asm::{Asm, Label};
 use rv_yield::value_code;
 

@@ -1,8 +1,6 @@
-use Rattle.std.proofs.Common.{◌≡◌, ◌<◌, true, OnOk, length, sym, subst, arith}
+use Rattle.std.proofs.Common.{◌≡◌, ◌<◌, true, length, subst, arith}
 use Rattle.action_terms.specs.Meaning.{action_of}
 use Rattle.action_terms.specs.Need.{node_yielder_count}
-use Rattle.rv_codegen.specs.Blocks.{body}
-use Rattle.rv_codegen.specs.Marks.{extended}
 use Rattle.rv_codegen.specs.Works.{is_built_node}
 use Rattle.rv_codegen.proofs.GraphNodes.{length-action_of}
 use Rattle.rv_codegen.proofs.Unbuilt.{never_unbuilt}
@@ -16,4 +14,3 @@ append_primitive-requires-clause-built c =
 
 pub append_primitive-requires-clause-few : goal.append_primitive-requires-clause-few
 append_primitive-requires-clause-few c = subst (λ n. node_yielder_count n < 65536) c.in-Simple.ensures.node (c.args.plan.few c.args.k)
-
