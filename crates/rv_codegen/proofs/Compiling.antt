@@ -113,15 +113,15 @@ module _ (x : Subject) (ok : IsCompilable x.action) (labels : LabelsStand (actio
 
   -- the start of a node with parts leads to that of its first part
   start-leads : (k l : ℕ) (n : Node) → IsNode n → NodeStands s.items s.exits k n → k < length x.action → body k (get_or s.exits k 0) n ≡ goes (start_of (suc k)) (start_of l) → Way (code s) (start s k) (start s l)
-  start-leads k l n there stands lt is =
+  start-leads k l n node stands lt is =
       let c = subst (λ b. Cursor s.items stands.place (b ++ (opening (suc k) ++ stands.behind))) is stands.opened.cursor in
       way-stands s stands.place (start_of k) (start_of (suc k)) (start_of l) (opening (suc k) ++ stands.behind) stands.opened.start c (λ c'. (opens s.items labels (suc k) stands.place stands.behind c').start) (omega (arith, lt))
 
   in-order : (k l r : ℕ) → IsNode (node_at x.action r) → Way (code s) (start s k) (start s l) → PartExits x.action ok.tree k l r → InOrder s k l r
-  in-order k l r there enter exits = record {
+  in-order k l r node enter exits = record {
     enter = enter;
     first_exit = ap (point s) exits.first;
-    turn = front-leads r there;
+    turn = front-leads r node;
     second_exit = ap (point s) exits.second;
     stays = tt;
     stays_bound = tt;
@@ -133,10 +133,10 @@ module _ (x : Subject) (ok : IsCompilable x.action) (labels : LabelsStand (actio
   -- the parts of a node with two parts are performed in order
   parts-in-order : (k l r : ℕ) (n : Node) → node_at x.action k ≡ n → IsNode n → IsPartOf n r → body k (get_or s.exits k 0) n ≡ goes (start_of (suc k)) (start_of l) → PartExits x.action ok.tree k l r → InOrder s k l r
   parts-in-order k l r n e some part is exits =
-      let there : IsNode (node_at x.action k) = subst IsNode (sym e) some in
+      let node : IsNode (node_at x.action k) = subst IsNode (sym e) some in
       let second = part-there k r (subst (λ m. IsPartOf m r) (sym e) part) in
-      let stands = subst (NodeStands s.items s.exits k) e (each k there) in
-      in-order k l r second (start-leads k l n some stands (within k there) is) exits
+      let stands = subst (NodeStands s.items s.exits k) e (each k node) in
+      in-order k l r second (start-leads k l n some stands (within k node) is) exits
 
   -- no data have places
   no-data : (q : Chain) (k l r : ℕ) → PhasePlaces s q k l r
