@@ -13,6 +13,8 @@ use Rattle.action_terms.specs.Actions.{Complete, Join, Chain, Then, Node, Simple
 use Rattle.action_terms.specs.Literals.{NumbersFit}
 use Rattle.action_terms.specs.Need.{node_yielder_count}
 use Rattle.rv_codegen.specs.Blocks.{first_label, start_of, exits_of, action_items, opening, goes, body}
+use Rattle.sort_rules.specs.Measures.{sizes}
+use Rattle.rv_codegen.specs.Measures.{factor_by}
 use Rattle.rv_codegen.specs.RightImage.{Subject}
 use Rattle.rv_codegen.specs.Works.{is_built_node}
 use Rattle.rv_codegen.proofs.Around.{IsPlaced, InOrder}
@@ -55,16 +57,16 @@ abbrev no_bodies : Bodies
 no_bodies = record { slots = λ c. []; entry = λ c. 0; words = λ c. 0; own = λ c. None; inside = λ c. tt }
 
 -- the code of the action, in the region behind it
-abbrev pub setting : (x : Subject) → 400 ≤ x.factor → List ℤ → Setting
+abbrev pub setting : (x : Subject) → 400 ≤ factor_by x.action x.table → List ℤ → Setting
 setting x ample input =
     let items = action_items x.action in
     record {
       action = x.action;
-      sizes = x.sizes;
+      sizes = sizes x.action x.table;
       stack = x.stack;
       room = x.units;
       input = input;
-      factor = x.factor;
+      factor = factor_by x.action x.table;
       ample = ample;
       items = items;
       exits = exits_of x.action;
@@ -79,7 +81,7 @@ setting x ample input =
       Takes = ⊥;
     }
 
-module _ (x : Subject) (ok : IsCompilable x.action) (labels : LabelsStand (action_items x.action)) (small : 4 * total (action_items x.action) < 1073741824) (ample : 400 ≤ x.factor) (paid : (k n : ℕ) → n ≤ 0 → 400 + 24 * (n + 1) * (node_yielder_count (node_at x.action k) + 1) ≤ x.factor) (some_words : 1 ≤ x.stack) (few_words : x.stack ≤ 16777216) (few_units : x.units ≤ 4194304) (input : List ℤ) where
+module _ (x : Subject) (ok : IsCompilable x.action) (labels : LabelsStand (action_items x.action)) (small : 4 * total (action_items x.action) < 1073741824) (ample : 400 ≤ factor_by x.action x.table) (paid : (k n : ℕ) → n ≤ 0 → 400 + 24 * (n + 1) * (node_yielder_count (node_at x.action k) + 1) ≤ factor_by x.action x.table) (some_words : 1 ≤ x.stack) (few_words : x.stack ≤ 16777216) (few_units : x.units ≤ 4194304) (input : List ℤ) where
   abbrev s : Setting
   s = setting x ample input
 

@@ -13,10 +13,13 @@ use Rattle.action_terms.specs.Literals.{NumbersFit}
 use Rattle.action_terms.specs.Meaning.{action_of}
 use Rattle.action_terms.specs.Need.{node_yielder_count, most_yielders, factor}
 use Rattle.action_terms.specs.Numbering.{Listed, IsGraph}
+use Rattle.action_terms.proofs.CountLaws.{graph-counts}
 use Rattle.action_terms.proofs.GraphLaws.{length-nodes_some, length-nodes_few}
 use Rattle.rv_codegen.specs.Blocks.{action_items}
-use Rattle.rv_codegen.specs.Measures.{subject_of, node_count}
-use Rattle.rv_codegen.specs.RightImage.{compiled_image, IsRight}
+use Rattle.sort_rules.specs.Measures.{width}
+use Rattle.sort_rules.specs.Tables.{MarkedTable}
+use Rattle.rv_codegen.specs.Measures.{node_count, factor_by}
+use Rattle.rv_codegen.specs.RightImage.{compiled_image, Subject, IsRight}
 use Rattle.rv_codegen.specs.Works.{unbuilt}
 use Rattle.rv_codegen.proofs.Compiling.{IsCompilable}
 use Rattle.rv_codegen.proofs.Loading.{code_bytes-small, compiled-loads}
@@ -44,6 +47,10 @@ factor-covers w z n y a b =
     let second : (z + 1) * (24 * (n + 1)) ≤ (z + 1) * (24 * (w + 1)) = mul-le-mul_left (z + 1) (mul-le-mul_left 24 p) in
     omega (arith, first, second)
 
+-- a graph's action has no more nodes and yielders than a graph may have
+pub count-few : (g : Listed) → IsGraph g → node_count (action_of g) ≤ 65536
+count-few g graph = omega (arith, length-action_of g, graph-counts g graph, length-nodes_few g graph)
+
 module _ (g : Listed) (graph : IsGraph g) (numbers : NumbersFit (action_of g)) (none : unbuilt (action_of g) ≡ []) where
   compilable : IsCompilable (action_of g)
   compilable = record {
@@ -54,19 +61,22 @@ module _ (g : Listed) (graph : IsGraph g) (numbers : NumbersFit (action_of g)) (
     some = omega (arith, length-action_of g, length-nodes_some g graph);
   }
 
-  -- the image of the words is right
-  pub generated-right : (words : List ℕ) → LabelsStand (action_items (action_of g)) → total (action_items (action_of g)) ≤ 25 + 6 * length g.nodes + 12 * length g.yielders → map Some words ≡ map encode (code_of (action_items (action_of g))) → (stack units : ℕ) → 1 ≤ stack → stack ≤ 16777216 → 1 ≤ units → units ≤ 4194304 → IsRight (compiled_image (instruction_bytes words) stack units) (node_count g) (subject_of g stack units)
-  generated-right words labels short encoded stack units s_low s u_low u =
+  -- the image of the words is right, whatever table measures it
+  pub generated-right : (words : List ℕ) → LabelsStand (action_items (action_of g)) → total (action_items (action_of g)) ≤ 25 + 12 * node_count (action_of g) → map Some words ≡ map encode (code_of (action_items (action_of g))) → (t : MarkedTable) (stack units : ℕ) → 1 ≤ stack → stack ≤ 16777216 → 1 ≤ units → units ≤ 4194304 → IsRight (compiled_image (instruction_bytes words) stack units) (record { action = action_of g; table = t; stack = stack; units = units })
+  generated-right words labels short encoded t stack units s_low s u_low u =
       let a = action_of g in
       let items = action_items a in
       let code = code_of items in
-      let few : length g.nodes + length g.yielders ≤ 65536 = length-nodes_few g graph in
+      let few = count-few g graph in
       let known = words-encoded words code encoded in
-      let x = subject_of g stack units in
+      let x : Subject = record { action = a; table = t; stack = stack; units = units } in
       let size_is : length (code_bytes code) ≡ 4 * total items = length-code_bytes code ∙ ap (λ n. 4 * n) (length-code (spot items) 0 items) in
-      let paid = λ (k n : ℕ) (le : n ≤ 0). factor-covers 0 (most_yielders a) n (node_yielder_count (node_at a k)) le (most-yielders a k) in
-      subst (λ b. IsRight (compiled_image b stack units) (node_count g) x) (sym known.bytes)
+      let w = width (length a) t in
+      let covers = factor-covers w (most_yielders a) in
+      let ample : 400 ≤ factor_by a t = omega (arith, covers 0 0 (omega arith) (omega arith)) in
+      let paid = λ (k n : ℕ) (le : n ≤ 0). covers n (node_yielder_count (node_at a k)) (omega (arith, le)) (most-yielders a k) in
+      subst (λ b. IsRight (compiled_image b stack units) x) (sym known.bytes)
       (record {
-        loads = compiled-loads (code_bytes code) stack units (node_count g) (code_bytes-small code) (length-nodes_few g graph) s u (omega (arith, size_is, short));
-        shows = λ input is_bytes m. image-shows x compilable labels (omega (arith, short, few)) (omega arith) paid s_low s u input is_bytes known.encodable m;
+        loads = compiled-loads (code_bytes code) x (code_bytes-small code) few s u (omega (arith, size_is, short));
+        shows = λ input is_bytes m. image-shows x compilable labels (omega (arith, short, few)) ample paid s_low s u input is_bytes known.encodable m;
       })

@@ -8,7 +8,8 @@ use Rattle.rv_code.specs.Images.{ImageSegment, AreApart}
 use Rattle.rv_code.specs.declared.instruction.Inst.{Inst}
 use Rattle.rv_code.proofs.ByteLaws.{bytes-small}
 use Rattle.rv_asm.specs.Conventions.{code_bytes, region_address, region_size}
-use Rattle.rv_codegen.specs.RightImage.{compiled_image, code_limit, Loads}
+use Rattle.rv_codegen.specs.Measures.{node_count}
+use Rattle.rv_codegen.specs.RightImage.{compiled_image, code_limit, Subject, Loads}
 
 -- a fact of each of two
 All-two : {X : Type 0} (P : X → Type 0) (x y : X) → P x → P y → All P (x ∷ y ∷ [])
@@ -31,23 +32,23 @@ unfolding code_bytes
 code_bytes-small [] = All-nil (λ b. b < 256)
 code_bytes-small (i ∷ code) = All-append (λ b. b < 256) (bytes_of 4 (word_of i)) (code_bytes code) (bytes-small 4 (word_of i)) (code_bytes-small code)
 
-pub compiled-loads : (code : List ℕ) (stack units nodes : ℕ) → All (λ b. b < 256) code → nodes ≤ 65536 → stack ≤ 16777216 → units ≤ 4194304 → length code ≤ code_limit nodes → Loads (compiled_image code stack units) stack units nodes
-compiled-loads code stack units nodes small few s u short =
+pub compiled-loads : (code : List ℕ) (x : Subject) → All (λ b. b < 256) code → node_count x.action ≤ 65536 → x.stack ≤ 16777216 → x.units ≤ 4194304 → length code ≤ code_limit (node_count x.action) → Loads (compiled_image code x.stack x.units) x
+compiled-loads code x small few s u short =
     let size = length code in
     let behind : 65536 + size ≤ region_address size = omega arith in
     let below : region_address size ≤ 65536 + size + 4096 = omega arith in
     let code_part : ImageSegment = record { address = 65536; flags = 1; bytes = code; size = size } in
-    let region : ImageSegment = record { address = region_address size; flags = 6; bytes = []; size = region_size stack units } in
+    let region : ImageSegment = record { address = region_address size; flags = 6; bytes = []; size = region_size x.stack x.units } in
     record {
       valid = record {
         few = omega arith;
-        flags = All-two (λ x. x.flags ≤ 7) code_part region (omega arith) (omega arith);
-        sizes = All-two (λ x. length x.bytes ≤ x.size) code_part region (omega arith) (omega arith);
-        low = All-two (λ x. x.address + x.size ≤ 2 ^ 32) code_part region (omega arith) (omega arith);
+        flags = All-two (λ part. part.flags ≤ 7) code_part region (omega arith) (omega arith);
+        sizes = All-two (λ part. length part.bytes ≤ part.size) code_part region (omega arith) (omega arith);
+        low = All-two (λ part. part.address + part.size ≤ 2 ^ 32) code_part region (omega arith) (omega arith);
         apart = AllPairs-two AreApart code_part region (inr (inr (inl behind)));
         total = omega arith;
       };
-      bytes = All-two (λ x. All (λ b. b < 256) x.bytes) code_part region small (All-nil (λ b. b < 256));
+      bytes = All-two (λ part. All (λ b. b < 256) part.bytes) code_part region small (All-nil (λ b. b < 256));
       code = code;
       compiled = refl;
       short = short;

@@ -29,6 +29,8 @@ use Rattle.action_terms.specs.Steps.{Step}
 use Rattle.action_terms.specs.Frames.{Frame, plug}
 use Rattle.action_terms.proofs.Parts.{Reaches}
 use Rattle.rv_codegen.specs.Blocks.{end_label, action_items}
+use Rattle.sort_rules.specs.Measures.{sizes}
+use Rattle.rv_codegen.specs.Measures.{factor_by}
 use Rattle.rv_codegen.specs.RightImage.{compiled_image, Subject, SomeEnd, ShowsExit, Shows}
 use Rattle.rv_codegen.proofs.Configurations.{Configuration, EndCode, depth, performances}
 use Rattle.rv_codegen.proofs.Entering.{round_up-runs}
@@ -60,7 +62,7 @@ are-bytes : (input : List ℕ) → All (λ b. b < 256) input → AreBytes input
 are-bytes [] h = tt
 are-bytes (b ∷ bs) h = (All-head (λ c. c < 256) b bs h, are-bytes bs (All-tail (λ c. c < 256) b bs h))
 
-module _ (x : Subject) (ok : IsCompilable x.action) (labels : LabelsStand (action_items x.action)) (small : 4 * total (action_items x.action) < 1073741824) (ample : 400 ≤ x.factor) (paid : (k n : ℕ) → n ≤ 0 → 400 + 24 * (n + 1) * (node_yielder_count (node_at x.action k) + 1) ≤ x.factor) (some_words : 1 ≤ x.stack) (few_words : x.stack ≤ 16777216) (few_units : x.units ≤ 4194304) (input : List ℕ) (bytes : All (λ b. b < 256) input) where
+module _ (x : Subject) (ok : IsCompilable x.action) (labels : LabelsStand (action_items x.action)) (small : 4 * total (action_items x.action) < 1073741824) (ample : 400 ≤ factor_by x.action x.table) (paid : (k n : ℕ) → n ≤ 0 → 400 + 24 * (n + 1) * (node_yielder_count (node_at x.action k) + 1) ≤ factor_by x.action x.table) (some_words : 1 ≤ x.stack) (few_words : x.stack ≤ 16777216) (few_units : x.units ≤ 4194304) (input : List ℕ) (bytes : All (λ b. b < 256) input) where
   abbrev items : List Item
   items = action_items x.action
 
@@ -191,7 +193,7 @@ module _ (x : Subject) (ok : IsCompilable x.action) (labels : LabelsStand (actio
   shows-end steps frames _ world exit none code_is reached = absurd code_is
 
   -- an exit with 3 shows a part that passes the capacity
-  shows-full : (steps : List Step) (frames : List Frame) (focus : Tree) (world : World) (exit : ℕ) → exit ≡ 3 → Passes x.action x.sizes x.stack x.units steps (record { tree = plug frames focus; world = world }) → Reaches x.action (records input) steps (plug frames focus) world → ShowsExit x input (messages_bytes world.output) exit
+  shows-full : (steps : List Step) (frames : List Frame) (focus : Tree) (world : World) (exit : ℕ) → exit ≡ 3 → Passes x.action (sizes x.action x.table) x.stack x.units steps (record { tree = plug frames focus; world = world }) → Reaches x.action (records input) steps (plug frames focus) world → ShowsExit x input (messages_bytes world.output) exit
   shows-full steps frames focus world exit code_is passes reached =
       subst (ShowsExit x input (messages_bytes world.output)) (sym code_is) (steps, record { tree = plug frames focus; world = world }, reached, refl, passes)
 

@@ -1,5 +1,5 @@
+pub mod Measures
 pub mod RightImage
 pub mod Blocks
 pub mod Marks
 pub mod Works
-pub mod Measures

@@ -3,10 +3,9 @@
 ghost use Rattle.std.specs.Prelude.{◌≡◌, [], ◌<◌, true, length, IfOk};
 ghost use Rattle.action_terms.specs.Actions.{Simple, node_at};
 ghost use Rattle.action_terms.specs.Forms.{primitive_viewed};
-ghost use Rattle.action_terms.specs.Need.{node_yielder_count};
+ghost use Rattle.action_terms.specs.Need.{node_yielder_count, most_yielders, factor};
 ghost use Rattle.action_terms.specs.Meaning.{action_of};
 ghost use Rattle.rv_yield.specs.Counts.{AreCounts, capped};
-ghost use Rattle.rv_codegen.specs.Measures.{factor_of};
 ghost use Rattle.rv_codegen.specs.Works.{is_built_node, unbuilt};
 
 use acg_base::Memory;
@@ -32,7 +31,7 @@ fn yielder_count(graph: &Graph<'_>, counts: &[usize], k: usize) -> usize
 /// `Err` says want of memory.
 pub fn instructions_per_step(alloc: Global, graph: &Graph<'_>) -> Result<u64, Memory>
     requires { unbuilt (action_of graph.now) ≡ [] }
-    ensures { IfOk result (λ factor. factor ≡ factor_of (action_of graph.now)) }
+    ensures { IfOk result (λ steps. steps ≡ factor 0 (most_yielders (action_of graph.now))) }
 {
     let counts = yielder_counts(alloc, graph)?;
     let mut most: usize = 0;

@@ -9,10 +9,11 @@ ghost use Rattle.action_terms.specs.Literals.{NumbersFit};
 ghost use Rattle.action_terms.specs.Meaning.{action_of};
 ghost use Rattle.action_terms.specs.Need.{node_yielder_count};
 ghost use Rattle.action_terms.specs.Numbering.{IsGraph};
+ghost use Rattle.sort_rules.specs.Tables.{MarkedTable};
 ghost use Rattle.rv_codegen.specs.Blocks.{first_label, blocks_from, action_items};
 ghost use Rattle.rv_codegen.specs.Marks.{extended, AreFresh};
 ghost use Rattle.rv_codegen.specs.Works.{unbuilt};
-ghost use Rattle.rv_codegen.specs.Measures.{subject_of, node_count};
+ghost use Rattle.rv_codegen.specs.Measures.{node_count};
 ghost use Rattle.rv_codegen.specs.RightImage.{compiled_image, IsRight};
 
 use crate::entries::{append_entries, append_prelude, make_entries};
@@ -50,8 +51,7 @@ fn append_action(asm: &mut Asm, plan: Plan<'_, '_>) -> Result<(), Memory>
     requires made { first_label + length plan.labels.row.now ≤ asm.old.labels }
     ensures items { OnOk result (asm.new.items ≡ action_items (action_of plan.entry.graph.now)) }
     ensures short { OnOk result
-        (total asm.new.items ≤ 25 + 6 * length plan.entry.graph.now.nodes
-        + 12 * length plan.entry.graph.now.yielders) }
+        (total asm.new.items ≤ 25 + 12 * node_count (action_of plan.entry.graph.now)) }
 {
     append_prelude(asm, plan.entries)?;
     append_nodes(asm, plan)?;
@@ -65,8 +65,7 @@ fn assemble(alloc: Global, graph: &Graph<'_>) -> Result<Code, Memory>
         ≡ map encode (code_of (action_items (action_of graph.now)))) }
     ensures labels { OnOk result (LabelsStand (action_items (action_of graph.now))) }
     ensures short { OnOk result
-        (total (action_items (action_of graph.now))
-        ≤ 25 + 6 * length graph.now.nodes + 12 * length graph.now.yielders) }
+        (total (action_items (action_of graph.now)) ≤ 25 + 12 * node_count (action_of graph.now)) }
     ensures graph { OnOk result (IsGraph graph.now) }
     ensures numbers { OnOk result (NumbersFit (action_of graph.now)) }
 {
@@ -90,14 +89,14 @@ fn assemble(alloc: Global, graph: &Graph<'_>) -> Result<Code, Memory>
 }
 
 /// The code of an action whose nodes are built: words of 32 bits, for the image of which it is
-/// proved that it is right for the action, whatever capacity in its ranges is written into it. An
-/// `Err` says want of memory.
+/// proved that it is right for the action, whatever table measures it, and whatever capacity in its
+/// ranges is written into it. An `Err` says want of memory.
 pub fn generate(alloc: Global, graph: &Graph<'_>) -> Result<Code, Memory>
     requires built { unbuilt (action_of graph.now) ≡ [] }
-    ensures right { IfOk result (λ code. (stack units : ℕ)
+    ensures right { IfOk result (λ code. (t : MarkedTable) (stack units : ℕ)
         → 1 ≤ stack → stack ≤ 16777216 → 1 ≤ units → units ≤ 4194304
         → IsRight (compiled_image (instruction_bytes code.words.items) stack units)
-        (node_count graph.now) (subject_of graph.now stack units)) }
+        (record { action = action_of graph.now; table = t; stack = stack; units = units })) }
 {
     assemble(alloc, graph)
 }

@@ -2,7 +2,6 @@ use Rattle.std.proofs.Common.{ℕ, [], ◌++◌, ap, sym, subst}
 use Rattle.acg_base.specs.declared.capacity.TheConstants.{DEFAULT_STACK, DEFAULT_UNITS}
 use Rattle.rv_code.specs.Machine.{run}
 use Rattle.rv_machine.specs.Machines.{state_of, sent_in}
-use Rattle.rv_codegen.specs.Measures.{subject_of, node_count}
 use Rattle.acg_words.specs.Lines.{bytes_of, status_of, header_line}
 use Rattle.acg_driver.specs.Runs.{instruction_limit, output_lines, IsRunOf, IsRun}
 use Rattle.acg_driver.specs.Sending.{SendsMessages}
@@ -15,7 +14,7 @@ pub run_machine-requires : goal.run_machine-requires
 run_machine-requires g c =
     let graph = c.requires.0 in
     let start = c.requires.1.0 in
-    λ m. subst (λ machine. SendsMessages (run m (state_of machine [] []))) (sym start.2) (right-sends start.0 (node_count graph) (subject_of graph DEFAULT_STACK DEFAULT_UNITS) start.1 m)
+    λ m. subst (λ machine. SendsMessages (run m (state_of machine [] []))) (sym start.2) (right-sends graph start.0 start.1 m)
 
 pub returns-in-Ok : goal.returns-in-Ok
 returns-in-Ok g c = λ graph loaded.
@@ -36,7 +35,7 @@ pub returns-in-Err-Failed : goal.returns-in-Err-Failed
 returns-in-Err-Failed g c = λ graph loaded.
     let start = loaded.0 in
     let machine = c.args.loaded.now.machine in
-    let sane : (m : ℕ) → SendsMessages (run m (state_of machine [] [])) = λ m. subst (λ k. SendsMessages (run m (state_of k [] []))) (sym start.2) (right-sends start.0 (node_count graph) (subject_of graph DEFAULT_STACK DEFAULT_UNITS) start.1 m) in
+    let sane : (m : ℕ) → SendsMessages (run m (state_of machine [] [])) = λ m. subst (λ k. SendsMessages (run m (state_of k [] []))) (sym start.2) (right-sends graph start.0 start.1 m) in
     let whole = whole-run instruction_limit machine sane in
     let rest = output_lines (sent_in instruction_limit machine []) ++ bytes_of whole.line in
     said-broke {P = IsRun graph} rest (status_of whole.line) c.in-Err-Failed.ensures.printed.failed (

@@ -5,10 +5,11 @@ use Rattle.rv_asm.specs.Assembly.{code_of, total}
 use Rattle.std.proofs.lemmas.List.{length-map}
 use Rattle.action_terms.specs.Nodes.{listed_node}
 use Rattle.action_terms.specs.Meaning.{action_of}
-use Rattle.action_terms.proofs.GraphLaws.{length-nodes_few}
 use Rattle.rv_codegen.proofs.Emitting.{OnOk-always}
 use Rattle.rv_codegen.proofs.ExitLaws.{exits-made}
 use Rattle.rv_codegen.proofs.GraphNodes.{length-action_of, tree-of-graph}
+use Rattle.rv_codegen.specs.Measures.{node_count}
+use Rattle.rv_codegen.proofs.Generated.{count-few}
 use Rattle.rv_codegen.proofs.Yielders.{node-yielders_few}
 use Rattle.rv_codegen.proofs.generation.assemble.Goals as goal
 
@@ -21,7 +22,7 @@ returns-clause-labels c = subst (λ items. OnOk c.finish.result (LabelsStand ite
 
 pub returns-clause-short : goal.returns-clause-short
 returns-clause-short c =
-    OnOk-always _ c.finish.result (subst (λ items. total items ≤ 25 + 6 * length c.args.graph.now.nodes + 12 * length c.args.graph.now.yielders) c.in_ok-append_action.ensures.items c.in_ok-append_action.ensures.short)
+    OnOk-always _ c.finish.result (subst (λ items. total items ≤ 25 + 12 * node_count (action_of c.args.graph.now)) c.in_ok-append_action.ensures.items c.in_ok-append_action.ensures.short)
 
 pub invariant_of-plan-clause-made : goal.invariant_of-plan-clause-made
 invariant_of-plan-clause-made c =
@@ -32,4 +33,4 @@ pub invariant_of-plan-clause-few : goal.invariant_of-plan-clause-few
 invariant_of-plan-clause-few c = node-yielders_few c.args.graph.now c.nodes-count.ensures.of_an_action
 
 pub finish-requires : goal.finish-requires
-finish-requires c = omega (arith, c.in_ok-append_action.ensures.short, length-nodes_few c.args.graph.now c.nodes-count.ensures.of_an_action)
+finish-requires c = omega (arith, c.in_ok-append_action.ensures.short, count-few c.args.graph.now c.nodes-count.ensures.of_an_action)
