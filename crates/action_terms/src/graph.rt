@@ -72,7 +72,9 @@ impl<'a> Graph<'a> {
 
     /// The same graph once more. Its lists stay where they are.
     pub fn share(&self) -> Graph<'a>
-        ensures { result ≡ self.now }
+        ensures same { result ≡ self.now }
+        ensures of_an_action { IsGraph self.now }
+        ensures proper { IsProper (action_of self.now) }
     {
         Graph::of_lists(self.nodes(), self.yielders())
     }
