@@ -8,6 +8,7 @@ pub mod Handling
 pub mod RightRuns
 pub mod RunLemmas
 pub mod PerformanceLemmas
+pub mod ActRuns
 pub mod Performs
 pub mod ActLemmas
 pub mod PerformLemmas

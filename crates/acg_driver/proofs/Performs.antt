@@ -1,4 +1,4 @@
--- An action that reads is performed.
+-- An action that reads is performed, or run where it has code.
 use Rattle.std.proofs.Common.{◌≡◌, ◌≢◌, inl, inr, ℕ, ◌≤◌, ℤ, List, [], ◌∷◌, length, Option, Some, None, refl, sym, ap, ◌∙◌, subst, arith}
 use Rattle.acg_base.specs.Outside.{Contents, front}
 use Rattle.acg_base.specs.declared.limits.TheConstants.{LIMIT_ACTION, LIMIT_INPUT}
@@ -11,10 +11,11 @@ use Rattle.acg_words.specs.Lines.{status_of}
 use Rattle.acg_words.specs.declared.line.Line.{Line}
 use Rattle.acg_words.specs.declared.line.Line.TheVariants.{LimitInput, Memory, ReadFault, Running}
 use Rattle.acg_driver.specs.Texts.{IsUnread}
-use Rattle.acg_driver.specs.Files.{files_if, input_files, readings_of, IsGiven, AreGiven}
+use Rattle.acg_driver.specs.Files.{files_if, input_files, readings_of, AreGiven}
 use Rattle.acg_driver.specs.Commands.Perform.{end_line, IsOutcome, IsPerformed, RefusesBytes, RefusesInput}
 use Rattle.acg_driver.specs.Serving.{Replies, RepliesIf, IsOfPerformance, IsInput, PerformsAsked}
-use Rattle.acg_driver.proofs.Fronts.{whole-front}
+use Rattle.acg_driver.proofs.ActRuns.{act-performs}
+use Rattle.acg_driver.proofs.Fronts.{given-is, whole-front}
 use Rattle.acg_driver.proofs.TextErrors.{content-refused}
 
 memory-performs : (line : Line) → line ≡ Memory → IsOfPerformance (status_of line)
@@ -38,13 +39,6 @@ outcome-performs count tree line (z, within, ended, is) = subst (λ l. IsOfPerfo
 performed-performs : (n : ℕ) (g : Listed) (input : List ℤ) (text : List ℕ) (s : Status) → IsPerformed n g input text s → IsOfPerformance s
 performed-performs n g input text s (steps, state, line, scheduled, outcome, says) =
     subst IsOfPerformance (sym says.1) (outcome-performs (length steps) state.tree line outcome)
-
--- what was given of a content
-given-is : (contents : Contents) (name content given : List ℕ) (limit : ℕ) → contents name ≡ Some content → IsGiven contents (record { name = name; limit = limit; given = given }) → given ≡ front limit content
-given-is contents name content given limit there is =
-    let both = sym there ∙ is.1 in
-    let same : is.0 ≡ content = cc in
-    is.2 ∙ ap (front limit) same
 
 bytes-perform : (bytes taken : List ℕ) (line : Line) → taken ≡ front LIMIT_INPUT bytes → length bytes ≤ LIMIT_INPUT → RefusesBytes taken line → IsOfPerformance (status_of line)
 bytes-perform bytes taken LimitInput is within long =
@@ -77,7 +71,7 @@ perform-performs contents n action input (b ∷ givens) text s given (inr (h, in
 pub reply-performs : (contents : Contents) (asked : Option Command) (givens : List (List ℕ)) (text : List ℕ) (s : Status) → AreGiven contents (readings_of (files_if asked) givens) → RepliesIf asked givens text s
     → s ≢ status.ReadFault → PerformsAsked contents asked s
 reply-performs contents None givens text s given reply not = tt
-reply-performs contents (Some (Act action)) givens text s given reply not = tt
+reply-performs contents (Some (Act action)) givens text s given reply not = act-performs contents action givens text s given reply not
 reply-performs contents (Some (Perform n action input)) givens text s given reply not = perform-performs contents n action input givens text s given reply not
 reply-performs contents (Some Help) givens text s given reply not = tt
 reply-performs contents (Some Version) givens text s given reply not = tt

@@ -19,7 +19,7 @@ use Rattle.acg_driver.specs.Texts.{Errs, Reads, RefusesText}
 use Rattle.acg_driver.proofs.Fronts.{short-front, whole-front}
 
 -- a text is that of one action
-one_text : (bytes : List ℕ) (t u : Tree) → IsTextOf bytes t → IsTextOf bytes u → t ≡ u
+pub one_text : (bytes : List ℕ) (t u : Tree) → IsTextOf bytes t → IsTextOf bytes u → t ≡ u
 one_text bytes t u first second =
     let same = one_token_list bytes first.tokens second.tokens first.are_tokens second.are_tokens in
     one_action t u (token_bytes second.tokens) (subst (λ ts. Spells t (token_bytes ts)) same first.spells) second.spells

@@ -16,7 +16,7 @@ use Rattle.acg_words.specs.declared.line.Line.TheVariants.{Words}
 use Rattle.acg_driver.specs.Texts.{Reads}
 use Rattle.acg_driver.specs.Says.{Says, SaysOne}
 use Rattle.acg_driver.specs.Files.{File, files_if, readings_of, ReadOnly, FaultsWhere, Lacks, missing_file}
-use Rattle.acg_driver.specs.Commands.Act.{RefusesAct, RunsAct}
+use Rattle.acg_driver.specs.Commands.Act.{RefusesAct, IsBuilt, RunsAct}
 use Rattle.acg_driver.specs.Commands.Perform.{RefusesPerform, SaysPerform}
 
 -- the line with which a command is refused, from what its files gave
@@ -81,8 +81,16 @@ abbrev pub IsInput : Contents → Option (List ℕ) → (bytes : List ℕ) → T
 IsInput contents None bytes = bytes ≡ []
 IsInput contents (Some name) bytes = contents name ≡ Some bytes
 
--- an action that reads, and an input within its limit, are performed: nothing is refused, unless memory runs out
+-- the statuses of the run of an image that isn't refused
+abbrev pub IsOfRun : Status → Type 0
+IsOfRun status.Full = Unit {0}
+IsOfRun status = IsOfPerformance status
+
+-- nothing is refused, unless memory runs out: an action that reads and whose nodes have code is run, and an action that
+-- reads is performed with an input within its limit
 abbrev pub PerformsAsked : Contents → Option Command → Status → Type 0
+PerformsAsked contents (Some (Act action)) result =
+    (content : List ℕ) (g : Listed) → contents action ≡ Some content → IsBuilt content g → IsOfRun result
 PerformsAsked contents (Some (Perform n action input)) result =
     (content : List ℕ) (g : Listed) (bytes : List ℕ) → contents action ≡ Some content → Reads content g
     → IsInput contents input bytes → length bytes ≤ LIMIT_INPUT → IsOfPerformance result

@@ -54,7 +54,8 @@ pub fn serve<S: Store, K: Sink>(alloc: Global, words: &Words, store: &mut S, out
     ensures named { IsTrue (S.sure store.old) →
         Names K.Sink (missing_file (S.contents store.old) (files_asked words.now)) out.old out.new result }
 
-    // An action that reads is performed: only want of memory and faults are free to come.
+    // An action that reads is performed, or run where it has code: only want of memory and faults are
+    // free to come.
     ensures performs { IsTrue (S.tells store.old) → result ≢ Status.ReadFault → result ≢ Status.WriteFault →
         Performs (S.contents store.old) words.now result }
 

@@ -1,0 +1,78 @@
+-- An action that reads, and whose nodes have code, is run.
+use Rattle.std.proofs.Common.{◌≡◌, ◌≢◌, inl, inr, ℕ, zero, suc, List, [], ◌∷◌, Some, slice_get, refl, sym, ap, ◌∙◌, subst}
+use Rattle.acg_base.specs.Outside.{Contents}
+use Rattle.acg_base.specs.declared.limits.TheConstants.{LIMIT_ACTION}
+use Rattle.acg_base.specs.declared.status.Status.{Status}
+use Rattle.acg_base.specs.declared.status.Status.TheVariants as status
+use Rattle.action_terms.specs.Numbering.{Listed, listed}
+use Rattle.action_terms.specs.Meaning.{action_of}
+use Rattle.rv_code.specs.Machine.{Outcome, Ran, Exited, Trapped, run}
+use Rattle.rv_code.specs.Images.{started}
+use Rattle.rv_codegen.specs.Works.{unbuilt}
+use Rattle.acg_words.specs.Commands.{Act}
+use Rattle.acg_words.specs.Lines.{status_of}
+use Rattle.acg_words.specs.declared.line.Line.{Line}
+use Rattle.acg_words.specs.declared.line.Line.TheVariants.{Memory, ReadFault, Unbuilt}
+use Rattle.acg_driver.specs.Texts.{Reads, IsUnread}
+use Rattle.acg_driver.specs.Files.{files_if, readings_of, AreGiven}
+use Rattle.acg_driver.specs.Runs.{instruction_limit, IsExit, IsRunOf, IsRun}
+use Rattle.acg_driver.specs.Commands.Act.{IsBuilt, IsUnbuilt}
+use Rattle.acg_driver.specs.Serving.{Replies, IsOfRun, PerformsAsked}
+use Rattle.acg_driver.proofs.Fronts.{given-is}
+use Rattle.acg_driver.proofs.TextErrors.{one_text, content-refused, reads-whole}
+
+-- bytes are the text of one graph
+one-graph : (bytes : List ℕ) (g h : Listed) → Reads bytes g → Reads bytes h → g ≡ h
+one-graph bytes g h (small, (t, text, graph)) (less, (u, other, same)) =
+    graph.numbered ∙ ap listed (one_text bytes t u text other) ∙ sym same.numbered
+
+-- no node of an action that has code is named as one that has none
+built-unbuilt : (bytes : List ℕ) (g : Listed) (line : Line) → IsBuilt bytes g → IsUnbuilt bytes line → ⊥
+built-unbuilt bytes g (Unbuilt node) (reads, built) (h, others, first) =
+    let none : unbuilt (action_of h) ≡ [] =
+    subst (λ x. unbuilt (action_of x) ≡ []) (one-graph bytes g h reads others) built in
+    let at : slice_get [] 0 ≡ Some node = sym (ap (λ ks. slice_get ks 0) none) ∙ first in
+    absurd (cc)
+built-unbuilt bytes g _ built is = absurd is
+
+memory-runs : (line : Line) → line ≡ Memory → IsOfRun (status_of line)
+memory-runs line is = subst (λ l. IsOfRun (status_of l)) (sym is) tt
+
+unread-runs : (name : List ℕ) (line : Line) → IsUnread name line → status_of line ≢ status.ReadFault → IsOfRun (status_of line)
+unread-runs name (ReadFault other) unread not = absurd (not refl)
+unread-runs name Memory unread not = tt
+unread-runs name _ unread not = absurd unread
+
+exit-runs : (code : ℕ) (line : Line) → IsExit code line → IsOfRun (status_of line)
+exit-runs zero line is = subst (λ l. IsOfRun (status_of l)) (sym is) tt
+exit-runs (suc zero) line is = subst (λ l. IsOfRun (status_of l)) (sym is) tt
+exit-runs (suc (suc zero)) line is = subst (λ l. IsOfRun (status_of l)) (sym is) tt
+exit-runs (suc (suc (suc zero))) line is = subst (λ l. IsOfRun (status_of l)) (sym is) tt
+exit-runs (suc (suc (suc (suc code)))) line is = absurd is
+
+outcome-runs : (o : Outcome) (text : List ℕ) (s : Status) → IsRunOf o text s → IsOfRun s
+outcome-runs (Ran t) text s says = subst IsOfRun (sym says.1) tt
+outcome-runs (Exited code sent) text s (line, exit, says) = subst IsOfRun (sym says.1) (exit-runs code line exit)
+outcome-runs (Trapped cause) text s says = absurd says
+
+run-runs : (g : Listed) (text : List ℕ) (s : Status) → IsRun g text s → IsOfRun s
+run-runs g text s (image, right, (rest, is, runs)) = outcome-runs (run instruction_limit (started image [])) rest s runs
+
+-- what is replied to `act` over a store that tells its contents
+pub act-performs :
+    (contents : Contents) (action : List ℕ) (givens : List (List ℕ)) (text : List ℕ) (s : Status) →
+    AreGiven contents (readings_of (files_if (Some (Act action))) givens) → Replies (Act action) givens text s →
+    s ≢ status.ReadFault → PerformsAsked contents (Some (Act action)) s
+act-performs contents action [] text s given (inl (line, unread, says)) not content g there built =
+    subst IsOfRun (sym says.1) (unread-runs action line unread (λ e. not (says.1 ∙ e)))
+act-performs contents action [] text s given (inr none) not content g there built = absurd none
+act-performs contents action (b ∷ []) text s given (inl (line, inl refused, says)) not content g there built =
+    let front_of = given-is contents action content b LIMIT_ACTION there given.0 in
+    subst IsOfRun (sym says.1) (memory-runs line (content-refused content b g line front_of built.0 refused))
+act-performs contents action (b ∷ []) text s given (inl (line, inr is, says)) not content g there built =
+    let front_of = given-is contents action content b LIMIT_ACTION there given.0 in
+    let whole = reads-whole content b g front_of built.0 in
+    absurd (built-unbuilt content g line built (subst (λ x. IsUnbuilt x line) whole is))
+act-performs contents action (b ∷ []) text s given (inr (h, is, runs)) not content g there built = run-runs h text s runs
+act-performs contents action (b ∷ more ∷ others) text s given (inl (line, none, says)) not content g there built = absurd none
+act-performs contents action (b ∷ more ∷ others) text s given (inr none) not content g there built = absurd none
