@@ -202,6 +202,7 @@ module _ (x : Subject) (ok : IsCompilable x.action) (labels : LabelsStand (actio
     numbers = ok.numbers;
     few = ok.few;
     within = λ k h. omega (arith, within k h);
+    unfed = λ k. refl;
     none = λ k p e. record { out = refl; bound_out = refl };
     closed = λ h. h;
     uncalled = λ n c h. h;

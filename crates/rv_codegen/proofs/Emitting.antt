@@ -1,14 +1,14 @@
 -- What the functions that append code leave, put together from what each of them ensures.
-use Rattle.std.proofs.Common.{◌≡◌, ◌≢◌, ℕ, ◌<◌, ◌+◌, ◌≤◌, List, [], ◌∷◌, ◌++◌, false, OnOk, Result, Ok, Err, sym, ap, ◌∙◌, subst, arith, inl, inr, append_assoc}
+use Rattle.std.proofs.Common.{◌≡◌, ◌≢◌, ℕ, ◌<◌, ◌+◌, ◌≤◌, List, [], ◌∷◌, ◌++◌, false, OnOk, Result, Ok, Err, map, sym, ap, ◌∙◌, subst, arith, inl, inr, append_assoc}
 use Rattle.rv_asm.specs.Assembly.{Listing, is_placed, total}
 use Rattle.rv_asm.specs.Pieces.{appended}
 use Rattle.rv_code.specs.declared.instruction.Inst.{Inst}
 use Rattle.rv_asm.specs.declared.item.Item.{Item}
-use Rattle.rv_asm.specs.declared.item.Item.TheVariants.{Mark, Jump, Address}
+use Rattle.rv_asm.specs.declared.item.Item.TheVariants.{Plain, Mark, Jump, Address}
 use Rattle.rv_asm.proofs.Labels.{total-append}
 use Rattle.rv_codegen.specs.Blocks.{first_label, joint_of, front_of, start_of, stop_of, opening, prelude, entries}
-use Rattle.rv_codegen.specs.Marks.{extended, AreFresh}
-use Rattle.rv_codegen.proofs.Fresh.{fresh-mark, fresh-plain, fresh-opening}
+use Rattle.rv_codegen.specs.Marks.{extended, AreFresh, PlacesStop}
+use Rattle.rv_codegen.proofs.Fresh.{fresh-mark, fresh-plain, fresh-jump, fresh-opening, total-jump}
 
 -- what an `Ok` tells tells what follows from it
 pub OnOk-then : {T E A B : Type 0} (r : Result T E) → (A → B) → OnOk r A → OnOk r B
@@ -73,6 +73,15 @@ call-short s s1 s2 s3 l m e1 e2 e3 =
     let b : total s2.items ≡ total s1.items + 2 = ap (λ z. total z.items) e2 ∙ total-append s1.items (Jump m ∷ []) in
     let c : total s3.items ≡ total s2.items + 0 = ap (λ z. total z.items) e3 ∙ total-append s2.items (Mark l ∷ []) in
     omega (arith, a, b, c)
+
+-- an instruction and a jump
+module _ (s s1 s2 : Listing) (i : Inst) (m : ℕ) (first : s1 ≡ appended s (i ∷ [])) (second : s2 ≡ record s1 { items = s1.items ++ Jump m ∷ [] }) where
+  pub jumping-keeps : (k : ℕ) → PlacesStop k s.items s2.items
+  jumping-keeps k l ne h =
+      subst (λ z. is_placed z.items l ≡ false) (sym second) (fresh-jump s1.items m l (subst (λ z. is_placed z.items l ≡ false) (sym first) (fresh-plain s.items (i ∷ []) l h)))
+
+  pub jumping-short : total s2.items ≤ total s.items + 3
+  jumping-short = omega (arith, ap (λ z. total z.items) first, total-append s.items (map Plain (i ∷ [])), ap (λ z. total z.items) second, total-jump s1.items m)
 
 -- one piece and then another
 pub both-appended : (s s1 s2 : Listing) (a b b' : List Item) → s1 ≡ record s { items = s.items ++ a } → s2 ≡ record s1 { items = s1.items ++ b } → b ≡ b' → s2 ≡ record s { items = s.items ++ (a ++ b') }

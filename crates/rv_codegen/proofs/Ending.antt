@@ -1,5 +1,5 @@
--- Nodes whose code is a way at most: `complete` and `fail`.
-use Rattle.std.proofs.Common.{◌≡◌, ℕ, suc, ◌<◌, List, [], ◌++◌, None, Some, get_or, refl, sym, ◌∙◌, subst, arith, inr}
+-- Nodes whose code is a way at most: `complete`, `commit`, `regive` where nothing is given, and `fail`.
+use Rattle.std.proofs.Common.{◌≡◌, ℕ, suc, ◌<◌, List, [], ◌∷◌, ◌++◌, None, Some, get_or, refl, sym, ap, ap₂, ◌∙◌, subst, arith, inr}
 use Rattle.rv_asm.specs.Arrivals.{LabelsStand}
 use Rattle.rv_asm.specs.Assembly.{address_of, far_jump, spot}
 use Rattle.rv_asm.specs.DataWords.{Heap}
@@ -7,20 +7,20 @@ use Rattle.rv_asm.specs.WordMachine.{Has}
 use Rattle.rv_asm.specs.declared.item.Item.{Item}
 use Rattle.rv_asm.proofs.Stretches.{quiet-between}
 use Rattle.action_terms.specs.Information.{NoBinds}
-use Rattle.action_terms.specs.Actions.{Complete, Failing, Simple, node_at}
-use Rattle.action_terms.specs.Acting.{Tree}
-use Rattle.action_terms.specs.Performances.{Here}
-use Rattle.action_terms.specs.Steps.{silent, done, failed}
+use Rattle.action_terms.specs.Actions.{Primitive, Complete, Failing, Commit, Regive, Simple, node_at}
+use Rattle.action_terms.specs.Acting.{Done, Ended}
+use Rattle.action_terms.specs.Performances.{OneOf, Here, messages_bytes}
+use Rattle.action_terms.specs.Steps.{Step, Commits, silent, with_effect, commits, world_after, done, failed, making, closures_of, performed}
 use Rattle.action_terms.specs.Frames.{plugged}
-use Rattle.rv_codegen.specs.Blocks.{fail_label, front_of, start_of, opening, leaves}
-use Rattle.rv_codegen.proofs.Around.{BindsLeft}
-use Rattle.rv_codegen.proofs.Holding.{Holds, HoldsBinds, grows-same}
-use Rattle.rv_codegen.proofs.InputLeft.{left-same}
-use Rattle.rv_codegen.proofs.Performing.{Did, step-done, step-failed}
-use Rattle.rv_codegen.proofs.RestPoints.{Laid, Starting, StartGoesOn, near, open-run, went-stands}
+use Rattle.rv_codegen.specs.Blocks.{fail_label, front_of, start_of, opening, leaves, body}
+use Rattle.rv_codegen.proofs.Around.{committed, BindsLeft}
+use Rattle.rv_codegen.proofs.Holding.{Holds, HoldsBinds, grows-same, none-held}
+use Rattle.rv_codegen.proofs.InputLeft.{Left, left-same}
+use Rattle.rv_codegen.proofs.Performing.{chains_after, Did, step-done, step-failed}
+use Rattle.rv_codegen.proofs.RestPoints.{Laid, Region, Starting, StartGoesOn, near, open-run, went-stands}
 use Rattle.rv_codegen.proofs.Settings.{Way, way-runs, Setting, code, point, start, exit, failure}
 use Rattle.rv_codegen.proofs.Standing.{NodeStands, opens}
-use Rattle.rv_codegen.proofs.Units.{units-more}
+use Rattle.rv_codegen.proofs.Units.{Units, units-more}
 use Rattle.rv_codegen.proofs.Walk.{Cursor, way-stands, jump-stands}
 
 -- a node that leaves no data and binds nothing
@@ -41,11 +41,14 @@ module _ (s : Setting) where
       way-stands s n from (front_of (suc k)) (get_or s.exits k 0) (opening (suc k) ++ behind) here c (λ c'. (opens s.items labels (suc k) n behind c').front) (omega arith)
 
   module _ (laid : Laid s) (x : Starting s) where
-    -- a way from the node's start is all that its code does
-    way-did : (t : Tree) (to : ℕ) → Way (code s) (start s x.k) (point s to) → Did s laid x (silent t) (point s to)
-    way-did t to way =
+    -- where there are no places for what is given, nothing is
+    pub none-given : s.places.given x.k ≡ [] → x.d ≡ []
+    none-given unfed = none-held s.base x.runs.here.heap x.runs.here.words x.runs.here.f x.d (subst (λ os. Holds s.base x.runs.here.heap x.runs.here.words x.runs.here.f os x.d) unfed x.runs.given)
+
+    -- a way from the node's start is all that its code does, for a step that leaves the world as it is
+    way-did : (n : Step) (to : ℕ) → world_after n.effect x.world ≡ x.world → Region s x.runs.here.words (chains_after (commits n.effect) x.runs.here.chains) → Way (code s) (start s x.k) (point s to) → Did s laid x n (point s to)
+    way-did n to same region way =
         let h = x.runs.here in
-        let n = silent t in
         let g = way-runs s.base (code s) x.state (start s x.k) (point s to) (near s laid (start_of x.k)) (near s laid to) x.runs.at way in
         record {
           end = g.end;
@@ -59,23 +62,42 @@ module _ (s : Setting) where
           grows = grows-same h.heap;
           words = h.words;
           stands = went-stands s x.state (start s x.k) (point s to) h.words h.f g h.stands;
-          region = h.region;
+          region = region;
           agrees = record { here = λ o no. refl; below = λ j l lt. refl };
-          units_are = units-more s h.heap h.words (plugged x.frames n) x.steps x.world.cells h.units_are;
-          left = left-same {ys = g.end.input} g.input x.left;
-          output = g.output ∙ x.shown;
+          units_are = subst (λ w. Units s h.heap h.words (plugged x.frames n ∷ x.steps) w.cells) (sym same) (units-more s h.heap h.words (plugged x.frames n) x.steps x.world.cells h.units_are);
+          left = subst (λ w. Left g.end.input w.input) (sym same) (left-same {ys = g.end.input} g.input x.left);
+          output = g.output ∙ x.shown ∙ ap (λ w. messages_bytes w.output) (sym same);
         }
 
-    pub complete-goes : LabelsStand s.items → start_of x.k < s.labels → LeavesNone s x.k → node_at s.action x.k ≡ Simple Complete → NodeStands s.items s.exits x.k (Simple Complete) → StartGoesOn s x
-    complete-goes labels within none e stands =
-        let way = leaves-stand labels x.k stands.place (start_of x.k) stands.behind stands.opened.start (omega arith) within stands.opened.cursor in
-        let did = way-did done (get_or s.exits x.k 0) way in
-        step-done s laid x (silent done) [] NoBinds (open-run s x.k x.d x.b x.world (Simple Complete) (silent done) e Here) refl did
+    -- the node completes without data and bindings, where its code goes on at once
+    ends-goes : (p : Primitive) (n : Step) → node_at s.action x.k ≡ Simple p → performed p x.d x.b x.world ≡ n → closures_of p ≡ [] → n.made ≡ [] → n.tree ≡ done → world_after n.effect x.world ≡ x.world → Region s x.runs.here.words (chains_after (commits n.effect) x.runs.here.chains) → LabelsStand s.items → start_of x.k < s.labels → LeavesNone s x.k → NodeStands s.items s.exits x.k (Simple p) → body x.k (get_or s.exits x.k 0) (Simple p) ≡ leaves x.k (get_or s.exits x.k 0) → StartGoesOn s x
+    ends-goes p n e is none_made none_in tree same region labels within none stands code_is =
+        let cursor = subst (λ b. Cursor s.items stands.place (b ++ (opening (suc x.k) ++ stands.behind))) code_is stands.opened.cursor in
+        let way = leaves-stand labels x.k stands.place (start_of x.k) stands.behind stands.opened.start (omega arith) within cursor in
+        let did = way-did n (get_or s.exits x.k 0) same region way in
+        let made : making (closures_of p) x.b (performed p x.d x.b x.world) ≡ n = ap₂ (λ cs m. making cs x.b m) none_made is ∙ ap (λ ms. record n { made = ms }) (sym none_in) in
+        let o = open-run s x.k x.d x.b x.world (Simple p) n e (subst (λ m. OneOf n (m ∷ [])) (sym made) Here) in
+        step-done s laid x n [] NoBinds o tree did
         (subst (λ os. Holds s.base did.heap did.words x.runs.here.f os []) (sym none.out) tt)
         (binds-none x.k none did.heap did.words x.runs.here.f)
+
+    pub complete-goes : node_at s.action x.k ≡ Simple Complete → LabelsStand s.items → start_of x.k < s.labels → LeavesNone s x.k → NodeStands s.items s.exits x.k (Simple Complete) → StartGoesOn s x
+    complete-goes e labels within none stands = ends-goes Complete (silent done) e refl refl refl refl refl x.runs.here.region labels within none stands refl
+
+    -- no alternative is open, so nothing has to be closed
+    pub commit-goes : (s.Opens → ⊥) → node_at s.action x.k ≡ Simple Commit → LabelsStand s.items → start_of x.k < s.labels → LeavesNone s x.k → NodeStands s.items s.exits x.k (Simple Commit) → StartGoesOn s x
+    commit-goes closed e labels within none stands =
+        let region : Region s x.runs.here.words (committed x.runs.here.chains) = record { size = x.runs.here.region.size; alternative = λ o. absurd (closed o); trap = λ o. absurd (closed o); mark = λ o. absurd (closed o) } in
+        ends-goes Commit (with_effect Commits done) e refl refl refl refl refl region labels within none stands refl
+
+    -- nothing is given, and so nothing is left
+    pub regive-goes : s.places.given x.k ≡ [] → node_at s.action x.k ≡ Simple Regive → LabelsStand s.items → start_of x.k < s.labels → LeavesNone s x.k → NodeStands s.items s.exits x.k (Simple Regive) → StartGoesOn s x
+    regive-goes unfed e labels within none stands =
+        let nothing = none-given unfed in
+        ends-goes Regive (silent done) e (ap (λ d. silent (Ended (Done d NoBinds))) nothing) refl refl refl refl x.runs.here.region labels within none stands refl
 
     pub fail-goes : node_at s.action x.k ≡ Simple Failing → NodeStands s.items s.exits x.k (Simple Failing) → StartGoesOn s x
     fail-goes e stands =
         let far = jump-stands s.items stands.place fail_label (opening (suc x.k) ++ stands.behind) stands.opened.cursor in
         let way : Way (code s) (start s x.k) (failure s) = inr (subst (λ m. Has (code s) (address_of m) (far_jump m (spot s.items fail_label))) (sym stands.opened.start) far) in
-        step-failed s laid x (silent failed) (open-run s x.k x.d x.b x.world (Simple Failing) (silent failed) e Here) refl (way-did failed fail_label way)
+        step-failed s laid x (silent failed) (open-run s x.k x.d x.b x.world (Simple Failing) (silent failed) e Here) refl (way-did (silent failed) fail_label refl x.runs.here.region way)

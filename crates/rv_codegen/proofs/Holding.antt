@@ -1,5 +1,5 @@
 -- What words of a frame stand for: data at offsets, and bindings at slots.
-use Rattle.std.proofs.Common.{◌≡◌, ℕ, zero, suc, ◌+◌, List, [], ◌∷◌, ◌++◌, get_or, Some, sym, subst}
+use Rattle.std.proofs.Common.{◌≡◌, ℕ, zero, suc, ◌+◌, List, [], ◌∷◌, ◌++◌, get_or, Some, refl, sym, subst}
 use Rattle.std.specs.Prelude.{slice_get}
 use Rattle.action_terms.specs.Information.{Token, Datum, Number, Truth, CellOf, Closure, Binds, Data}
 use Rattle.action_terms.specs.Bindings.{lookup}
@@ -19,6 +19,11 @@ abbrev pub Holds : ℕ → Heap → List ℕ → ℕ → List ℕ → Data → T
 Holds base heap words f [] [] = Unit {0}
 Holds base heap words f (o ∷ os) (x ∷ d) = StandsFor base heap (word_at words f o) x × Holds base heap words f os d
 Holds base heap words f _ _ = ⊥
+
+-- at no offsets stand no data
+pub none-held : (base : ℕ) (heap : Heap) (words : List ℕ) (f : ℕ) (d : Data) → Holds base heap words f [] d → d ≡ []
+none-held base heap words f [] h = refl
+none-held base heap words f (x ∷ d) h = absurd h
 
 -- a place for what a token is bound to
 pub record Slot : Type 0 where

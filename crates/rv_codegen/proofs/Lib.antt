@@ -33,6 +33,7 @@ pub mod Completions
 pub mod Phases
 pub mod Joins
 pub mod Ending
+pub mod Escaping
 pub mod SendEntry
 pub mod Sending
 pub mod NumberWords

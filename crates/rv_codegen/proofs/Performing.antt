@@ -1,6 +1,6 @@
 -- A node's one step, whatever its code does: it completes, it fails, or it passes the units; with blocks taken in it, and with
 -- a commitment.
-use Rattle.std.proofs.Common.{◌≡◌, ◌⊎◌, ℕ, ◌+◌, ◌<◌, ◌≤◌, Bool, true, false, List, ◌∷◌, refl, sym, ◌∙◌, subst, arith, inl, inr, ⊎_elim}
+use Rattle.std.proofs.Common.{◌≡◌, ◌⊎◌, ℕ, ◌+◌, ◌*◌, ◌<◌, ◌≤◌, Bool, true, false, List, ◌∷◌, length, refl, sym, ◌∙◌, subst, arith, inl, inr, ⊎_elim}
 use Rattle.rv_asm.specs.Assembly.{address_of}
 use Rattle.rv_asm.specs.DataWords.{Heap}
 use Rattle.rv_asm.specs.Pieces.{exit_with}
@@ -9,7 +9,7 @@ use Rattle.rv_asm.proofs.Calls.{before_exit, before_exit-runs, exit-stops}
 use Rattle.rv_asm.proofs.Moments.{sending-advance, quiet-stop}
 use Rattle.rv_asm.proofs.Stretches.{Between, then-runs}
 use Rattle.action_terms.specs.Information.{Binds, Data}
-use Rattle.action_terms.specs.Acting.{Done, Tree, Run, Ended}
+use Rattle.action_terms.specs.Acting.{Done, Esc, Tree, Run, Ended}
 use Rattle.action_terms.specs.Need.{effect_units, closures_units, Passes}
 use Rattle.action_terms.specs.Performances.{OneOf, messages_bytes}
 use Rattle.action_terms.specs.Steps.{Step, commits, world_after, failed, open_steps}
@@ -19,10 +19,10 @@ use Rattle.action_terms.proofs.Parts.{Reaches, reaches-within}
 use Rattle.rv_codegen.proofs.Around.{Chains, committed, Leaves, BindsLeft, Around}
 use Rattle.rv_codegen.proofs.AroundKept.{Agrees, around-kept, around-shut}
 use Rattle.rv_codegen.proofs.Configurations.{depth, performances, pending-shut}
-use Rattle.rv_codegen.proofs.Holding.{Grows}
+use Rattle.rv_codegen.proofs.Holding.{Holds, Grows, in_row}
 use Rattle.rv_codegen.proofs.InputLeft.{Left}
 use Rattle.rv_codegen.proofs.RestPoints.{Laid, Region, Stands, Stays, RestsAt, IsAt, Starting, starts, StartGoesOn}
-use Rattle.rv_codegen.proofs.Settings.{Point, Setting, code, start, exit, failure}
+use Rattle.rv_codegen.proofs.Settings.{Point, Setting, code, start, exit, failure, escape}
 use Rattle.rv_codegen.proofs.Units.{Units}
 
 -- the chains after a step that commits, or doesn't
@@ -112,6 +112,12 @@ module _ (s : Setting) where
     step-failed n o same did =
         step-goes n failed (failure s) o same did
         (record { k = x.k; here = stays-behind n (failure s) did; at = did.at; rank_is = refl })
+
+    -- the node has escaped with data, which stand in a row from a word of the region on
+    pub step-escaped : (n : Step) (e : Data) → OneOf n (open_steps s.action x.world (Run x.k x.d x.b)) → n.tree ≡ Ended (Esc e) → (did : Did n (escape s)) → (source : ℕ) → did.end.registers 10 ≡ s.base + 8 * source → Holds s.base did.heap did.words source (in_row 0 (length e)) e → StartGoesOn s x
+    step-escaped n e o same did source at held =
+        step-goes n (Ended (Esc e)) (escape s) o same did
+        (record { k = x.k; here = stays-behind n (escape s) did; at = did.at; rank_is = refl; source = source; source_at = at; held = held })
 
     -- the code of the node has come to where the run ends as full
     pub record Filled (full : ℕ) : Type 0 where

@@ -9,7 +9,7 @@ use Rattle.rv_asm.specs.WordMachine.{WordState, Has}
 use Rattle.rv_asm.proofs.Calls.{before_exit, before_exit-runs, exit-stops}
 use Rattle.rv_asm.proofs.Moments.{quiet-stop}
 use Rattle.action_terms.specs.Information.{Binds, Data, World}
-use Rattle.action_terms.specs.Actions.{Primitive, Complete, Failing, Send, Node, Simple, Furthermore, Both, Phases, node_at}
+use Rattle.action_terms.specs.Actions.{Primitive, Complete, Failing, Escape, Commit, Regive, Send, Node, Simple, Furthermore, Both, Phases, node_at}
 use Rattle.action_terms.specs.Literals.{NodeFits, NumbersFit}
 use Rattle.action_terms.specs.Acting.{Done, End, Esc, Fail, Tree, Run, Ended}
 use Rattle.action_terms.specs.Need.{node_yielder_count}
@@ -22,7 +22,8 @@ use Rattle.rv_codegen.specs.Works.{is_built_node}
 use Rattle.rv_codegen.proofs.Around.{Chains, Around}
 use Rattle.rv_codegen.proofs.Completions.{tail-done}
 use Rattle.rv_codegen.proofs.Configurations.{Configuration, EndCode, depth, performances}
-use Rattle.rv_codegen.proofs.Ending.{LeavesNone, complete-goes, fail-goes}
+use Rattle.rv_codegen.proofs.Ending.{LeavesNone, complete-goes, commit-goes, regive-goes, fail-goes}
+use Rattle.rv_codegen.proofs.Escaping.{escape-goes}
 use Rattle.rv_codegen.proofs.InputLeft.{Left}
 use Rattle.rv_codegen.proofs.Joins.{both-start, left-done, right-done}
 use Rattle.rv_codegen.proofs.NodeParts.{IsNode}
@@ -43,7 +44,8 @@ module _ (s : Setting) where
     pub numbers : NumbersFit s.action
     pub few : (k : ℕ) → node_yielder_count (node_at s.action k) < 65536
     pub within : (k : ℕ) → IsNode (node_at s.action k) → stop_of k < s.labels
-    -- the primitives that are built leave nothing, no alternatives or traps are opened, and nothing is called
+    -- no data are given, the primitives that are built leave nothing, no alternatives or traps are opened, and nothing is called
+    pub unfed : (k : ℕ) → s.places.given k ≡ []
     pub none : (k : ℕ) (p : Primitive) → node_at s.action k ≡ Simple p → LeavesNone s k
     pub closed : s.Opens → ⊥
     pub uncalled : (n c : ℕ) → s.procedures.calls n c → ⊥
@@ -62,7 +64,10 @@ module _ (s : Setting) where
     -- ---- a node is to be performed
 
     run-goes : (x : Starting s) (n : Node) → node_at s.action x.k ≡ n → NodeStands s.items s.exits x.k n → is_built_node n ≡ true → StartGoesOn s x
-    run-goes x (Simple Complete) e stands b = complete-goes s it.laid x it.labels (omega (arith, it.within x.k x.runs.here.node)) (it.none x.k Complete e) e stands
+    run-goes x (Simple Complete) e stands b = complete-goes s it.laid x e it.labels (omega (arith, it.within x.k x.runs.here.node)) (it.none x.k Complete e) stands
+    run-goes x (Simple Commit) e stands b = commit-goes s it.laid x it.closed e it.labels (omega (arith, it.within x.k x.runs.here.node)) (it.none x.k Commit e) stands
+    run-goes x (Simple Regive) e stands b = regive-goes s it.laid x (it.unfed x.k) e it.labels (omega (arith, it.within x.k x.runs.here.node)) (it.none x.k Regive e) stands
+    run-goes x (Simple Escape) e stands b = escape-goes s it.laid x (it.unfed x.k) e stands
     run-goes x (Simple Failing) e stands b = fail-goes s it.laid x e stands
     run-goes x (Simple (Send y)) e stands b =
         let ok : IsSendable y = record { built = b; few = subst (λ n. node_yielder_count n < 65536) e (it.few x.k); fits = subst NodeFits e (node-fits s.action x.k it.numbers) } in

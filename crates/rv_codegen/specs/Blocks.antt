@@ -9,7 +9,7 @@ use Rattle.rv_code.specs.declared.instruction.UpperOp.TheVariants.{Lui}
 use Rattle.rv_asm.specs.Pieces.{send_word, exit_with}
 use Rattle.rv_asm.specs.declared.item.Item.{Item}
 use Rattle.rv_asm.specs.declared.item.Item.TheVariants.{Plain, Mark, Jump, Address}
-use Rattle.action_terms.specs.Actions.{Yielder, Complete, Failing, Send, Node, Simple, Both, Phases, Action}
+use Rattle.action_terms.specs.Actions.{Yielder, Complete, Failing, Escape, Commit, Regive, Send, Node, Simple, Both, Phases, Action}
 use Rattle.rv_yield.specs.YielderCode.{value_items}
 
 -- ---- labels
@@ -100,10 +100,17 @@ leaves k exit = goes (front_of (suc k)) exit
 abbrev pub sends : (k : ℕ) → Yielder → List Item
 sends k y = value_items 10 10 fail_label y ++ (Address 1 (stop_of k) ∷ Jump send_label ∷ Mark (stop_of k) ∷ [])
 
--- the code of node k behind its start, where the node goes on at a label
+-- escapes by the entry for escapes, which finds the address of the data in register 10. None are given, so it is that of the frame
+abbrev pub escapes : List Item
+escapes = Plain (OpImm Addi 10 2 (pos 0)) ∷ Jump escape_label ∷ []
+
+-- the code of node k behind its start, where the node goes on at a label. No data are given, and no alternative is open
 abbrev pub body : (k exit : ℕ) → Node → List Item
 body k exit (Simple Complete) = leaves k exit
+body k exit (Simple Commit) = leaves k exit
+body k exit (Simple Regive) = leaves k exit
 body k exit (Simple Failing) = Jump fail_label ∷ []
+body k exit (Simple Escape) = escapes
 body k exit (Simple (Send y)) = sends k y ++ leaves k exit
 body k exit (Both j l r) = goes (start_of (suc k)) (start_of l)
 body k exit (Phases q l r) = goes (start_of (suc k)) (start_of l)

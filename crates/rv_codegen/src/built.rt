@@ -20,7 +20,11 @@ fn is_built_primitive(graph: &Graph<'_>, needs: &[usize], primitive: PrimitiveVi
         ≡ is_built_node (Simple (primitive_viewed graph.now.yielders primitive.entry)) }
 {
     match primitive {
-        PrimitiveView::Complete | PrimitiveView::Failing => true,
+        PrimitiveView::Complete
+        | PrimitiveView::Commit
+        | PrimitiveView::Regive
+        | PrimitiveView::Failing
+        | PrimitiveView::Escape => true,
         PrimitiveView::Send { yielder } => registers_of(graph, needs, yielder).is_some(),
         _ => false,
     }

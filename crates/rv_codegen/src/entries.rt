@@ -20,7 +20,7 @@ const ZERO: Reg = Reg(0);
 pub(crate) const RETURN: Reg = Reg(1);
 
 /// Holds the address of the frame.
-const FRAME: Reg = Reg(2);
+pub(crate) const FRAME: Reg = Reg(2);
 
 /// Holds the address of the region.
 const REGION: Reg = Reg(3);

@@ -8,15 +8,16 @@ ghost use Rattle.action_terms.specs.Meaning.{action_of};
 ghost use Rattle.action_terms.specs.Need.{node_yielder_count, yielder_count};
 ghost use Rattle.action_terms.specs.Numbering.{node_limit};
 ghost use Rattle.rv_yield.specs.Registers.{is_built};
-ghost use Rattle.rv_codegen.specs.Blocks.{first_label, start_of, stop_of, goes, leaves, sends, body, block};
+ghost use Rattle.rv_codegen.specs.Blocks.{first_label, start_of, stop_of, goes, leaves, escapes, sends, body, block};
 ghost use Rattle.rv_codegen.specs.Marks.{extended, AreFresh, PlacesStop};
 ghost use Rattle.rv_codegen.specs.Works.{is_built_node};
 
-use crate::entries::{ARGUMENT, RETURN, append_opening};
+use crate::entries::{ARGUMENT, FRAME, RETURN, append_opening};
 use crate::plan::Plan;
 use acg_base::Memory;
 use action_terms::{NodeView, PrimitiveView};
 use rv_asm::{Asm, Label};
+use rv_code::{Inst, OpImmOp};
 use rv_yield::value_code;
 
 /// Appends the way to a label from before another: nothing where that is the one.
@@ -31,6 +32,23 @@ fn append_way(asm: &mut Asm, next: Label, label: Label) -> Result<(), Memory>
         return Ok(());
     }
     asm.jump(label)
+}
+
+/// Appends what escapes, with no data.
+#[tactic(auto, using(crate::proofs::Fresh::freshness))]
+fn append_escape(asm: &mut Asm, plan: Plan<'_, '_>) -> Result<(), Memory>
+    requires made { first_label + length plan.labels.row.now ≤ asm.old.labels }
+    ensures items { OnOk result (asm.new ≡ extended asm.old escapes) }
+    ensures marks { OnOk result ((k : ℕ) → PlacesStop k asm.old.items asm.new.items) }
+    ensures short { OnOk result (total asm.new.items ≤ total asm.old.items + 3) }
+{
+    asm.emit(Inst::OpImm {
+        op: OpImmOp::Addi,
+        rd: ARGUMENT,
+        rs1: FRAME,
+        imm: 0,
+    })?;
+    asm.jump(plan.entries.escape)
 }
 
 /// Appends what sends the integer of a yielder by the entry that sends. Where the yielder yields
@@ -113,8 +131,11 @@ fn append_primitive(
         (Simple (primitive_viewed plan.entry.graph.now.yielders primitive.entry))) }
 {
     match primitive {
-        PrimitiveView::Complete => append_way(asm, plan.labels.front(k + 1), exit),
+        PrimitiveView::Complete | PrimitiveView::Commit | PrimitiveView::Regive => {
+            append_way(asm, plan.labels.front(k + 1), exit)
+        }
         PrimitiveView::Failing => asm.jump(plan.entries.fail),
+        PrimitiveView::Escape => append_escape(asm, plan),
         PrimitiveView::Send { yielder } => append_sending(asm, plan, k, exit, yielder),
         _ => Ok(()),
     }
