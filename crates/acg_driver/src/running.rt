@@ -3,7 +3,7 @@
 ghost use Rattle.std.specs.Prelude.{◌≡◌, [], IfOk, IfErr};
 ghost use Rattle.action_terms.specs.Numbering.{Listed};
 ghost use Rattle.action_terms.specs.Meaning.{action_of};
-ghost use Rattle.rv_codegen.specs.Works.{unbuilt};
+ghost use Rattle.rv_codegen.specs.Built.{unbuilt};
 ghost use Rattle.acg_driver.specs.Says.{Said};
 ghost use Rattle.acg_driver.specs.Runs.{IsRun, IsLoaded};
 

@@ -53,6 +53,14 @@ fn performances(rt: HostRuntime) -> Result<(), Fail> {
             Status::Done,
         )?
     );
+    assert!(rt;
+        acts(
+            alloc,
+            b"commit and then (regive then (send 1 before (escape and send 2)))",
+            b"stack 1048576 units 262144 factor 448\n1\nescaped\n",
+            Status::Escaped,
+        )?
+    );
     Ok(())
 }
 

@@ -16,7 +16,7 @@ use Rattle.rv_codegen.specs.Blocks.{first_label, start_of, exits_of, action_item
 use Rattle.sort_rules.specs.Measures.{sizes}
 use Rattle.rv_codegen.specs.Measures.{factor_by}
 use Rattle.rv_codegen.specs.RightImage.{Subject}
-use Rattle.rv_codegen.specs.Works.{is_built_node}
+use Rattle.rv_codegen.specs.Built.{is_built_node}
 use Rattle.rv_codegen.proofs.Around.{IsPlaced, InOrder}
 use Rattle.rv_codegen.proofs.ExitLaws.{HasTree, PartExits, both-exits, phases-exits, root-exit}
 use Rattle.rv_codegen.proofs.NodeParts.{IsNode, IsPartOf, part-node}

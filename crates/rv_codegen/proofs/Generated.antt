@@ -20,7 +20,7 @@ use Rattle.sort_rules.specs.Measures.{width}
 use Rattle.sort_rules.specs.Tables.{MarkedTable}
 use Rattle.rv_codegen.specs.Measures.{node_count, factor_by}
 use Rattle.rv_codegen.specs.RightImage.{compiled_image, Subject, IsRight}
-use Rattle.rv_codegen.specs.Works.{unbuilt}
+use Rattle.rv_codegen.specs.Built.{unbuilt}
 use Rattle.rv_codegen.proofs.Compiling.{IsCompilable}
 use Rattle.rv_codegen.proofs.Loading.{code_bytes-small, compiled-loads}
 use Rattle.rv_codegen.proofs.Right.{image-shows}

@@ -11,7 +11,7 @@ use Rattle.action_terms.specs.declared.kinds.Kind.{Kind}
 use Rattle.action_terms.specs.declared.kinds.Kind.TheVariants as kind
 use Rattle.action_terms.proofs.GraphLaws.{child_after, child_within, one_parent}
 use Rattle.action_terms.proofs.ReadGraphs.{is-read}
-use Rattle.rv_codegen.specs.Works.{is_built_node, unbuilt_from, unbuilt}
+use Rattle.rv_codegen.specs.Built.{is_built_node, unbuilt_from, unbuilt}
 use Rattle.rv_codegen.proofs.NodeParts.{IsPartOf}
 use Rattle.rv_codegen.proofs.ExitLaws.{PartsApart, HasTree}
 

@@ -18,7 +18,7 @@ use Rattle.action_terms.specs.Steps.{Step, failed}
 use Rattle.action_terms.specs.Frames.{Frame, InCalled, InParLeft, InParRight, InFirst, InSecond, InOr, InCut, InTrap, InOver, InTail, plug}
 use Rattle.action_terms.proofs.Parts.{Reaches, EachPasses, reaches-rise}
 use Rattle.rv_codegen.specs.Blocks.{send_label, stop_of, send_entry}
-use Rattle.rv_codegen.specs.Works.{is_built_node}
+use Rattle.rv_codegen.specs.Built.{is_built_node}
 use Rattle.rv_codegen.proofs.Around.{Chains, Around}
 use Rattle.rv_codegen.proofs.Completions.{tail-done}
 use Rattle.rv_codegen.proofs.Configurations.{Configuration, EndCode, depth, performances}

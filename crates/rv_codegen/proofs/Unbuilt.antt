@@ -4,7 +4,7 @@ use Rattle.std.specs.Prelude.{Some, slice_get, if◌then◌else◌}
 use Rattle.std.proofs.lemmas.Option.{slice_get-get_or}
 use Rattle.std.proofs.lemmas.List.{at_drop_more}
 use Rattle.action_terms.specs.Actions.{Stray, Action, node_or_stray, node_at}
-use Rattle.rv_codegen.specs.Works.{is_built_node, unbuilt_from, unbuilt}
+use Rattle.rv_codegen.specs.Built.{is_built_node, unbuilt_from, unbuilt}
 use Rattle.rv_codegen.proofs.GraphNodes.{built-of-graph}
 
 -- the node of a number below the length

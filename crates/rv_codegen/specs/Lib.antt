@@ -2,4 +2,4 @@ pub mod Measures
 pub mod RightImage
 pub mod Blocks
 pub mod Marks
-pub mod Works
+pub mod Built

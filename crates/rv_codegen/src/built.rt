@@ -5,7 +5,7 @@ ghost use Rattle.action_terms.specs.Actions.{Simple, node_at};
 ghost use Rattle.action_terms.specs.Forms.{HasPrimitiveOperands, primitive_viewed};
 ghost use Rattle.action_terms.specs.Meaning.{action_of};
 ghost use Rattle.rv_yield.specs.Registers.{AreNeeds};
-ghost use Rattle.rv_codegen.specs.Works.{is_built_node, unbuilt};
+ghost use Rattle.rv_codegen.specs.Built.{is_built_node, unbuilt};
 
 use acg_base::Memory;
 use action_terms::{Graph, NodeView, PrimitiveView};

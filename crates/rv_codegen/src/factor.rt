@@ -6,7 +6,7 @@ ghost use Rattle.action_terms.specs.Forms.{primitive_viewed};
 ghost use Rattle.action_terms.specs.Need.{node_yielder_count, most_yielders, factor};
 ghost use Rattle.action_terms.specs.Meaning.{action_of};
 ghost use Rattle.rv_yield.specs.Counts.{AreCounts, capped};
-ghost use Rattle.rv_codegen.specs.Works.{is_built_node, unbuilt};
+ghost use Rattle.rv_codegen.specs.Built.{is_built_node, unbuilt};
 
 use acg_base::Memory;
 use action_terms::{Graph, NodeView, PrimitiveView};

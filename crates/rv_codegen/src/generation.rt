@@ -12,7 +12,7 @@ ghost use Rattle.action_terms.specs.Numbering.{IsGraph};
 ghost use Rattle.sort_rules.specs.Tables.{MarkedTable};
 ghost use Rattle.rv_codegen.specs.Blocks.{first_label, blocks_from, action_items};
 ghost use Rattle.rv_codegen.specs.Marks.{extended, AreFresh};
-ghost use Rattle.rv_codegen.specs.Works.{unbuilt};
+ghost use Rattle.rv_codegen.specs.Built.{unbuilt};
 ghost use Rattle.rv_codegen.specs.Measures.{node_count};
 ghost use Rattle.rv_codegen.specs.RightImage.{compiled_image, IsRight};
 

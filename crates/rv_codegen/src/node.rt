@@ -10,7 +10,7 @@ ghost use Rattle.action_terms.specs.Numbering.{node_limit};
 ghost use Rattle.rv_yield.specs.Registers.{is_built};
 ghost use Rattle.rv_codegen.specs.Blocks.{first_label, start_of, stop_of, goes, leaves, escapes, sends, body, block};
 ghost use Rattle.rv_codegen.specs.Marks.{extended, AreFresh, PlacesStop};
-ghost use Rattle.rv_codegen.specs.Works.{is_built_node};
+ghost use Rattle.rv_codegen.specs.Built.{is_built_node};
 
 use crate::entries::{ARGUMENT, FRAME, RETURN, append_opening};
 use crate::plan::Plan;

@@ -7,7 +7,7 @@ ghost use Rattle.action_terms.specs.Need.{node_yielder_count};
 ghost use Rattle.action_terms.specs.Numbering.{node_limit};
 ghost use Rattle.rv_yield.specs.Registers.{AreNeeds};
 ghost use Rattle.rv_codegen.specs.Blocks.{first_label, exits_of};
-ghost use Rattle.rv_codegen.specs.Works.{unbuilt};
+ghost use Rattle.rv_codegen.specs.Built.{unbuilt};
 
 use crate::entries::Entries;
 use crate::labels::NodeLabels;

@@ -3,7 +3,7 @@ use Rattle.std.specs.Prelude.{◌≡◌, ◌⊎◌, ℕ, List, [], ◌∷◌, So
 use Rattle.acg_base.specs.declared.status.Status.{Status}
 use Rattle.action_terms.specs.Numbering.{Listed}
 use Rattle.action_terms.specs.Meaning.{action_of}
-use Rattle.rv_codegen.specs.Works.{unbuilt}
+use Rattle.rv_codegen.specs.Built.{unbuilt}
 use Rattle.acg_words.specs.declared.line.Line.{Line}
 use Rattle.acg_words.specs.declared.line.Line.TheVariants.{Unbuilt}
 use Rattle.acg_driver.specs.Texts.{Reads, RefusesText, IsUnread}

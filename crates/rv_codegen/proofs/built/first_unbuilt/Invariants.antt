@@ -1,6 +1,6 @@
 use Rattle.std.proofs.Common.{◌≡◌, drop}
 use Rattle.action_terms.specs.Meaning.{action_of}
-use Rattle.rv_codegen.specs.Works.{unbuilt_from, unbuilt}
+use Rattle.rv_codegen.specs.Built.{unbuilt_from, unbuilt}
 use Rattle.rv_codegen.proofs.built.first_unbuilt.Given as goal
 
 -- each node so far is built

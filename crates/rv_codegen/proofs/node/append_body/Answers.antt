@@ -1,7 +1,7 @@
 use Rattle.std.proofs.Common.{◌≡◌, ◌<◌, true, length, subst, arith}
 use Rattle.action_terms.specs.Meaning.{action_of}
 use Rattle.action_terms.specs.Need.{node_yielder_count}
-use Rattle.rv_codegen.specs.Works.{is_built_node}
+use Rattle.rv_codegen.specs.Built.{is_built_node}
 use Rattle.rv_codegen.proofs.GraphNodes.{length-action_of}
 use Rattle.rv_codegen.proofs.Unbuilt.{never_unbuilt}
 use Rattle.rv_codegen.proofs.node.append_body.Goals as goal

@@ -1,7 +1,7 @@
 use Rattle.std.proofs.Common.{◌≡◌, [], rules, arith}
 use Rattle.std.proofs.lemmas.Grind.{common_steps}
 use Rattle.action_terms.specs.Meaning.{action_of}
-use Rattle.rv_codegen.specs.Works.{unbuilt}
+use Rattle.rv_codegen.specs.Built.{unbuilt}
 use Rattle.acg_driver.proofs.ActLemmas.{nothing-first}
 use Rattle.acg_driver.proofs.commands.act.load_text.Goals as goal
 
