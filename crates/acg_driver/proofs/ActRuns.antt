@@ -8,7 +8,7 @@ use Rattle.action_terms.specs.Numbering.{Listed, listed}
 use Rattle.action_terms.specs.Meaning.{action_of}
 use Rattle.rv_code.specs.Machine.{Outcome, Ran, Exited, Trapped, run}
 use Rattle.rv_code.specs.Images.{started}
-use Rattle.rv_codegen.specs.Works.{unbuilt}
+use Rattle.rv_codegen.specs.Built.{unbuilt}
 use Rattle.acg_words.specs.Commands.{Act}
 use Rattle.acg_words.specs.Lines.{status_of}
 use Rattle.acg_words.specs.declared.line.Line.{Line}
