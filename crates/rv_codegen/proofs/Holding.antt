@@ -4,21 +4,12 @@ use Rattle.std.specs.Prelude.{slice_get}
 use Rattle.action_terms.specs.Information.{Token, Datum, Number, Truth, CellOf, Closure, Binds, Data}
 use Rattle.action_terms.specs.Bindings.{lookup}
 use Rattle.rv_asm.specs.DataWords.{Heap, PlacedClosure, StandsFor}
-
--- the word at an offset, in words, of the frame that begins at word f of the region
-abbrev pub word_at : List ℕ → (f offset : ℕ) → ℕ
-word_at words f offset = get_or words (f + offset) 0
+pub use Rattle.rv_yield.specs.Holding.{word_at, Holds}
 
 -- so many offsets in a row, from one on
 abbrev pub in_row : (first n : ℕ) → List ℕ
 in_row first zero = []
 in_row first (suc n) = first ∷ in_row (first + 1) n
-
--- the words at the offsets stand for the data, one for each
-abbrev pub Holds : ℕ → Heap → List ℕ → ℕ → List ℕ → Data → Type 0
-Holds base heap words f [] [] = Unit {0}
-Holds base heap words f (o ∷ os) (x ∷ d) = StandsFor base heap (word_at words f o) x × Holds base heap words f os d
-Holds base heap words f _ _ = ⊥
 
 -- at no offsets stand no data
 pub none-held : (base : ℕ) (heap : Heap) (words : List ℕ) (f : ℕ) (d : Data) → Holds base heap words f [] d → d ≡ []

@@ -21,9 +21,10 @@ use Rattle.action_terms.specs.Steps.{Step, Sends as SendsEffect, with_effect, si
 use Rattle.action_terms.specs.Acting.{Run}
 use Rattle.action_terms.specs.Frames.{plugged}
 use Rattle.action_terms.specs.Yielding.{yields}
-use Rattle.rv_yield.specs.Registers.{is_arithmetic, is_built, HasWords}
+use Rattle.rv_yield.specs.Registers.{is_arithmetic, is_integral, HasWords}
+use Rattle.rv_yield.specs.Evaluates.{HasFrame}
 use Rattle.rv_yield.specs.YielderCode.{value_items}
-use Rattle.rv_yield.proofs.Evaluation.{value-comes}
+use Rattle.rv_yield.proofs.Integral.{integral-comes}
 use Rattle.rv_yield.proofs.NeedLaws.{registers-enough}
 use Rattle.rv_yield.proofs.Steps.{Arrives, Outcome, Present, outcome-cases}
 use Rattle.rv_codegen.specs.Blocks.{fail_label, send_label, start_of, stop_of, opening, leaves, sends, send_entry}
@@ -44,11 +45,11 @@ use Rattle.rv_codegen.proofs.Walk.{Cursor, stands, over, over-mark, mark-at, jum
 -- ---- yielders whose code can be made
 
 -- they make no closure
-no-closures : (y : Yielder) → is_built y ≡ true → closures_in y ≡ []
+no-closures : (y : Yielder) → is_integral y ≡ true → closures_in y ≡ []
 no-closures (NumberLiteral z) built = refl
 no-closures (OnTwo f y1 y2) built =
-    let p = and-true (is_arithmetic f) (is_built y1 && is_built y2) built in
-    let q = and-true (is_built y1) (is_built y2) p.1 in
+    let p = and-true (is_arithmetic f) (is_integral y1 && is_integral y2) built in
+    let q = and-true (is_integral y1) (is_integral y2) p.1 in
     rw (no-closures y1 q.0, no-closures y2 q.1) refl
 no-closures (OnOne Negation y) built = no-closures y built
 no-closures _ built = absurd (cc)
@@ -70,7 +71,7 @@ moves-on base code (suc n) c e p q runs at there less = omega arith
 
 -- what the code of a node needs of the yielder that it sends
 pub record IsSendable (y : Yielder) : Type 0 where
-  pub built : is_built y ≡ true
+  pub built : is_integral y ≡ true
   pub few : yielder_count y < 65536
   pub fits : YielderFits y
 
@@ -78,8 +79,8 @@ module _ (s : Setting) where
   -- what stands in the code of node k, which sends what a yielder yields: the yielder's code, and the call of the entry
   record Calls (k : ℕ) (y : Yielder) : Type 0 where
     call : ℕ
-    value : Has (code s) (address_of (start s k).place) (code_from (spot s.items) (start s k).place (value_items 10 10 fail_label y))
-    behind_value : call ≡ (start s k).place + total (value_items 10 10 fail_label y)
+    value : Has (code s) (address_of (start s k).place) (code_from (spot s.items) (start s k).place (value_items [] 10 10 fail_label y))
+    behind_value : call ≡ (start s k).place + total (value_items [] 10 10 fail_label y)
     within : call + 2 < 2 ^ 28
     back : Has (code s) (address_of call) (far_address 1 call (stop s k).place)
     enter : Has (code s) (address_of (call + 2)) (far_jump (call + 2) (point s send_label).place)
@@ -87,7 +88,7 @@ module _ (s : Setting) where
 
   calls-stand : Laid s → LabelsStand s.items → (k : ℕ) (y : Yielder) (n : ℕ) (behind : List Item) → spot s.items (start_of k) ≡ n → stop_of k < s.labels → Cursor s.items n ((sends k y ++ leaves k (get_or s.exits k 0)) ++ (opening (suc k) ++ behind)) → Calls k y
   calls-stand laid labels k y n behind here within c =
-      let value = value_items 10 10 fail_label y in
+      let value = value_items [] 10 10 fail_label y in
       let rest = leaves k (get_or s.exits k 0) ++ (opening (suc k) ++ behind) in
       let tail = Address 1 (stop_of k) ∷ Jump send_label ∷ Mark (stop_of k) ∷ rest in
       let same : (sends k y ++ leaves k (get_or s.exits k 0)) ++ (opening (suc k) ++ behind) ≡ value ++ tail =
@@ -113,7 +114,7 @@ module _ (s : Setting) where
   failure-behind : (k : ℕ) (y : Yielder) → spot s.items (start_of k) + total (sends k y ++ leaves k (get_or s.exits k 0)) ≤ spot s.items fail_label → (start s k).place < (failure s).place
   failure-behind k y le =
       let call = Address 1 (stop_of k) ∷ Jump send_label ∷ Mark (stop_of k) ∷ [] in
-      omega (arith, le, total-append (sends k y) (leaves k (get_or s.exits k 0)), total-append (value_items 10 10 fail_label y) call)
+      omega (arith, le, total-append (sends k y) (leaves k (get_or s.exits k 0)), total-append (value_items [] 10 10 fail_label y) call)
 
   module _ (laid : Laid s) (entry : Has (code s) (address_of (point s send_label).place) send_entry) where
     -- the entry has been called from a state, and the node's exit has been reached
@@ -246,12 +247,13 @@ module _ (s : Setting) where
               let h = x.runs.here in
               let k = x.k in
               let calls = calls-stand laid labels k y stands.place stands.behind stands.opened.start within stands.opened.cursor in
-              let size = total (value_items 10 10 fail_label y) in
+              let size = total (value_items [] 10 10 fail_label y) in
               let next : address_of ((start s k).place + size) ≡ address_of calls.call = ap address_of (sym calls.behind_value) in
               let less = failure-behind k y (subst (λ n. n + total (sends k y ++ leaves k (get_or s.exits k 0)) ≤ spot s.items fail_label) (sym stands.opened.start) stands.before_failure) in
               let v = yields y x.d x.b x.world.cells in
+              let frame : HasFrame s.base h.f x.state = record { aligned = laid.aligned; below = omega (arith, laid.below, ap length h.stands.words_are, h.region.size); frame = h.stands.frame_at } in
               let outcome =
-              value-comes s.base (code s) (spot s.items) fail_label (near s laid fail_label) x.d x.b x.world.cells y ok.built (has-words y ok.fits) 10 10 (omega arith) (omega (arith, registers-enough y ok.few)) (inl refl) (start s k).place x.state (omega (arith, calls.within, calls.behind_value)) x.runs.at calls.value in
+              integral-comes s.base (code s) (spot s.items) fail_label (near s laid fail_label) x.d x.b x.world.cells h.f y ok.built (has-words y ok.fits) 10 10 (omega arith) (omega (arith, registers-enough y ok.few)) (inl refl) (start s k).place x.state (omega (arith, calls.within, calls.behind_value)) x.runs.at calls.value frame in
               ⊎_elim
               (λ (p : Sent (address_of calls.call)).
               let did = send-did closed calls p in

@@ -98,7 +98,7 @@ leaves k exit = goes (front_of (suc k)) exit
 
 -- sends the integer of a yielder by the entry that sends; where the yielder yields nothing, this goes to the entry for failures
 abbrev pub sends : (k : ℕ) → Yielder → List Item
-sends k y = value_items 10 10 fail_label y ++ (Address 1 (stop_of k) ∷ Jump send_label ∷ Mark (stop_of k) ∷ [])
+sends k y = value_items [] 10 10 fail_label y ++ (Address 1 (stop_of k) ∷ Jump send_label ∷ Mark (stop_of k) ∷ [])
 
 -- escapes by the entry for escapes, which finds the address of the data in register 10. None are given, so it is that of the frame
 abbrev pub escapes : List Item

@@ -1,7 +1,7 @@
 -- Which nodes have code.
 use Rattle.std.specs.Prelude.{ℕ, suc, Bool, true, false, if◌then◌else◌, List, [], ◌∷◌}
 use Rattle.action_terms.specs.Actions.{Complete, Failing, Escape, Commit, Regive, Send, Node, Simple, Both, Phases, Action}
-use Rattle.rv_yield.specs.Registers.{is_built}
+use Rattle.rv_yield.specs.Registers.{is_integral}
 
 -- whether the code of a node can be generated: its kind, and each yielder of it, is built
 abbrev pub is_built_node : Node → Bool
@@ -10,7 +10,7 @@ is_built_node (Simple Commit) = true
 is_built_node (Simple Regive) = true
 is_built_node (Simple Failing) = true
 is_built_node (Simple Escape) = true
-is_built_node (Simple (Send y)) = is_built y
+is_built_node (Simple (Send y)) = is_integral y
 is_built_node (Both j l r) = true
 is_built_node (Phases q l r) = true
 is_built_node _ = false

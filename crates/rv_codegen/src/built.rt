@@ -4,18 +4,18 @@ ghost use Rattle.std.specs.Prelude.{◌≡◌, ℕ, ◌<◌, length, slice_get, 
 ghost use Rattle.action_terms.specs.Actions.{Simple, node_at};
 ghost use Rattle.action_terms.specs.Forms.{HasPrimitiveOperands, primitive_viewed};
 ghost use Rattle.action_terms.specs.Meaning.{action_of};
-ghost use Rattle.rv_yield.specs.Registers.{AreNeeds};
+ghost use Rattle.rv_yield.specs.Registers.{AreIntegral};
 ghost use Rattle.rv_codegen.specs.Built.{is_built_node, unbuilt};
 
 use acg_base::Memory;
 use action_terms::{Graph, NodeView, PrimitiveView};
-use rv_yield::{registers_needed, registers_of};
+use rv_yield::integral_yielders;
 use std::alloc::Global;
 
 // whether there is code for a node that is done in one step
-fn is_built_primitive(graph: &Graph<'_>, needs: &[usize], primitive: PrimitiveView<'_>) -> bool
+fn is_built_primitive(graph: &Graph<'_>, integral: &[bool], primitive: PrimitiveView<'_>) -> bool
     requires operands { HasPrimitiveOperands graph.now.yielders primitive }
-    requires needs { AreNeeds graph.now.yielders needs.now }
+    requires integral { AreIntegral graph.now.yielders integral.now }
     ensures { result
         ≡ is_built_node (Simple (primitive_viewed graph.now.yielders primitive.entry)) }
 {
@@ -25,19 +25,19 @@ fn is_built_primitive(graph: &Graph<'_>, needs: &[usize], primitive: PrimitiveVi
         | PrimitiveView::Regive
         | PrimitiveView::Failing
         | PrimitiveView::Escape => true,
-        PrimitiveView::Send { yielder } => registers_of(graph, needs, yielder).is_some(),
+        PrimitiveView::Send { yielder } => integral[yielder as usize],
         _ => false,
     }
 }
 
 // whether there is code for node number k
-fn is_built(graph: &Graph<'_>, needs: &[usize], k: usize) -> bool
+fn is_built(graph: &Graph<'_>, integral: &[bool], k: usize) -> bool
     requires node { k < length graph.now.nodes }
-    requires needs { AreNeeds graph.now.yielders needs.now }
+    requires integral { AreIntegral graph.now.yielders integral.now }
     ensures { result ≡ is_built_node (node_at (action_of graph.now) k) }
 {
     match graph.view(k) {
-        NodeView::Simple(primitive) => is_built_primitive(graph, needs, primitive),
+        NodeView::Simple(primitive) => is_built_primitive(graph, integral, primitive),
         NodeView::Both { .. } | NodeView::Phases { .. } => true,
         _ => false,
     }
@@ -48,9 +48,9 @@ fn is_built(graph: &Graph<'_>, needs: &[usize], k: usize) -> bool
 pub fn first_unbuilt(alloc: Global, graph: &Graph<'_>) -> Result<Option<u32>, Memory>
     ensures { IfOk result (λ first. first ≡ slice_get (unbuilt (action_of graph.now)) 0) }
 {
-    let needs = registers_needed(alloc, graph)?;
+    let integral = integral_yielders(alloc, graph)?;
     for k in 0..graph.nodes().len() {
-        if !is_built(graph, &needs, k) {
+        if !is_built(graph, &integral, k) {
             return Ok(Some(k as u32));
         }
     }

@@ -7,7 +7,7 @@ ghost use Rattle.action_terms.specs.Forms.{HasPrimitiveOperands, IsDatum, primit
 ghost use Rattle.action_terms.specs.Meaning.{action_of};
 ghost use Rattle.action_terms.specs.Need.{node_yielder_count, yielder_count};
 ghost use Rattle.action_terms.specs.Numbering.{node_limit};
-ghost use Rattle.rv_yield.specs.Registers.{is_built};
+ghost use Rattle.rv_yield.specs.Registers.{is_integral};
 ghost use Rattle.rv_codegen.specs.Blocks.{first_label, start_of, stop_of, goes, leaves, escapes, sends, body, block};
 ghost use Rattle.rv_codegen.specs.Marks.{extended, AreFresh, PlacesStop};
 ghost use Rattle.rv_codegen.specs.Built.{is_built_node};
@@ -18,7 +18,7 @@ use acg_base::Memory;
 use action_terms::{NodeView, PrimitiveView};
 use rv_asm::{Asm, Label};
 use rv_code::{Inst, OpImmOp};
-use rv_yield::value_code;
+use rv_yield::{Source, value_code};
 
 /// Appends the way to a label from before another: nothing where that is the one.
 #[tactic(auto, using(crate::proofs::Fresh::freshness))]
@@ -58,7 +58,7 @@ fn append_sends(asm: &mut Asm, plan: Plan<'_, '_>, k: usize, yielder: u32) -> Re
     requires node { k < length plan.graph.now.nodes }
     requires made { first_label + length plan.labels.row.now ≤ asm.old.labels }
     requires datum { IsDatum plan.graph.now.yielders yielder }
-    requires built { is_built (yielder_at plan.graph.now.yielders yielder) ≡ true }
+    requires built { is_integral (yielder_at plan.graph.now.yielders yielder) ≡ true }
     requires few { yielder_count (yielder_at plan.graph.now.yielders yielder) < node_limit }
     requires stop { is_placed asm.old.items (stop_of k) ≡ false }
     ensures items { OnOk result (asm.new
@@ -68,10 +68,13 @@ fn append_sends(asm: &mut Asm, plan: Plan<'_, '_>, k: usize, yielder: u32) -> Re
         + 12 * yielder_count (yielder_at plan.entry.graph.now.yielders yielder)) }
 {
     let stop = plan.labels.stop(k);
-    let fail = plan.entries.fail;
-    value_code(
-        plan.alloc, asm, plan.graph, plan.needs, yielder, ARGUMENT, fail,
-    )?;
+    let source = Source {
+        graph: plan.graph,
+        needs: plan.needs,
+        given: &[],
+        nothing: plan.entries.fail,
+    };
+    value_code(plan.alloc, asm, &source, yielder, ARGUMENT)?;
     asm.address(RETURN, stop)?;
     asm.jump(plan.entries.send)?;
     asm.place(stop);
@@ -90,7 +93,7 @@ fn append_sending(
     requires made { first_label + length plan.labels.row.now ≤ asm.old.labels }
     requires exit { exit < asm.old.labels }
     requires datum { IsDatum plan.graph.now.yielders yielder }
-    requires built { is_built (yielder_at plan.graph.now.yielders yielder) ≡ true }
+    requires built { is_integral (yielder_at plan.graph.now.yielders yielder) ≡ true }
     requires few { yielder_count (yielder_at plan.graph.now.yielders yielder) < node_limit }
     requires stop { is_placed asm.old.items (stop_of k) ≡ false }
     ensures items { OnOk result (asm.new ≡ extended asm.old

@@ -9,7 +9,9 @@ use Rattle.rv_asm.specs.Assembly.{address_of, code_from, total}
 use Rattle.rv_asm.specs.WordMachine.{WordState, get, Has}
 use Rattle.action_terms.specs.Information.{Datum, Number}
 use Rattle.action_terms.specs.Actions.{Two, Sum, Difference, Product, Quotient, Remainder, Is, Less, BothOf, EitherOf, Yielder, NumberLiteral, TruthLiteral, Given, GivenAt, BoundTo, StoredIn, OnTwo, OnOne, ClosureOf}
+use Rattle.action_terms.specs.Suited.{IsOfSort, AreWanted}
 use Rattle.action_terms.specs.Yielding.{within_64, on_two}
+use Rattle.action_terms.specs.declared.kinds.Sort.TheVariants as sort
 use Rattle.rv_yield.specs.Registers.{is_arithmetic}
 use Rattle.rv_yield.specs.YielderCode.{operation_items, sum_items, small, second_constant, first_constant, of_literal}
 use Rattle.rv_yield.proofs.Checks.{IsValue}
@@ -81,13 +83,15 @@ small-is w z e = ⊎_elim (λ q. yes' q) (λ q. no' q) (true-or-false (has_bits 
         absurd (let t : None ≡ Some z = sym s ∙ e in cc)
 
 -- what is added, where an operand is a number of 64 bits
-pub record IsAdded (y : Yielder) (z : ℤ) (by : ℤ → ℤ → Option Datum) : Type 0 where
+pub record IsAdded (y : Yielder) (z : ℤ) (by : ℤ → ℤ → Option Datum) (Wants : ℤ → Option Datum → Type 0) : Type 0 where
   pub literal : ℤ
   pub is : y ≡ NumberLiteral literal
   pub fits : FitsSigned w64 z
   pub short : has_bits 12 z ≡ true
   pub literal_fits : FitsSigned w64 literal
   pub same : (x : ℤ) → by x literal ≡ within_64 (x +ℤ z)
+  -- the other operand is wanted to be an integer
+  pub wanted : (o : Option Datum) → Wants literal o → IsOfSort sort.Integer o
 
 literal-is : (g : ℤ → Option ℤ) (y : Yielder) (z : ℤ) → of_literal g y ≡ Some z → (w : ℤ) × (y ≡ NumberLiteral w) × (g w ≡ Some z)
 literal-is g (NumberLiteral w) z e = (w, refl, e)
@@ -101,12 +105,12 @@ literal-is g (OnOne f y) z e = absurd (cc)
 literal-is g (ClosureOf k) z e = absurd (cc)
 
 -- the second operand
-pub second-added : (f : Two) (y : Yielder) (z : ℤ) → of_literal (second_constant f) y ≡ Some z → IsAdded y z (λ x w. on_two f (Number x) (Number w))
+pub second-added : (f : Two) (y : Yielder) (z : ℤ) → of_literal (second_constant f) y ≡ Some z → IsAdded y z (λ x w. on_two f (Number x) (Number w)) (λ w o. AreWanted f o (Some (Number w)))
 second-added f y z e = let l = literal-is (second_constant f) y z e in by f l.0 l.1 l.2
   where
-    by : (f : Two) (w : ℤ) → y ≡ NumberLiteral w → second_constant f w ≡ Some z → IsAdded y z (λ x w. on_two f (Number x) (Number w))
-    by Sum w is e = let s = small-is w z e in record { literal = w; is = is; fits = fits-small z s.0; short = s.0; literal_fits = subst (FitsSigned w64) (sym s.1) (fits-small z s.0); same = λ x. ap (λ v. within_64 (x +ℤ v)) s.1 }
-    by Difference w is e = let s = small-is (neg_ℤ w) z e in record { literal = w; is = is; fits = fits-small z s.0; short = s.0; literal_fits = negated-fits w (subst (λ v. has_bits 12 v ≡ true) (sym s.1) s.0); same = λ x. ap (λ v. within_64 (x +ℤ v)) s.1 }
+    by : (f : Two) (w : ℤ) → y ≡ NumberLiteral w → second_constant f w ≡ Some z → IsAdded y z (λ x w. on_two f (Number x) (Number w)) (λ w o. AreWanted f o (Some (Number w)))
+    by Sum w is e = let s = small-is w z e in record { literal = w; is = is; fits = fits-small z s.0; short = s.0; literal_fits = subst (FitsSigned w64) (sym s.1) (fits-small z s.0); same = λ x. ap (λ v. within_64 (x +ℤ v)) s.1; wanted = λ o h. h.0 }
+    by Difference w is e = let s = small-is (neg_ℤ w) z e in record { literal = w; is = is; fits = fits-small z s.0; short = s.0; literal_fits = negated-fits w (subst (λ v. has_bits 12 v ≡ true) (sym s.1) s.0); same = λ x. ap (λ v. within_64 (x +ℤ v)) s.1; wanted = λ o h. h.0 }
     by Product w is e = absurd (cc)
     by Quotient w is e = absurd (cc)
     by Remainder w is e = absurd (cc)
@@ -116,11 +120,11 @@ second-added f y z e = let l = literal-is (second_constant f) y z e in by f l.0 
     by EitherOf w is e = absurd (cc)
 
 -- the first operand
-pub first-added : (f : Two) (y : Yielder) (z : ℤ) → of_literal (first_constant f) y ≡ Some z → IsAdded y z (λ x w. on_two f (Number w) (Number x))
+pub first-added : (f : Two) (y : Yielder) (z : ℤ) → of_literal (first_constant f) y ≡ Some z → IsAdded y z (λ x w. on_two f (Number w) (Number x)) (λ w o. AreWanted f (Some (Number w)) o)
 first-added f y z e = let l = literal-is (first_constant f) y z e in by f l.0 l.1 l.2
   where
-    by : (f : Two) (w : ℤ) → y ≡ NumberLiteral w → first_constant f w ≡ Some z → IsAdded y z (λ x w. on_two f (Number w) (Number x))
-    by Sum w is e = let s = small-is w z e in record { literal = w; is = is; fits = fits-small z s.0; short = s.0; literal_fits = subst (FitsSigned w64) (sym s.1) (fits-small z s.0); same = λ x. ap within_64 (sum-comm x w ∙ ap (λ v. x +ℤ v) s.1) }
+    by : (f : Two) (w : ℤ) → y ≡ NumberLiteral w → first_constant f w ≡ Some z → IsAdded y z (λ x w. on_two f (Number w) (Number x)) (λ w o. AreWanted f (Some (Number w)) o)
+    by Sum w is e = let s = small-is w z e in record { literal = w; is = is; fits = fits-small z s.0; short = s.0; literal_fits = subst (FitsSigned w64) (sym s.1) (fits-small z s.0); same = λ x. ap within_64 (sum-comm x w ∙ ap (λ v. x +ℤ v) s.1); wanted = λ o h. h.1 }
     by Difference w is e = absurd (cc)
     by Product w is e = absurd (cc)
     by Quotient w is e = absurd (cc)

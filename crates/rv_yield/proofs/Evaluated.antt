@@ -1,5 +1,5 @@
 -- Code that was appended for a yielder evaluates it, on both machines and whatever is emitted behind it.
-use Rattle.std.proofs.Common.{◌≡◌, ⊎_elim, ℕ, ◌+◌, ◌*◌, ◌≤◌, true, List, ◌++◌, None, refl, sym, ap, ◌∙◌, subst, arith, inl, append_assoc}
+use Rattle.std.proofs.Common.{◌≡◌, ⊎_elim, ℕ, ◌+◌, ◌*◌, ◌<◌, ◌≤◌, true, All, List, ◌++◌, None, refl, sym, ap, ◌∙◌, subst, arith, inl, append_assoc}
 use Rattle.rv_code.specs.declared.instruction.Inst.{Inst}
 use Rattle.rv_asm.specs.Assembly.{Listing, total, spot, address_of}
 use Rattle.rv_asm.specs.PieceRuns.{LeadsAt, code_with, end_of}
@@ -12,10 +12,11 @@ use Rattle.action_terms.specs.Need.{yielder_count}
 use Rattle.action_terms.specs.Yielding.{yields}
 use Rattle.rv_yield.specs.Evaluates.{label_address, Comes, Evaluated, Evaluates}
 use Rattle.rv_yield.specs.Registers.{is_built, registers_needed, HasWords}
-use Rattle.rv_yield.specs.Tasks.{extended}
+use Rattle.rv_yield.specs.Fronts.{extended}
 use Rattle.rv_yield.specs.YielderCode.{value_items}
 use Rattle.rv_yield.proofs.Evaluation.{value-comes}
-use Rattle.rv_yield.proofs.Steps.{Arrives, Present, outcome-cases}
+use Rattle.rv_yield.proofs.Steps.{Arrives}
+use Rattle.rv_yield.proofs.Valued.{Known, valued-cases}
 
 -- a run of words is a run of the machine of the table
 pub leads-at : (base : ℕ) (code : List Inst) (n : ℕ) (c d : WordState) → run_words base code n c ≡ Goes d → LeadsAt base code n c d
@@ -37,10 +38,12 @@ comes-at base code limit r c p q same a = record {
   output = a.output;
 }
 
-pub evaluates : (r l : ℕ) (y : Yielder) (old : Listing) → is_built y ≡ true → HasWords y → 10 ≤ r → r + registers_needed y ≤ 26 → Evaluates r l y old (extended old (value_items r r l y))
+pub evaluates :
+    (given : List ℕ) (r l : ℕ) (y : Yielder) (old : Listing) → All (λ o. o < 33554432) given → is_built y ≡ true → HasWords y → 10 ≤ r → r + registers_needed y ≤ 26 →
+    Evaluates given r l y old (extended old (value_items given r r l y))
 unfolding comes-at
-evaluates r l y old built words low room behind c base heap d b cells near before =
-    let piece = value_items r r l y in
+evaluates given r l y old near_given built words low room behind c base f heap d b cells near before finds suited =
+    let piece = value_items given r r l y in
     let new = extended old piece in
     let items = new.items ++ behind in
     let code = code_with new behind in
@@ -50,10 +53,11 @@ evaluates r l y old built words low room behind c base heap d b cells near befor
     let sizes : total items ≡ total old.items + (total piece + total behind) = omega (arith, ap total parts, total-append old.items (piece ++ behind), total-append piece behind) in
     let next : address_of (total old.items + total piece) ≡ end_of new = omega (arith, total-append old.items piece) in
     let stands = piece-stands items old.items piece behind parts in
-    let outcome = value-comes base code (spot items) l (omega (arith, spot_le-total items l, near)) d b cells y built words r r low room (inl refl) (total old.items) c (omega (arith, near, sizes)) before stands in
+    let outcome =
+    value-comes base code (spot items) l (omega (arith, spot_le-total items l, near)) heap given near_given f d b cells y built words suited r r low room (inl refl) (total old.items) c (omega (arith, near, sizes)) before stands finds in
     ⊎_elim
-    (λ (p : Present base code limit r r c (address_of (total old.items + total piece)) (yields y d b cells)).
-    subst (Evaluated base heap code limit r c (end_of new) nothing) (sym p.is) (comes-at base code limit r c _ _ next p.arrives, (p.value, p.fits)))
+    (λ (p : Known base code heap limit r r c (address_of (total old.items + total piece)) (yields y d b cells)).
+    subst (Evaluated base heap code limit r c (end_of new) nothing) (sym p.is) (comes-at base code limit r c _ _ next p.arrives, p.stands))
     (λ (p : (yields y d b cells ≡ None) × Arrives base code limit r r c nothing).
     subst (Evaluated base heap code limit r c (end_of new) nothing) (sym p.0) (comes-at base code limit r c _ _ refl p.1))
-    (outcome-cases base code limit r r c (address_of (total old.items + total piece)) nothing (yields y d b cells) outcome)
+    (valued-cases base code heap limit r r c (address_of (total old.items + total piece)) nothing (yields y d b cells) outcome)

@@ -3,7 +3,7 @@ use Rattle.std.proofs.Common.{◌≡◌, ⊎_elim, ℕ, ◌+◌, ◌*◌, ◌≤
 use Rattle.rv_code.proofs.Bools.{true-or-false}
 use Rattle.rv_code.specs.declared.instruction.Inst.{Inst}
 use Rattle.rv_asm.specs.Assembly.{total, is_placed, is_mark}
-use Rattle.rv_asm.specs.Conventions.{integer_word}
+use Rattle.rv_asm.specs.Conventions.{integer_word, truth_word}
 use Rattle.rv_asm.specs.Pieces.{load_constant}
 use Rattle.rv_asm.specs.declared.item.Item.{Item}
 use Rattle.rv_asm.specs.declared.item.Item.TheVariants.{Plain}
@@ -13,8 +13,10 @@ use Rattle.rv_asm.proofs.LabelsKept.{placed-push}
 use Rattle.rv_asm.proofs.Sending.{total-plain}
 use Rattle.action_terms.specs.Actions.{Two, Sum, Difference, Product, Quotient, Remainder, Is, Less, BothOf, EitherOf, One, Negation, Not, Yielder, NumberLiteral, TruthLiteral, Given, GivenAt, BoundTo, StoredIn, OnTwo, OnOne, ClosureOf}
 use Rattle.action_terms.specs.Need.{yielder_count}
+use Rattle.rv_yield.specs.Holding.{only_offset, nth_offset}
 use Rattle.rv_yield.specs.Registers.{registers_needed}
-use Rattle.rv_yield.specs.YielderCode.{operation_items, negation_items, addition_items, second_constant, first_constant, of_literal, addend_for, either_adding, value_items}
+use Rattle.rv_yield.specs.YielderCode.{operation_items, one_items, addition_items, load_items, placed_items, in_order, second_constant, first_constant, of_literal, addend_for, either_adding, value_items}
+use Rattle.rv_yield.proofs.Given.{length-load}
 
 -- no label is placed
 abbrev pub Unmarked : List Item → Type 0
@@ -39,7 +41,7 @@ pub record IsShort (limit : ℕ) (items : List Item) : Type 0 where
   pub few : total items ≤ limit
   pub unmarked : Unmarked items
 
-short-append : (m n k : ℕ) (a b : List Item) → m + n ≤ k → IsShort m a → IsShort n b → IsShort k (a ++ b)
+pub short-append : (m n k : ℕ) (a b : List Item) → m + n ≤ k → IsShort m a → IsShort n b → IsShort k (a ++ b)
 short-append m n k a b le h h' = record { few = omega (arith, total-append a b, h.few, h'.few, le); unmarked = unmarked-append a b h.unmarked h'.unmarked }
 
 short-if : (n : ℕ) (b : Bool) (x y : List Item) → IsShort n x → IsShort n y → IsShort n (if b then x else y)
@@ -53,14 +55,29 @@ operation-short Difference to a b l = record { few = omega arith; unmarked = (re
 operation-short Product to a b l = record { few = omega arith; unmarked = (refl, (refl, (refl, (refl, tt)))) }
 operation-short Quotient to a b l = record { few = omega arith; unmarked = (refl, (refl, (refl, (refl, (refl, (refl, (refl, (refl, tt)))))))) }
 operation-short Remainder to a b l = record { few = omega arith; unmarked = (refl, (refl, tt)) }
-operation-short Is to a b l = record { few = omega arith; unmarked = tt }
-operation-short Less to a b l = record { few = omega arith; unmarked = tt }
-operation-short BothOf to a b l = record { few = omega arith; unmarked = tt }
-operation-short EitherOf to a b l = record { few = omega arith; unmarked = tt }
+operation-short Is to a b l = record { few = omega arith; unmarked = (refl, (refl, tt)) }
+operation-short Less to a b l = record { few = omega arith; unmarked = (refl, tt) }
+operation-short BothOf to a b l = record { few = omega arith; unmarked = (refl, tt) }
+operation-short EitherOf to a b l = record { few = omega arith; unmarked = (refl, tt) }
 
-negation-short : (o : One) (to a l : ℕ) → IsShort 12 (negation_items o to a l)
-negation-short Negation to a l = record { few = omega arith; unmarked = (refl, (refl, (refl, (refl, tt)))) }
-negation-short Not to a l = record { few = omega arith; unmarked = tt }
+one-short : (o : One) (to a l : ℕ) → IsShort 12 (one_items o to a l)
+one-short Negation to a l = record { few = omega arith; unmarked = (refl, (refl, (refl, (refl, tt)))) }
+one-short Not to a l = record { few = omega arith; unmarked = (refl, tt) }
+
+constant-short : (to w : ℕ) → IsShort 12 (map Plain (load_constant to w))
+constant-short to w = record { few = omega (arith, total-plain (load_constant to w), length-load_constant to w); unmarked = unmarked-plain (load_constant to w) }
+
+placed-short : (o : Option ℕ) (to l : ℕ) → IsShort 12 (placed_items o to l)
+placed-short (Some offset) to l = record { few = omega (arith, total-plain (load_items to offset), length-load to offset); unmarked = unmarked-plain (load_items to offset) }
+placed-short None to l = record { few = omega arith; unmarked = (refl, tt) }
+
+pub order-short :
+    (m1 m2 k n : ℕ) (later : Bool) (free : ℕ) (first first_behind second second_behind : List Item) (last : ℕ → ℕ → List Item) → m1 + m2 + k ≤ n → IsShort m1 first → IsShort m1 first_behind →
+    IsShort m2 second → IsShort m2 second_behind → ((a b : ℕ) → IsShort k (last a b)) → IsShort n (in_order later free first first_behind second second_behind last)
+order-short m1 m2 k n true free first first_behind second second_behind last le a a' b b' c =
+    short-append m2 (m1 + k) n _ _ (omega (arith, le)) b (short-append m1 k (m1 + k) _ _ (omega arith) a' (c (free + 1) free))
+order-short m1 m2 k n false free first first_behind second second_behind last le a a' b b' c =
+    short-append m1 (m2 + k) n _ _ (omega (arith, le)) a (short-append m2 k (m2 + k) _ _ (omega arith) b' (c free (free + 1)))
 
 addition-short : (to a : ℕ) (z : ℤ) (l : ℕ) → IsShort 12 (addition_items to a z l)
 addition-short to a z l =
@@ -77,25 +94,22 @@ none-short : (n : ℕ) → IsShort n []
 none-short n = record { few = omega arith; unmarked = tt }
 
 -- at most 12 instructions for each yielder
-pub value-short : (y : Yielder) (to free l : ℕ) → IsShort (12 * yielder_count y) (value_items to free l y)
-value-short (NumberLiteral z) to free l =
-    let piece = load_constant to (integer_word z) in
-    record { few = omega (arith, total-plain piece, length-load_constant to (integer_word z)); unmarked = unmarked-plain piece }
-value-short (OnTwo f y1 y2) to free l =
+pub value-short : (given : List ℕ) (y : Yielder) (to free l : ℕ) → IsShort (12 * yielder_count y) (value_items given to free l y)
+value-short given (NumberLiteral z) to free l = constant-short to (integer_word z)
+value-short given (TruthLiteral t) to free l = constant-short to (truth_word t)
+value-short given (Given s) to free l = placed-short (only_offset given) to l
+value-short given (GivenAt s k) to free l = placed-short (nth_offset given k) to l
+value-short given (OnTwo f y1 y2) to free l =
     let c1 = yielder_count y1 in
     let c2 = yielder_count y2 in
     let n = 12 * yielder_count (OnTwo f y1 y2) in
     either-short n (of_literal (second_constant f) y2) (of_literal (first_constant f) y1) to l _ _ _
-    (λ z. short-append (12 * c1) 12 n _ _ (omega arith) (value-short y1 (addend_for to) free l) (addition-short to (addend_for to) z l))
-    (λ z. short-append (12 * c2) 12 n _ _ (omega arith) (value-short y2 (addend_for to) free l) (addition-short to (addend_for to) z l))
-    (short-if n (ltb (registers_needed y1) (registers_needed y2)) _ _
-    (short-append (12 * c2) (12 * c1 + 12) n _ _ (omega arith) (value-short y2 free free l) (short-append (12 * c1) 12 (12 * c1 + 12) _ _ (omega arith) (value-short y1 (free + 1) (free + 1) l) (operation-short f to (free + 1) free l)))
-    (short-append (12 * c1) (12 * c2 + 12) n _ _ (omega arith) (value-short y1 free free l) (short-append (12 * c2) 12 (12 * c2 + 12) _ _ (omega arith) (value-short y2 (free + 1) (free + 1) l) (operation-short f to free (free + 1) l))))
-value-short (OnOne f y) to free l =
-    short-append (12 * yielder_count y) 12 (12 * yielder_count (OnOne f y)) _ _ (omega arith) (value-short y free free l) (negation-short f to free l)
-value-short (TruthLiteral t) to free l = none-short _
-value-short (Given s) to free l = none-short _
-value-short (GivenAt s k) to free l = none-short _
-value-short (BoundTo s t) to free l = none-short _
-value-short (StoredIn s y) to free l = none-short _
-value-short (ClosureOf k) to free l = none-short _
+    (λ z. short-append (12 * c1) 12 n _ _ (omega arith) (value-short given y1 (addend_for to) free l) (addition-short to (addend_for to) z l))
+    (λ z. short-append (12 * c2) 12 n _ _ (omega arith) (value-short given y2 (addend_for to) free l) (addition-short to (addend_for to) z l))
+    (order-short (12 * c1) (12 * c2) 12 n (ltb (registers_needed y1) (registers_needed y2)) free _ _ _ _ _ (omega arith) (value-short given y1 free free l) (value-short given y1 (free + 1) (free + 1) l)
+    (value-short given y2 free free l) (value-short given y2 (free + 1) (free + 1) l) (λ a b. operation-short f to a b l))
+value-short given (OnOne f y) to free l =
+    short-append (12 * yielder_count y) 12 (12 * yielder_count (OnOne f y)) _ _ (omega arith) (value-short given y free free l) (one-short f to free l)
+value-short given (BoundTo s t) to free l = none-short _
+value-short given (StoredIn s y) to free l = none-short _
+value-short given (ClosureOf k) to free l = none-short _

@@ -4,22 +4,22 @@ use Rattle.std.proofs.lemmas.Nat.{pow-add}
 use Rattle.rv_code.proofs.Bools.{true-or-false}
 use Rattle.action_terms.specs.Actions.{Two, Yielder, NumberLiteral, TruthLiteral, Given, GivenAt, BoundTo, StoredIn, OnTwo, OnOne, ClosureOf}
 use Rattle.action_terms.specs.Need.{yielder_count}
-use Rattle.rv_yield.specs.Registers.{registers_needed, need_of, both_needed, is_arithmetic, is_built}
+use Rattle.rv_yield.specs.Registers.{registers_needed, need_of, both_needed, is_built}
 use Rattle.rv_yield.proofs.Evaluation.{some-need}
 
 -- what an operation needs
-pub need-both : (f : Two) (y1 y2 : Yielder) → is_arithmetic f ≡ true → both_needed (need_of y1) (need_of y2) ≡ need_of (OnTwo f y1 y2)
-need-both f y1 y2 a = by (is_built y1) (is_built y2) refl refl
+pub need-both : (f : Two) (y1 y2 : Yielder) → both_needed (need_of y1) (need_of y2) ≡ need_of (OnTwo f y1 y2)
+need-both f y1 y2 = by (is_built y1) (is_built y2) refl refl
   where
     by : (p q : Bool) → is_built y1 ≡ p → is_built y2 ≡ q → both_needed (need_of y1) (need_of y2) ≡ need_of (OnTwo f y1 y2)
     by true true e1 e2 =
         let z1 : eqb (registers_needed y1) 0 ≡ false = ne_eqb _ _ (omega (arith, some-need y1)) in
         let z2 : eqb (registers_needed y2) 0 ≡ false = ne_eqb _ _ (omega (arith, some-need y2)) in
-        rw (e1, e2, a, z1, z2) refl
+        rw (e1, e2, z1, z2) refl
     by true false e1 e2 =
         let z1 : eqb (registers_needed y1) 0 ≡ false = ne_eqb _ _ (omega (arith, some-need y1)) in
-        rw (e1, e2, a, z1) refl
-    by false q e1 e2 = rw (e1, a) refl
+        rw (e1, e2, z1) refl
+    by false q e1 e2 = rw e1 refl
 
 -- so many registers are enough only where there are as many yielders
 pub registers-few : (y : Yielder) → 2 ^ registers_needed y ≤ yielder_count y + 1

@@ -153,7 +153,7 @@ module _ (base : ℕ) (code : List Inst) where
 
   -- ---- one after another
 
-  pub arrives-then :
+  unfoldable pub arrives-then :
       (l1 l2 limit to1 to2 to free1 free2 free : ℕ) (c : WordState) (p q : ℕ) → (a : Arrives l1 to1 free1 c p) → Arrives l2 to2 free2 a.end q →
       l1 + l2 ≤ limit → free ≤ free1 → free ≤ free2 → (to1 ≡ to) ⊎ (free ≤ to1) → (to2 ≡ to) ⊎ (free ≤ to2) → Arrives limit to free c q
   arrives-then l1 l2 limit to1 to2 to free1 free2 free c p q a b few low1 low2 own1 own2 = record {

@@ -9,7 +9,7 @@ use Rattle.rv_code.specs.declared.instruction.StoreOp.TheVariants.{Sd}
 use Rattle.rv_asm.specs.Assembly.{Listing, total, spot, address_of, code_of}
 use Rattle.rv_asm.specs.DataWords.{Heap}
 use Rattle.rv_asm.specs.PieceRuns.{end_of, IsBefore}
-use Rattle.rv_asm.specs.Pieces.{appended, load_constant}
+use Rattle.rv_asm.specs.Pieces.{load_constant}
 use Rattle.rv_asm.specs.WordMachine.{WordState, Goes, put, run_words, Has}
 use Rattle.rv_asm.specs.declared.item.Item.{Item}
 use Rattle.rv_asm.specs.declared.item.Item.TheVariants.{Plain}
@@ -24,8 +24,10 @@ use Rattle.rv_asm.proofs.Words.{IsReachable, store-runs}
 use Rattle.action_terms.specs.Information.{Datum, Binds, Data, Storage}
 use Rattle.action_terms.specs.Actions.{Yielder}
 use Rattle.action_terms.specs.Need.{yielder_count}
+use Rattle.action_terms.specs.Suited.{IsSuited}
 use Rattle.action_terms.specs.Yielding.{yields}
-use Rattle.rv_yield.specs.Evaluates.{Evaluated, Evaluates, HasFrame, Left, Stores}
+use Rattle.rv_yield.specs.Evaluates.{Evaluated, Evaluates, HasFrame, Finds, Left, Stores}
+use Rattle.rv_yield.specs.Fronts.{extended}
 use Rattle.rv_yield.specs.YielderCode.{store_items}
 use Rattle.rv_yield.proofs.Evaluated.{leads-at}
 use Rattle.rv_yield.proofs.Evaluation.{some-count}
@@ -46,12 +48,12 @@ module _ (base : ℕ) (code : List Inst) where
     pub input : end.input ≡ c.input
     pub output : end.output ≡ c.output
 
-  near-stored : (f offset : ℕ) (c : WordState) → offset < 256 → HasFrame base f offset c → Has code c.pc (Store Sd 2 10 (pos (8 * offset)) ∷ []) → run_words base code 1 c ≡ Goes (record c { pc = c.pc + 4; words = set c.words (f + offset) (c.registers 10) })
-  near-stored f offset c small frame h =
-      store-runs base code c 2 10 f offset (record { aligned = frame.aligned; below = omega (arith, frame.below); is = frame.frame; inside = frame.inside }) h.0
+  near-stored : (f offset : ℕ) (c : WordState) → offset < 256 → HasFrame base f c → f + offset < length c.words → Has code c.pc (Store Sd 2 10 (pos (8 * offset)) ∷ []) → run_words base code 1 c ≡ Goes (record c { pc = c.pc + 4; words = set c.words (f + offset) (c.registers 10) })
+  near-stored f offset c small frame inside h =
+      store-runs base code c 2 10 f offset (record { aligned = frame.aligned; below = omega (arith, frame.below); is = frame.frame; inside = inside }) h.0
 
-  pub store-stores : (f offset : ℕ) (c : WordState) → offset < 33554432 → HasFrame base f offset c → Has code c.pc (store_items offset) → HasStored f offset c
-  store-stores f offset c small frame h = ⊎_elim (λ q. near q) (λ q. far q) (true-or-false (ltb offset 256))
+  pub store-stores : (f offset : ℕ) (c : WordState) → offset < 33554432 → HasFrame base f c → f + offset < length c.words → Has code c.pc (store_items offset) → HasStored f offset c
+  store-stores f offset c small frame inside h = ⊎_elim (λ q. near q) (λ q. far q) (true-or-false (ltb offset 256))
     where
       near : ltb offset 256 ≡ true → HasStored f offset c
       near q =
@@ -59,7 +61,7 @@ module _ (base : ℕ) (code : List Inst) where
           let one : length (store_items offset) ≡ 1 = ap length is in
           record {
             end = record c { pc = c.pc + 4; words = set c.words (f + offset) (c.registers 10) };
-            runs = subst (λ n. run_words base code n c ≡ Goes (record c { pc = c.pc + 4; words = set c.words (f + offset) (c.registers 10) })) (sym one) (near-stored f offset c (ltb-true _ _ q) frame (subst (Has code c.pc) is h));
+            runs = subst (λ n. run_words base code n c ≡ Goes (record c { pc = c.pc + 4; words = set c.words (f + offset) (c.registers 10) })) (sym one) (near-stored f offset c (ltb-true _ _ q) frame inside (subst (Has code c.pc) is h));
             pc = omega (arith, one);
             others = λ k lt. refl;
             words = refl;
@@ -85,8 +87,8 @@ module _ (base : ℕ) (code : List Inst) where
           let reach : IsReachable base c2 11 (f + offset) 0 = record {
             aligned = frame.aligned;
             below = omega (arith, frame.below);
-            is = put-same c1.registers 10 sum ∙ omega (arith, frame.below, frame.inside);
-            inside = omega (arith, frame.inside);
+            is = put-same c1.registers 10 sum ∙ omega (arith, frame.below, inside);
+            inside = omega (arith, inside);
           } in
           let r3 : run_words base code 1 c2 ≡ Goes c3 = store-runs base code c2 11 10 (f + offset) 0 reach rest.1.0 in
           let whole = then-runs base code (length load) (1 + 1) c c1 c3 r1 (then-runs base code 1 1 c1 c2 c3 r2 r3) in
@@ -105,8 +107,9 @@ module _ (base : ℕ) (code : List Inst) where
 -- ---- behind the code of a yielder
 
 module _
-    (offset l : ℕ) (y : Yielder) (old mid : Listing) (small : offset < 33554432) (evaluates : Evaluates 10 l y old mid) (behind : List Item) (c : WordState) (base f : ℕ) (heap : Heap)
-    (d : Data) (b : Binds) (cells : Storage) (near : total ((mid.items ++ map Plain (store_items offset)) ++ behind) < 2 ^ 28) (before : IsBefore old c) (frame : HasFrame base f offset c)
+    (given : List ℕ) (offset l : ℕ) (y : Yielder) (old mid : Listing) (small : offset < 33554432) (evaluates : Evaluates given 10 l y old mid) (behind : List Item) (c : WordState) (base f : ℕ) (heap : Heap)
+    (d : Data) (b : Binds) (cells : Storage) (near : total ((mid.items ++ map Plain (store_items offset)) ++ behind) < 2 ^ 28) (before : IsBefore old c) (finds : Finds base heap given f c d)
+    (suited : IsSuited y d b cells) (inside : f + offset < length c.words)
   where
     abbrev piece : List Inst
     piece = store_items offset
@@ -120,13 +123,13 @@ module _
     evaluated : Evaluated base heap (code_of items) (12 * yielder_count y) 10 c (end_of mid) (address_of (spot items l)) (yields y d b cells)
     evaluated =
         subst (λ i. Evaluated base heap (code_of i) (12 * yielder_count y) 10 c (end_of mid) (address_of (spot i l)) (yields y d b cells)) (sym same)
-        (evaluates (map Plain piece ++ behind) c base heap d b cells (subst (λ i. total i < 2 ^ 28) same near) before)
+        (evaluates (map Plain piece ++ behind) c base f heap d b cells (subst (λ i. total i < 2 ^ 28) same near) before finds suited)
 
     stands : Has (code_of items) (end_of mid) piece
     stands = subst (Has (code_of items) (end_of mid)) (code_from-plain (spot items) (total mid.items) piece) (piece-stands items mid.items (map Plain piece) behind same)
 
     left : (v : Option Datum) → Evaluated base heap (code_of items) (12 * yielder_count y) 10 c (end_of mid) (address_of (spot items l)) v →
-        Left base heap (code_of items) (24 * yielder_count y) f offset c (end_of (appended mid piece)) (address_of (spot items l)) v
+        Left base heap (code_of items) (24 * yielder_count y) f offset c (end_of (extended mid (map Plain piece))) (address_of (spot items l)) v
     left None g = record {
       instructions = g.instructions;
       few = omega (arith, g.few);
@@ -142,13 +145,13 @@ module _
         let code = code_of items in
         let word = g.end.registers 10 in
         let size = ap length g.words in
-        let there : HasFrame base f offset g.end = record {
+        let frame = finds.frame in
+        let there : HasFrame base f g.end = record {
           aligned = frame.aligned;
           below = omega (arith, frame.below, size);
           frame = g.others 2 (omega arith) ∙ frame.frame;
-          inside = omega (arith, frame.inside, size);
         } in
-        let stored = store-stores base code f offset g.end small there (subst (λ p. Has code p piece) (sym g.at) stands) in (
+        let stored = store-stores base code f offset g.end small there (omega (arith, inside, size)) (subst (λ p. Has code p piece) (sym g.at) stands) in (
           word,
           s,
           record {
@@ -165,6 +168,7 @@ module _
         )
 
 pub stores :
-    (offset l : ℕ) (y : Yielder) (old mid : Listing) → offset < 33554432 → Evaluates 10 l y old mid → Stores offset l y old (appended mid (store_items offset))
-stores offset l y old mid small ev behind c base f heap d b cells near before frame =
-    left offset l y old mid small ev behind c base f heap d b cells near before frame (yields y d b cells) (evaluated offset l y old mid small ev behind c base f heap d b cells near before frame)
+    (given : List ℕ) (offset l : ℕ) (y : Yielder) (old mid : Listing) → offset < 33554432 → Evaluates given 10 l y old mid → Stores given offset l y old (extended mid (map Plain (store_items offset)))
+stores given offset l y old mid small ev behind c base f heap d b cells near before finds suited inside =
+    left given offset l y old mid small ev behind c base f heap d b cells near before finds suited inside (yields y d b cells)
+    (evaluated given offset l y old mid small ev behind c base f heap d b cells near before finds suited inside)

@@ -1,37 +1,38 @@
 -- The tasks that take a yielder's place come to the same items, can be done, and are fewer turns.
-use Rattle.std.proofs.Common.{◌≡◌, ⊎_elim, ℕ, ◌+◌, ◌*◌, ◌<◌, ◌≤◌, Bool, true, false, ◌&&◌, List, [], ◌∷◌, ◌++◌, map, Some, None, ℤ, All, IsTrue, refl, sym, ap, ◌∙◌, subst, arith, inl, append_assoc, append-nil, ltb, ltb-true, ltb-false}
+use Rattle.std.proofs.Common.{◌≡◌, ⊎_elim, ℕ, ◌+◌, ◌*◌, ◌<◌, ◌≤◌, Bool, true, false, List, [], ◌∷◌, ◌++◌, Some, None, ℤ, All, IsTrue, refl, sym, ap, ◌∙◌, subst, arith, inl, append_assoc, append-nil, ltb, ltb-true, ltb-false}
 use Rattle.std.proofs.lemmas.List.Elements.{All-append, All-cons, All-nil}
 use Rattle.rv_code.proofs.Bools.{true-or-false}
 use Rattle.rv_code.specs.Encode.{has_bits}
 use Rattle.rv_asm.specs.Assembly.{Listing}
-use Rattle.rv_asm.specs.Conventions.{integer_word}
-use Rattle.rv_asm.specs.Pieces.{appended, load_constant}
 use Rattle.rv_asm.specs.declared.item.Item.{Item}
-use Rattle.rv_asm.specs.declared.item.Item.TheVariants.{Plain}
-use Rattle.action_terms.specs.Actions.{One, Negation, Not, Yielder, NumberLiteral, OnTwo, OnOne}
-use Rattle.action_terms.specs.Forms.{yielder_at, two_viewed, IsDatum}
+use Rattle.action_terms.specs.Actions.{Yielder, OnTwo, OnOne}
+use Rattle.action_terms.specs.Forms.{yielder_at, two_viewed, one_viewed, IsDatum}
 use Rattle.action_terms.specs.Need.{yielder_count}
 use Rattle.action_terms.specs.Numbering.{ListedYielder}
+use Rattle.action_terms.specs.declared.view.One.{One as OneView}
 use Rattle.action_terms.specs.declared.view.Two.{Two as TwoView}
-use Rattle.rv_yield.specs.Registers.{is_arithmetic, is_built, registers_needed, HasWords, first_register}
+use Rattle.rv_yield.specs.Fronts.{IsAppended, AppendsFrontOf}
+use Rattle.rv_yield.specs.Registers.{is_built, registers_needed, HasWords, first_register}
 use Rattle.rv_yield.specs.YielderCode.{value_items, second_constant, first_constant, of_literal, addend_for}
-use Rattle.rv_yield.specs.Tasks.{task_items, items_of, IsEmitted, operand_tasks, IsReady, HasTaskWords, HaveWords, task_turns, turns}
+use Rattle.rv_yield.specs.Tasks.{task_items, items_of, operand_tasks, IsReady, HasTaskWords, HaveWords, task_turns, turns}
 use Rattle.rv_yield.specs.declared.tasks.Task.{Task}
 use Rattle.rv_yield.specs.declared.tasks.Task.TheVariants as task
 use Rattle.rv_asm.proofs.Places.{and-true}
 use Rattle.rv_yield.proofs.Additions.{second-added, first-added}
 use Rattle.rv_yield.proofs.Evaluation.{addend-target, some-count, option-cases}
+use Rattle.rv_yield.proofs.Fronts.{appended-none, appended-then, front-first, front-behind}
 
 is-true : (b : Bool) → b ≡ true → IsTrue b
 is-true true e = refl
 is-true false e = absurd (cc)
 
-module _ (ls : List ListedYielder) where
+module _ (ls : List ListedYielder) (given : List ℕ) where
   -- ---- a stack of tasks and more on top
 
-  items_of-append : (n : ℕ) (ts us : List Task) → items_of ls n (ts ++ us) ≡ items_of ls n us ++ items_of ls n ts
-  items_of-append n [] us = sym (append-nil (items_of ls n us))
-  items_of-append n (t ∷ ts) us = ap (λ i. i ++ task_items ls n t) (items_of-append n ts us) ∙ append_assoc (items_of ls n us) (items_of ls n ts) (task_items ls n t)
+  items_of-append : (n : ℕ) (ts us : List Task) → items_of ls given n (ts ++ us) ≡ items_of ls given n us ++ items_of ls given n ts
+  items_of-append n [] us = sym (append-nil (items_of ls given n us))
+  items_of-append n (t ∷ ts) us =
+      ap (λ i. i ++ task_items ls given n t) (items_of-append n ts us) ∙ append_assoc (items_of ls given n us) (items_of ls given n ts) (task_items ls given n t)
 
   turns-append : (ts us : List Task) → turns ls (ts ++ us) ≡ turns ls ts + turns ls us
   turns-append [] us = omega arith
@@ -45,17 +46,16 @@ module _ (ls : List ListedYielder) where
 
   -- the tasks come to what the yielder's value does
   pub record Stand_for (y to free : ℕ) (ts : List Task) : Type 0 where
-    pub items : (n : ℕ) → items_of ls n ts ≡ value_items to free n (yielder_at ls y)
+    pub items : (n : ℕ) → items_of ls given n ts ≡ value_items given to free n (yielder_at ls y)
     pub ready : All (IsReady ls) ts
     pub words : HaveWords ls ts → HasWords (yielder_at ls y)
     pub fewer : turns ls ts < 4 * yielder_count (yielder_at ls y)
 
   module _ (y to free : ℕ) (before after ts : List Task) (stand : Stand_for y to free ts) (is : after ≡ before ++ ts) where
-    pub stand-emitted : (n : ℕ) (s : Listing) → IsEmitted ls n (task.Value y to free) before after s s
-    stand-emitted n s = record {
-      labels = refl;
-      items = ap (λ i. s.items ++ i) (ap (items_of ls n) is ∙ items_of-append n before ts ∙ ap (λ i. i ++ items_of ls n before) (stand.items n));
-    }
+    pub stand-emitted : (n : ℕ) (s : Listing) → IsAppended (value_items given to free n (yielder_at ls y) ++ items_of ls given n before) (items_of ls given n after) s s
+    stand-emitted n s =
+        subst (λ piece. IsAppended piece (items_of ls given n after) s s) (ap (items_of ls given n) is ∙ items_of-append n before ts ∙ ap (λ i. i ++ items_of ls given n before) (stand.items n))
+        (appended-none (items_of ls given n after) s)
 
     pub stand-ready : All (IsReady ls) before → All (IsReady ls) after
     stand-ready h = subst (All (IsReady ls)) (sym is) (All-append (IsReady ls) before ts h stand.ready)
@@ -66,29 +66,16 @@ module _ (ls : List ListedYielder) where
     pub stand-turns : turns ls after < turns ls before + 4 * yielder_count (yielder_at ls y)
     stand-turns = omega (arith, ap (turns ls) is, turns-append before ts, stand.fewer)
 
-  -- ---- a number
+  -- ---- an operation on one operand
 
-  pub number-emitted :
-      (n y to free w : ℕ) (z : ℤ) (before : List Task) (old new : Listing) → yielder_at ls y ≡ NumberLiteral z → w ≡ integer_word z →
-      new ≡ appended old (load_constant to w) → IsEmitted ls n (task.Value y to free) before before old new
-  number-emitted n y to free w z before old new is word e = record {
-    labels = ap (λ s. s.labels) e;
-    items =
-        ap (λ s. s.items ++ items_of ls n before) e ∙ append_assoc old.items (map Plain (load_constant to w)) (items_of ls n before)
-        ∙ ap (λ v. old.items ++ (map Plain (load_constant to v) ++ items_of ls n before)) word
-        ∙ ap (λ u. old.items ++ (value_items to free n u ++ items_of ls n before)) (sym is);
-  }
-
-  -- ---- a negation
-
-  pub negation-stands :
-      (y to free x : ℕ) → yielder_at ls y ≡ OnOne Negation (yielder_at ls x) → IsDatum ls x → IsReady ls (task.Value y to free) →
-      Stand_for y to free (task.Negation to free ∷ task.Value x free free ∷ [])
-  negation-stands y to free x is datum ready = record {
-    items = λ n. ap (value_items to free n) (sym is);
+  pub one-stands :
+      (y to free x : ℕ) (o : OneView) → yielder_at ls y ≡ OnOne (one_viewed o) (yielder_at ls x) → IsDatum ls x → IsReady ls (task.Value y to free) →
+      Stand_for y to free (task.OnOne o to free ∷ task.Value x free free ∷ [])
+  one-stands y to free x o is datum ready = record {
+    items = λ n. ap (value_items given to free n) (sym is);
     ready =
         let one : IsReady ls (task.Value x free free) = (datum, subst (λ u. is_built u ≡ true) is ready.1, ready.2, subst (λ u. free + registers_needed u ≤ 26) is ready.3, inl refl) in
-        All-cons (IsReady ls) (task.Negation to free) (task.Value x free free ∷ []) tt (All-cons (IsReady ls) (task.Value x free free) [] one (All-nil (IsReady ls)));
+        All-cons (IsReady ls) (task.OnOne o to free) (task.Value x free free ∷ []) tt (All-cons (IsReady ls) (task.Value x free free) [] one (All-nil (IsReady ls)));
     words = λ h. subst HasWords (sym is) h.0.1;
     fewer = omega (arith, ap yielder_count is);
   }
@@ -96,11 +83,6 @@ module _ (ls : List ListedYielder) where
   -- two tasks that were pushed, one after the other
   pub pushed-both : (before mid after : List Task) (t u : Task) → mid ≡ before ++ t ∷ [] → after ≡ mid ++ u ∷ [] → after ≡ before ++ (t ∷ u ∷ [])
   pushed-both before mid after t u e f = f ∙ ap (λ i. i ++ u ∷ []) e ∙ append_assoc before (t ∷ []) (u ∷ [])
-
-  -- the only operation on one datum whose code can be made
-  pub negation-is : (o : One) (x : Yielder) → is_built (OnOne o x) ≡ true → OnOne o x ≡ OnOne Negation x
-  negation-is Negation x e = refl
-  negation-is Not x e = absurd (cc)
 
   -- ---- an operation on two operands
 
@@ -111,14 +93,14 @@ module _ (ls : List ListedYielder) where
     room : free + registers_needed (yielder_at ls y) ≤ 26
     room = can.3
 
-    parts-built : (is_arithmetic (two_viewed f) ≡ true) × (is_built (yielder_at ls x1) && is_built (yielder_at ls x2) ≡ true)
-    parts-built = and-true (is_arithmetic (two_viewed f)) (is_built (yielder_at ls x1) && is_built (yielder_at ls x2)) (subst (λ u. is_built u ≡ true) is can.1)
+    parts-built : (is_built (yielder_at ls x1) ≡ true) × (is_built (yielder_at ls x2) ≡ true)
+    parts-built = and-true (is_built (yielder_at ls x1)) (is_built (yielder_at ls x2)) (subst (λ u. is_built u ≡ true) is can.1)
 
     built1 : is_built (yielder_at ls x1) ≡ true
-    built1 = (and-true (is_built (yielder_at ls x1)) (is_built (yielder_at ls x2)) parts-built.1).0
+    built1 = parts-built.0
 
     built2 : is_built (yielder_at ls x2) ≡ true
-    built2 = (and-true (is_built (yielder_at ls x1)) (is_built (yielder_at ls x2)) parts-built.1).1
+    built2 = parts-built.1
 
     abbrev u1 : Yielder
     u1 = yielder_at ls x1
@@ -186,10 +168,10 @@ module _ (ls : List ListedYielder) where
         in_order : of_literal (second_constant (two_viewed f)) u2 ≡ None → of_literal (first_constant (two_viewed f)) u1 ≡ None → ltb (registers_needed u1) (registers_needed u2) ≡ false → Stand_for y to free (operand_tasks ls f to free x1 x2)
         in_order o2 o1 q =
             let more = ltb-false _ _ q in
-            same-tasks (task.Operation f to free (free + 1) ∷ task.Value x2 (free + 1) (free + 1) ∷ task.Value x1 free free ∷ []) (rw (o2, o1, q) refl)
+            same-tasks (task.OnTwo f to free (free + 1) ∷ task.Value x2 (free + 1) (free + 1) ∷ task.Value x1 free free ∷ []) (rw (o2, o1, q) refl)
             (record {
-              items = λ n. rw (is, o2, o1, q) (append_assoc (value_items free free n u1) (value_items (free + 1) (free + 1) n u2) _);
-              ready = both-ready (task.Operation f to free (free + 1)) x2 x1 tt datum2 built2 datum1 built1 (omega (arith, room-both, more)) (omega (arith, room-both, more));
+              items = λ n. rw (is, o2, o1, q) (append_assoc (value_items given free free n u1) (value_items given (free + 1) (free + 1) n u2) _);
+              ready = both-ready (task.OnTwo f to free (free + 1)) x2 x1 tt datum2 built2 datum1 built1 (omega (arith, room-both, more)) (omega (arith, room-both, more));
               words = λ h. subst HasWords (sym is) (h.0.0.1, h.0.1);
               fewer = omega (arith, ap yielder_count is);
             })
@@ -197,10 +179,10 @@ module _ (ls : List ListedYielder) where
         later : of_literal (second_constant (two_viewed f)) u2 ≡ None → of_literal (first_constant (two_viewed f)) u1 ≡ None → ltb (registers_needed u1) (registers_needed u2) ≡ true → Stand_for y to free (operand_tasks ls f to free x1 x2)
         later o2 o1 q =
             let more = ltb-true _ _ q in
-            same-tasks (task.Operation f to (free + 1) free ∷ task.Value x1 (free + 1) (free + 1) ∷ task.Value x2 free free ∷ []) (rw (o2, o1, q) refl)
+            same-tasks (task.OnTwo f to (free + 1) free ∷ task.Value x1 (free + 1) (free + 1) ∷ task.Value x2 free free ∷ []) (rw (o2, o1, q) refl)
             (record {
-              items = λ n. rw (is, o2, o1, q) (append_assoc (value_items free free n u2) (value_items (free + 1) (free + 1) n u1) _);
-              ready = both-ready (task.Operation f to (free + 1) free) x1 x2 tt datum1 built1 datum2 built2 (omega (arith, room-both, more)) (omega (arith, room-both, more));
+              items = λ n. rw (is, o2, o1, q) (append_assoc (value_items given free free n u2) (value_items given (free + 1) (free + 1) n u1) _);
+              ready = both-ready (task.OnTwo f to (free + 1) free) x1 x2 tt datum1 built1 datum2 built2 (omega (arith, room-both, more)) (omega (arith, room-both, more));
               words = λ h. subst HasWords (sym is) (h.0.1, h.0.0.1);
               fewer = omega (arith, ap yielder_count is);
             })
@@ -212,10 +194,20 @@ module _ (ls : List ListedYielder) where
   words-join (t ∷ ts) us h k = (words-join ts us h.0 k, h.1)
 
   module _ (t : Task) (stack before after : List Task) (is : stack ≡ before ++ t ∷ []) where
+    turn-stack : (n : ℕ) → items_of ls given n stack ≡ task_items ls given n t ++ items_of ls given n before
+    turn-stack n = ap (items_of ls given n) is ∙ items_of-append n before (t ∷ [])
+
     pub turn-items :
-        (n : ℕ) (old new : Listing) (all : List Item) → IsEmitted ls n t before after old new → old.items ++ items_of ls n stack ≡ all → new.items ++ items_of ls n after ≡ all
-    turn-items n old new all emitted e =
-        emitted.items ∙ ap (λ i. old.items ++ i) (sym (ap (items_of ls n) is ∙ items_of-append n before (t ∷ []))) ∙ e
+        (n : ℕ) (piece : List Item) (old mid new : Listing) → IsAppended piece (items_of ls given n stack) old mid →
+        IsAppended (task_items ls given n t ++ items_of ls given n before) (items_of ls given n after) mid new → IsAppended piece (items_of ls given n after) old new
+    turn-items n piece old mid new a b =
+        appended-then piece (items_of ls given n stack) (items_of ls given n after) old mid new a (subst (λ i. IsAppended i (items_of ls given n after) mid new) (sym (turn-stack n)) b)
+
+    pub turn-front :
+        (n : ℕ) (piece : List Item) (old mid new : Listing) → IsAppended piece (items_of ls given n stack) old mid → AppendsFrontOf (task_items ls given n t) mid new → AppendsFrontOf piece old new
+    turn-front n piece old mid new a f =
+        front-behind piece (items_of ls given n stack) old mid new a
+        (subst (λ i. AppendsFrontOf i mid new) (sym (turn-stack n)) (front-first (task_items ls given n t) (items_of ls given n before) mid new f))
 
     pub turn-words : HaveWords ls before × HasTaskWords ls t → HaveWords ls stack
     turn-words h = subst (HaveWords ls) (sym is) (words-join before (t ∷ []) h.0 (tt, h.1))

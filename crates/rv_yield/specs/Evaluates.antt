@@ -1,5 +1,5 @@
 -- What the machine does at the code of a yielder, whatever is emitted behind it: the one interface of this code to that of nodes.
-use Rattle.std.specs.Prelude.{◌≡◌, ℕ, ◌+◌, ◌*◌, ◌%◌, ◌^◌, ◌<◌, ◌≤◌, List, ◌++◌, length, slice_set, Option, Some, None}
+use Rattle.std.specs.Prelude.{◌≡◌, ℕ, ◌+◌, ◌*◌, ◌%◌, ◌^◌, ◌<◌, ◌≤◌, true, false, All, List, ◌++◌, length, slice_get, slice_set, Option, Some, None}
 use Rattle.rv_code.specs.declared.instruction.Inst.{Inst}
 use Rattle.rv_asm.specs.Assembly.{Listing, total, spot, address_of}
 use Rattle.rv_asm.specs.Conventions.{frame_register}
@@ -7,14 +7,40 @@ use Rattle.rv_asm.specs.DataWords.{Heap, StandsFor}
 use Rattle.rv_asm.specs.PieceRuns.{LeadsAt, code_with, end_of, IsBefore}
 use Rattle.rv_asm.specs.WordMachine.{WordState}
 use Rattle.rv_asm.specs.declared.item.Item.{Item}
-use Rattle.action_terms.specs.Information.{Datum, Binds, Data, Storage}
+use Rattle.action_terms.specs.Information.{Datum, Truth, Binds, Data, Storage}
 use Rattle.action_terms.specs.Actions.{Yielder}
 use Rattle.action_terms.specs.Need.{yielder_count}
+use Rattle.action_terms.specs.Suited.{IsSuited, IsOfSort}
 use Rattle.action_terms.specs.Yielding.{yields}
+use Rattle.action_terms.specs.declared.kinds.Sort.TheVariants as sort
+use Rattle.rv_yield.specs.Holding.{Holds}
+use Rattle.rv_yield.specs.Registers.{first_register}
 
 -- the address of a label in all that was emitted
 abbrev pub label_address : Listing → (behind : List Item) → (label : ℕ) → ℕ
 label_address listing behind label = address_of (spot (listing.items ++ behind) label)
+
+-- ---- what the code finds
+
+-- a frame begins at word f of the region
+pub record HasFrame (base f : ℕ) (c : WordState) : Type 0 where
+  pub aligned : base % 8 ≡ 0
+  pub below : base + 8 * length c.words ≤ 2 ^ 32
+  pub frame : c.registers frame_register ≡ base + 8 * f
+
+-- each cell has a unit of its own, in the region
+pub record HasCells (heap : Heap) (count : ℕ) : Type 0 where
+  pub inside : (number place : ℕ) → slice_get heap.cells number ≡ Some place → place < count
+  pub apart : (j k place : ℕ) → slice_get heap.cells j ≡ Some place → slice_get heap.cells k ≡ Some place → j ≡ k
+
+-- the words at these offsets of the frame stand for the data that are given
+pub record Finds (base : ℕ) (heap : Heap) (given : List ℕ) (f : ℕ) (c : WordState) (d : Data) : Type 0 where
+  pub frame : HasFrame base f c
+  pub inside : All (λ o. f + o < length c.words) given
+  pub holds : Holds base heap c.words f given d
+  pub cells : HasCells heap (length c.words)
+
+-- ---- a value in a register
 
 -- at most so many instructions lead from a state to an address. The registers below `first` are as before, and so are all
 -- words of the region; nothing was read or sent
@@ -34,21 +60,15 @@ abbrev pub Evaluated : (base : ℕ) → Heap → (code : List Inst) → (limit r
 Evaluated base heap code limit register c next nothing (Some x) = (g : Comes base code limit register c next) × StandsFor base heap (g.end.registers register) x
 Evaluated base heap code limit register c next nothing None = Comes base code limit register c nothing
 
--- the code that was appended evaluates the yielder, by at most 12 instructions for each yielder in it
-abbrev pub Evaluates : (register nothing : ℕ) → Yielder → (old new : Listing) → Type 0
-Evaluates register nothing y old new =
-    (behind : List Item) (c : WordState) (base : ℕ) (heap : Heap) (d : Data) (b : Binds) (cells : Storage) →
-    total (new.items ++ behind) < 2 ^ 28 → IsBefore old c →
+-- the code that was appended evaluates the yielder with the data that stand at offsets of the frame, by at most 12
+-- instructions for each yielder in it
+abbrev pub Evaluates : (given : List ℕ) → (register nothing : ℕ) → Yielder → (old new : Listing) → Type 0
+Evaluates given register nothing y old new =
+    (behind : List Item) (c : WordState) (base f : ℕ) (heap : Heap) (d : Data) (b : Binds) (cells : Storage) →
+    total (new.items ++ behind) < 2 ^ 28 → IsBefore old c → Finds base heap given f c d → IsSuited y d b cells →
     Evaluated base heap (code_with new behind) (12 * yielder_count y) register c (end_of new) (label_address new behind nothing) (yields y d b cells)
 
--- ---- with a word of the frame in place of a register
-
--- a frame begins at word f of the region, and the word at an offset of it is inside
-pub record HasFrame (base f offset : ℕ) (c : WordState) : Type 0 where
-  pub aligned : base % 8 ≡ 0
-  pub below : base + 8 * length c.words ≤ 2 ^ 32
-  pub frame : c.registers frame_register ≡ base + 8 * f
-  pub inside : f + offset < length c.words
+-- ---- a word of the frame in place of a register
 
 -- at most so many instructions leave a word at the offset and lead to an address. Registers 0 to 4 and all other words are as
 -- before, and nothing was read or sent
@@ -71,8 +91,24 @@ Left base heap code limit f offset c next nothing None = Comes base code limit 5
 
 -- the code that was appended evaluates the yielder and stores its datum at an offset of the frame, by at most 24 instructions
 -- for each yielder in it
-abbrev pub Stores : (offset nothing : ℕ) → Yielder → (old new : Listing) → Type 0
-Stores offset nothing y old new =
+abbrev pub Stores : (given : List ℕ) → (offset nothing : ℕ) → Yielder → (old new : Listing) → Type 0
+Stores given offset nothing y old new =
     (behind : List Item) (c : WordState) (base f : ℕ) (heap : Heap) (d : Data) (b : Binds) (cells : Storage) →
-    total (new.items ++ behind) < 2 ^ 28 → IsBefore old c → HasFrame base f offset c →
+    total (new.items ++ behind) < 2 ^ 28 → IsBefore old c → Finds base heap given f c d → IsSuited y d b cells → f + offset < length c.words →
     Left base heap (code_with new behind) (24 * yielder_count y) f offset c (end_of new) (label_address new behind nothing) (yields y d b cells)
+
+-- ---- a truth-value that decides where the code goes on
+
+-- the code has gone on where the truth-value is true, and to another address where it is false; where nothing is yielded, to a third one
+abbrev pub Decided : (base : ℕ) → (code : List Inst) → (limit : ℕ) → WordState → (next otherwise nothing : ℕ) → Option Datum → Type 0
+Decided base code limit c next otherwise nothing (Some (Truth true)) = Comes base code limit first_register c next
+Decided base code limit c next otherwise nothing (Some (Truth false)) = Comes base code limit first_register c otherwise
+Decided base code limit c next otherwise nothing (Some _) = ⊥
+Decided base code limit c next otherwise nothing None = Comes base code limit first_register c nothing
+
+-- the code that was appended goes on where the yielder yields `true`, by at most 24 instructions for each yielder in it
+abbrev pub Decides : (given : List ℕ) → (otherwise nothing : ℕ) → Yielder → (old new : Listing) → Type 0
+Decides given otherwise nothing y old new =
+    (behind : List Item) (c : WordState) (base f : ℕ) (heap : Heap) (d : Data) (b : Binds) (cells : Storage) →
+    total (new.items ++ behind) < 2 ^ 28 → IsBefore old c → Finds base heap given f c d → IsSuited y d b cells → IsOfSort sort.Truth (yields y d b cells) →
+    Decided base (code_with new behind) (24 * yielder_count y) c (end_of new) (label_address new behind otherwise) (label_address new behind nothing) (yields y d b cells)

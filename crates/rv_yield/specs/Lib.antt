@@ -1,4 +1,7 @@
 pub mod Registers
+pub mod Holding
+pub mod Fronts
+pub mod Conditions
 pub mod YielderCode
 pub mod Evaluates
 pub mod Tasks

@@ -1,8 +1,8 @@
 -- How many registers a yielder needs, and those that its code uses.
-use Rattle.std.specs.Prelude.{◌≡◌, ℕ, ◌+◌, ◌<◌, min, max, Bool, true, false, ◌&&◌, ◌||◌, nat_eq, List, length, slice_index, FitsSigned, if◌then◌else◌}
+use Rattle.std.specs.Prelude.{◌≡◌, ℕ, ◌+◌, ◌<◌, min, max, Bool, true, false, ◌&&◌, ◌||◌, nat_eq, List, length, slice_index, slice_index_or, FitsSigned, if◌then◌else◌}
 use Rattle.std.specs.Int.{w64}
-use Rattle.action_terms.specs.Actions.{Two, Sum, Difference, Product, Quotient, Remainder, Negation, Yielder, NumberLiteral, OnTwo, OnOne}
-use Rattle.action_terms.specs.Forms.{yielder_at}
+use Rattle.action_terms.specs.Actions.{Two, Sum, Difference, Product, Quotient, Remainder, Negation, Yielder, NumberLiteral, TruthLiteral, Given, GivenAt, OnTwo, OnOne}
+use Rattle.action_terms.specs.Forms.{yielder_at, IsDatum}
 use Rattle.action_terms.specs.Numbering.{ListedYielder}
 
 -- ---- the yielders whose code can be made
@@ -16,12 +16,27 @@ is_arithmetic Quotient = true
 is_arithmetic Remainder = true
 is_arithmetic _ = false
 
--- numbers, and operations on integers
+-- literals, what is given, and operations
 abbrev pub is_built : Yielder → Bool
 is_built (NumberLiteral z) = true
-is_built (OnTwo f y1 y2) = is_arithmetic f && (is_built y1 && is_built y2)
-is_built (OnOne Negation y) = is_built y
+is_built (TruthLiteral t) = true
+is_built (Given s) = true
+is_built (GivenAt s place) = true
+is_built (OnTwo f y1 y2) = is_built y1 && is_built y2
+is_built (OnOne f y) = is_built y
 is_built _ = false
+
+-- of these, numbers, and operations on integers: they yield integers alone
+abbrev pub is_integral : Yielder → Bool
+is_integral (NumberLiteral z) = true
+is_integral (OnTwo f y1 y2) = is_arithmetic f && (is_integral y1 && is_integral y2)
+is_integral (OnOne Negation y) = is_integral y
+is_integral _ = false
+
+-- this is known of the yielders, by their numbers
+pub record AreIntegral (yielders : List ListedYielder) (known : List Bool) : Type 0 where
+  pub size : length known ≡ length yielders
+  pub each : (k : ℕ) → k < length yielders → slice_index_or known k false ≡ is_integral (yielder_at yielders k)
 
 -- ---- how many values stand at once
 
@@ -39,10 +54,10 @@ need_of y = if is_built y then registers_needed y else 0
 abbrev pub both_needed : ℕ → ℕ → ℕ
 both_needed a b = if nat_eq a 0 || nat_eq b 0 then 0 else max (max a b) (min a b + 1)
 
--- this is what the yielders need, by their numbers
+-- this is what the yielders need, by their numbers; of `them` nothing is said
 pub record AreNeeds (yielders : List ListedYielder) (needs : List ℕ) : Type 0 where
   pub size : length needs ≡ length yielders
-  pub each : (k : ℕ) → k < length yielders → slice_index needs k ≡ need_of (yielder_at yielders k)
+  pub each : (k : ℕ) → IsDatum yielders k → slice_index needs k ≡ need_of (yielder_at yielders k)
 
 -- ---- the registers
 

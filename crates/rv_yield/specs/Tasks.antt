@@ -1,38 +1,27 @@
 -- What is still to be emitted of the code of a yielder.
 use Rattle.std.specs.Prelude.{◌≡◌, ◌⊎◌, ℕ, ◌+◌, ◌*◌, ◌≤◌, Bool, true, false, nat_lt, ℤ, Option, Some, None, List, [], ◌∷◌, ◌++◌, IsTrue}
 use Rattle.rv_code.specs.Encode.{has_bits}
-use Rattle.rv_asm.specs.Assembly.{Listing}
 use Rattle.rv_asm.specs.declared.item.Item.{Item}
-use Rattle.action_terms.specs.Actions.{Negation}
-use Rattle.action_terms.specs.Forms.{yielder_at, two_viewed, IsDatum}
+use Rattle.action_terms.specs.Forms.{yielder_at, two_viewed, one_viewed, IsDatum}
 use Rattle.action_terms.specs.declared.view.Two.{Two as TwoView}
 use Rattle.action_terms.specs.Need.{yielder_count}
 use Rattle.action_terms.specs.Numbering.{ListedYielder}
 use Rattle.rv_yield.specs.Registers.{is_built, registers_needed, HasWords, first_register, registers_end, addend, other_addend}
-use Rattle.rv_yield.specs.YielderCode.{value_items, operation_items, addition_items, negation_items, second_constant, first_constant, of_literal, addend_for}
+use Rattle.rv_yield.specs.YielderCode.{value_items, operation_items, addition_items, one_items, second_constant, first_constant, of_literal, addend_for}
 use Rattle.rv_yield.specs.declared.tasks.Task.{Task}
 use Rattle.rv_yield.specs.declared.tasks.Task.TheVariants as task
 
--- a listing with more items behind
-abbrev pub extended : Listing → List Item → Listing
-extended listing items = record listing { items = listing.items ++ items }
-
 -- the items of a task
-abbrev pub task_items : List ListedYielder → (nothing : ℕ) → Task → List Item
-task_items ls nothing (task.Value y to free) = value_items to free nothing (yielder_at ls y)
-task_items ls nothing (task.Operation f to a b) = operation_items (two_viewed f) to a b nothing
-task_items ls nothing (task.Addition to a z) = addition_items to a z nothing
-task_items ls nothing (task.Negation to a) = negation_items Negation to a nothing
+abbrev pub task_items : List ListedYielder → (given : List ℕ) → (nothing : ℕ) → Task → List Item
+task_items ls given nothing (task.Value y to free) = value_items given to free nothing (yielder_at ls y)
+task_items ls given nothing (task.OnTwo f to a b) = operation_items (two_viewed f) to a b nothing
+task_items ls given nothing (task.Addition to a z) = addition_items to a z nothing
+task_items ls given nothing (task.OnOne f to a) = one_items (one_viewed f) to a nothing
 
 -- the items of all tasks, of which the last comes first
-abbrev pub items_of : List ListedYielder → (nothing : ℕ) → List Task → List Item
-items_of ls nothing [] = []
-items_of ls nothing (t ∷ ts) = items_of ls nothing ts ++ task_items ls nothing t
-
--- what was appended and what is still to come are the items of the task and of those that were there
-pub record IsEmitted (ls : List ListedYielder) (nothing : ℕ) (t : Task) (before after : List Task) (old new : Listing) : Type 0 where
-  pub labels : new.labels ≡ old.labels
-  pub items : new.items ++ items_of ls nothing after ≡ old.items ++ (task_items ls nothing t ++ items_of ls nothing before)
+abbrev pub items_of : List ListedYielder → (given : List ℕ) → (nothing : ℕ) → List Task → List Item
+items_of ls given nothing [] = []
+items_of ls given nothing (t ∷ ts) = items_of ls given nothing ts ++ task_items ls given nothing t
 
 -- ---- the tasks of an operation, the last one first
 
@@ -42,8 +31,8 @@ addition_tasks to free z y = task.Addition to (addend_for to) z ∷ task.Value y
 
 -- both operands' values, and then the operation
 abbrev pub both_tasks : TwoView → (first_later : Bool) → (to free y1 y2 : ℕ) → List Task
-both_tasks f true to free y1 y2 = task.Operation f to (free + 1) free ∷ task.Value y1 (free + 1) (free + 1) ∷ task.Value y2 free free ∷ []
-both_tasks f false to free y1 y2 = task.Operation f to free (free + 1) ∷ task.Value y2 (free + 1) (free + 1) ∷ task.Value y1 free free ∷ []
+both_tasks f true to free y1 y2 = task.OnTwo f to (free + 1) free ∷ task.Value y1 (free + 1) (free + 1) ∷ task.Value y2 free free ∷ []
+both_tasks f false to free y1 y2 = task.OnTwo f to free (free + 1) ∷ task.Value y2 (free + 1) (free + 1) ∷ task.Value y1 free free ∷ []
 
 -- a constant is added to one operand, or the operation is done on both
 abbrev pub either_tasks : Option ℤ → Option ℤ → TwoView → (first_later : Bool) → (to free y1 y2 : ℕ) → List Task

@@ -1,19 +1,21 @@
 -- The code of yielders, as items of the assembler. A value goes to a register `to`, by way of the registers from `free` on;
--- where there is none the code goes to the label `nothing`.
-use Rattle.std.specs.Prelude.{ℕ, ◌+◌, ◌*◌, nat_eq, nat_lt, int_lt, if◌then◌else◌, List, [], ◌∷◌, ◌++◌, map, ℤ, pos, neg_ℤ, Option, Some, None}
+-- where there is none the code goes to the label `nothing`. What is given stands at the offsets `given` of the frame.
+use Rattle.std.specs.Prelude.{ℕ, ◌+◌, ◌*◌, Bool, true, false, nat_eq, nat_lt, int_lt, if◌then◌else◌, List, [], ◌∷◌, ◌++◌, map, ℤ, pos, neg_ℤ, Option, Some, None}
 use Rattle.rv_code.specs.Encode.{has_bits}
 use Rattle.rv_code.specs.declared.instruction.Inst.{Inst}
-use Rattle.rv_code.specs.declared.instruction.Inst.TheVariants.{Op, OpImm, Shift, Store}
+use Rattle.rv_code.specs.declared.instruction.Inst.TheVariants.{Op, OpImm, Shift, Load, Store}
+use Rattle.rv_code.specs.declared.instruction.LoadOp.TheVariants.{Ld}
 use Rattle.rv_code.specs.declared.instruction.StoreOp.TheVariants.{Sd}
-use Rattle.rv_code.specs.declared.instruction.OpOp.TheVariants.{Add, Sub, Slt, And, Mul, Mulh, Div, Rem}
-use Rattle.rv_code.specs.declared.instruction.OpImmOp.TheVariants.{Addi, Slti}
+use Rattle.rv_code.specs.declared.instruction.OpOp.TheVariants.{Add, Sub, Slt, And, Or, Mul, Mulh, Div, Rem}
+use Rattle.rv_code.specs.declared.instruction.OpImmOp.TheVariants.{Addi, Slti, Sltiu, Xori}
 use Rattle.rv_code.specs.declared.instruction.ShiftOp.TheVariants.{Srai}
 use Rattle.rv_code.specs.declared.instruction.BranchOp.TheVariants.{Beq, Bne, Blt, Bge}
-use Rattle.rv_asm.specs.Conventions.{integer_word, frame_register}
+use Rattle.rv_asm.specs.Conventions.{integer_word, truth_word, frame_register}
 use Rattle.rv_asm.specs.Pieces.{load_constant}
 use Rattle.rv_asm.specs.declared.item.Item.{Item}
-use Rattle.rv_asm.specs.declared.item.Item.TheVariants.{Plain, BranchTo}
-use Rattle.action_terms.specs.Actions.{Two, Sum, Difference, Product, Quotient, Remainder, One, Negation, Yielder, NumberLiteral, OnTwo, OnOne}
+use Rattle.rv_asm.specs.declared.item.Item.TheVariants.{Plain, Jump, BranchTo}
+use Rattle.action_terms.specs.Actions.{Two, Sum, Difference, Product, Quotient, Remainder, Is, Less, BothOf, EitherOf, One, Negation, Not, Yielder, NumberLiteral, TruthLiteral, Given, GivenAt, OnTwo, OnOne}
+use Rattle.rv_yield.specs.Holding.{only_offset, nth_offset}
 use Rattle.rv_yield.specs.Registers.{registers_needed, first_register, addend, other_addend, check, other_check}
 
 -- ---- operations on the values of registers
@@ -74,12 +76,15 @@ operation_items Difference to a b nothing = difference_items to a b nothing
 operation_items Product to a b nothing = product_items to a b nothing
 operation_items Quotient to a b nothing = quotient_items to a b nothing
 operation_items Remainder to a b nothing = remainder_items to a b nothing
-operation_items _ to a b nothing = []
+operation_items Is to a b nothing = Plain (Op Sub to a b) ∷ Plain (OpImm Sltiu to to (pos 1)) ∷ []
+operation_items Less to a b nothing = Plain (Op Slt to a b) ∷ []
+operation_items BothOf to a b nothing = Plain (Op And to a b) ∷ []
+operation_items EitherOf to a b nothing = Plain (Op Or to a b) ∷ []
 
--- a negation is a difference from 0
-abbrev pub negation_items : One → (to a nothing : ℕ) → List Item
-negation_items Negation to a nothing = difference_items to 0 a nothing
-negation_items _ to a nothing = []
+-- an operation on one value: a negation is a difference from 0
+abbrev pub one_items : One → (to a nothing : ℕ) → List Item
+one_items Negation to a nothing = difference_items to 0 a nothing
+one_items Not to a nothing = Plain (OpImm Xori to a (pos 1)) ∷ []
 
 -- ---- constants of 12 bits
 
@@ -107,6 +112,25 @@ of_literal f _ = None
 abbrev pub addend_for : (to : ℕ) → ℕ
 addend_for to = if nat_eq to addend then other_addend else addend
 
+-- ---- words of the frame
+
+-- the word at an offset, in words, of the frame goes to a register
+abbrev pub load_items : (to offset : ℕ) → List Inst
+load_items to offset =
+    if nat_lt offset 256 then Load Ld to frame_register (pos (8 * offset)) ∷ []
+    else load_constant to (8 * offset) ++ (Op Add to to frame_register ∷ Load Ld to to (pos 0) ∷ [])
+
+-- the word at an offset, where there is one
+abbrev pub placed_items : Option ℕ → (to nothing : ℕ) → List Item
+placed_items (Some offset) to nothing = map Plain (load_items to offset)
+placed_items None to nothing = Jump nothing ∷ []
+
+-- the word in register 10 is stored at an offset, in words, of the frame
+abbrev pub store_items : (offset : ℕ) → List Inst
+store_items offset =
+    if nat_lt offset 256 then Store Sd frame_register first_register (pos (8 * offset)) ∷ []
+    else load_constant 11 (8 * offset) ++ (Op Add 11 11 frame_register ∷ Store Sd 11 first_register (pos 0) ∷ [])
+
 -- ---- yielders
 
 -- one operand is computed, and a constant is added
@@ -119,27 +143,29 @@ either_adding (Some z) _ to nothing first second both = adding to z nothing firs
 either_adding None (Some z) to nothing first second both = adding to z nothing second
 either_adding None None to nothing first second both = both
 
+-- two operands' values, each in a register from `free` on, and what follows, by the registers of the first and of the second
+abbrev pub in_order :
+    (second_first : Bool) → (free : ℕ) → (first first_behind second second_behind : List Item) → (last : ℕ → ℕ → List Item) → List Item
+in_order true free first first_behind second second_behind last = second ++ (first_behind ++ last (free + 1) free)
+in_order false free first first_behind second second_behind last = first ++ (second_behind ++ last free (free + 1))
+
 -- the code that leaves a yielder's value in the register `to`
-abbrev pub value_items : (to free nothing : ℕ) → Yielder → List Item
-value_items to free nothing (NumberLiteral z) = map Plain (load_constant to (integer_word z))
-value_items to free nothing (OnTwo f y1 y2) =
+abbrev pub value_items : (given : List ℕ) → (to free nothing : ℕ) → Yielder → List Item
+value_items given to free nothing (NumberLiteral z) = map Plain (load_constant to (integer_word z))
+value_items given to free nothing (TruthLiteral t) = map Plain (load_constant to (truth_word t))
+value_items given to free nothing (Given s) = placed_items (only_offset given) to nothing
+value_items given to free nothing (GivenAt s place) = placed_items (nth_offset given place) to nothing
+value_items given to free nothing (OnTwo f y1 y2) =
     either_adding (of_literal (second_constant f) y2) (of_literal (first_constant f) y1) to nothing
-    (value_items (addend_for to) free nothing y1)
-    (value_items (addend_for to) free nothing y2)
-    (if nat_lt (registers_needed y1) (registers_needed y2)
-    then value_items free free nothing y2 ++ (value_items (free + 1) (free + 1) nothing y1 ++ operation_items f to (free + 1) free nothing)
-    else value_items free free nothing y1 ++ (value_items (free + 1) (free + 1) nothing y2 ++ operation_items f to free (free + 1) nothing))
-value_items to free nothing (OnOne f y) = value_items free free nothing y ++ negation_items f to free nothing
-value_items to free nothing _ = []
-
--- ---- a word of the frame
-
--- the word in register 10 is stored at an offset, in words, of the frame
-abbrev pub store_items : (offset : ℕ) → List Inst
-store_items offset =
-    if nat_lt offset 256 then Store Sd frame_register first_register (pos (8 * offset)) ∷ []
-    else load_constant 11 (8 * offset) ++ (Op Add 11 11 frame_register ∷ Store Sd 11 first_register (pos 0) ∷ [])
+    (value_items given (addend_for to) free nothing y1)
+    (value_items given (addend_for to) free nothing y2)
+    (in_order (nat_lt (registers_needed y1) (registers_needed y2)) free
+    (value_items given free free nothing y1) (value_items given (free + 1) (free + 1) nothing y1)
+    (value_items given free free nothing y2) (value_items given (free + 1) (free + 1) nothing y2)
+    (λ a b. operation_items f to a b nothing))
+value_items given to free nothing (OnOne f y) = value_items given free free nothing y ++ one_items f to free nothing
+value_items given to free nothing _ = []
 
 -- the code that leaves the yielder's value at an offset of the frame
-abbrev pub stored_items : (offset nothing : ℕ) → Yielder → List Item
-stored_items offset nothing y = value_items first_register first_register nothing y ++ map Plain (store_items offset)
+abbrev pub stored_items : (given : List ℕ) → (offset nothing : ℕ) → Yielder → List Item
+stored_items given offset nothing y = value_items given first_register first_register nothing y ++ map Plain (store_items offset)

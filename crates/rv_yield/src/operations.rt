@@ -1,15 +1,16 @@
-//! The code of operations on integers in registers. It goes to a label where there is no result.
+//! The code of operations on values in registers. It goes to a label where there is no result.
 
-ghost use Rattle.std.specs.Prelude.{◌≡◌, ◌<◌, ◌∷◌, [], IsTrue, OnOk, pos};
+ghost use Rattle.std.specs.Prelude.{◌≡◌, ◌<◌, ◌∷◌, [], IsTrue, OnOk, OnErr, pos};
 ghost use Rattle.rv_code.specs.Encode.{has_bits};
 ghost use Rattle.rv_asm.specs.declared.item.Item.TheVariants.{BranchTo};
-ghost use Rattle.action_terms.specs.Actions.{Negation};
-ghost use Rattle.action_terms.specs.Forms.{two_viewed};
-ghost use Rattle.rv_yield.specs.YielderCode.{sum_items, difference_items, product_items, quotient_items, remainder_items, addition_items, operation_items, negation_items};
-ghost use Rattle.rv_yield.specs.Tasks.{extended};
+ghost use Rattle.action_terms.specs.Actions.{Is};
+ghost use Rattle.action_terms.specs.Forms.{two_viewed, one_viewed};
+ghost use Rattle.rv_yield.specs.Fronts.{extended, AppendsFrontOf};
+ghost use Rattle.rv_yield.specs.YielderCode.{sum_items, difference_items, product_items, quotient_items, remainder_items, addition_items, operation_items, one_items};
 
+use crate::emitting::append_all;
 use acg_base::Memory;
-use action_terms::Two;
+use action_terms::{One, Two};
 use rv_asm::{Asm, Label};
 use rv_code::{BranchOp, Inst, OpImmOp, OpOp, Reg, ShiftOp};
 
@@ -26,60 +27,80 @@ fn on_registers(op: OpOp, rd: Reg, rs1: Reg, rs2: Reg) -> Inst
     Inst::Op { op, rd, rs1, rs2 }
 }
 
+fn on_immediate(op: OpImmOp, rd: Reg, rs1: Reg, imm: i32) -> Inst
+    ensures { result ≡ Inst.OpImm op rd rs1 imm }
+{
+    Inst::OpImm { op, rd, rs1, imm }
+}
+
 /// Whether a register holds a negative integer.
 fn is_negative(rd: Reg, rs1: Reg) -> Inst
     ensures { result ≡ Inst.OpImm OpImmOp.Slti rd rs1 (pos 0) }
 {
-    Inst::OpImm {
-        op: OpImmOp::Slti,
-        rd,
-        rs1,
-        imm: 0,
-    }
+    on_immediate(OpImmOp::Slti, rd, rs1, 0)
 }
 
 /// Appends a sum. It doesn't go to the register of its second part.
 fn append_sum(asm: &mut Asm, to: Reg, a: Reg, b: Reg, nothing: Label) -> Result<(), Memory>
     requires { nothing < asm.old.labels }
-    ensures { OnOk result (asm.new ≡ extended asm.old (sum_items to a b nothing)) }
+    ensures ok { OnOk result (asm.new ≡ extended asm.old (sum_items to a b nothing)) }
+    ensures err { OnErr result (AppendsFrontOf (sum_items to a b nothing) asm.old asm.new) }
 {
-    asm.emit(is_negative(OTHER_CHECK, a))?;
-    asm.emit(on_registers(OpOp::Add, to, a, b))?;
-    asm.emit(on_registers(OpOp::Slt, CHECK, to, b))?;
+    append_all(
+        asm,
+        &[
+            is_negative(OTHER_CHECK, a),
+            on_registers(OpOp::Add, to, a, b),
+            on_registers(OpOp::Slt, CHECK, to, b),
+        ],
+    )?;
     asm.branch(BranchOp::Bne, OTHER_CHECK, CHECK, nothing)
 }
 
 /// Appends a difference.
 fn append_difference(asm: &mut Asm, to: Reg, a: Reg, b: Reg, nothing: Label) -> Result<(), Memory>
     requires { nothing < asm.old.labels }
-    ensures { OnOk result (asm.new ≡ extended asm.old (difference_items to a b nothing)) }
+    ensures ok { OnOk result (asm.new ≡ extended asm.old (difference_items to a b nothing)) }
+    ensures err { OnErr result (AppendsFrontOf (difference_items to a b nothing) asm.old asm.new) }
 {
-    asm.emit(on_registers(OpOp::Slt, OTHER_CHECK, a, b))?;
-    asm.emit(on_registers(OpOp::Sub, to, a, b))?;
-    asm.emit(is_negative(CHECK, to))?;
+    append_all(
+        asm,
+        &[
+            on_registers(OpOp::Slt, OTHER_CHECK, a, b),
+            on_registers(OpOp::Sub, to, a, b),
+            is_negative(CHECK, to),
+        ],
+    )?;
     asm.branch(BranchOp::Bne, OTHER_CHECK, CHECK, nothing)
 }
 
 /// Appends a product.
 fn append_product(asm: &mut Asm, to: Reg, a: Reg, b: Reg, nothing: Label) -> Result<(), Memory>
     requires { nothing < asm.old.labels }
-    ensures { OnOk result (asm.new ≡ extended asm.old (product_items to a b nothing)) }
+    ensures ok { OnOk result (asm.new ≡ extended asm.old (product_items to a b nothing)) }
+    ensures err { OnErr result (AppendsFrontOf (product_items to a b nothing) asm.old asm.new) }
 {
-    asm.emit(on_registers(OpOp::Mulh, CHECK, a, b))?;
-    asm.emit(on_registers(OpOp::Mul, to, a, b))?;
-    asm.emit(Inst::Shift {
-        op: ShiftOp::Srai,
-        rd: OTHER_CHECK,
-        rs1: to,
-        amount: 63,
-    })?;
+    append_all(
+        asm,
+        &[
+            on_registers(OpOp::Mulh, CHECK, a, b),
+            on_registers(OpOp::Mul, to, a, b),
+            Inst::Shift {
+                op: ShiftOp::Srai,
+                rd: OTHER_CHECK,
+                rs1: to,
+                amount: 63,
+            },
+        ],
+    )?;
     asm.branch(BranchOp::Bne, OTHER_CHECK, CHECK, nothing)
 }
 
 /// Appends the way to a label for where a divisor is 0.
 fn append_divisor_test(asm: &mut Asm, b: Reg, nothing: Label) -> Result<(), Memory>
     requires { nothing < asm.old.labels }
-    ensures { OnOk result (asm.new ≡ extended asm.old (BranchTo BranchOp.Beq b 0 nothing ∷ [])) }
+    ensures ok { OnOk result (asm.new ≡ extended asm.old (BranchTo BranchOp.Beq b 0 nothing ∷ [])) }
+    ensures err { OnErr result (asm.new ≡ asm.old) }
 {
     asm.branch(BranchOp::Beq, b, ZERO, nothing)
 }
@@ -87,28 +108,50 @@ fn append_divisor_test(asm: &mut Asm, b: Reg, nothing: Label) -> Result<(), Memo
 /// Appends a quotient, cut toward 0.
 fn append_quotient(asm: &mut Asm, to: Reg, a: Reg, b: Reg, nothing: Label) -> Result<(), Memory>
     requires { nothing < asm.old.labels }
-    ensures { OnOk result (asm.new ≡ extended asm.old (quotient_items to a b nothing)) }
+    ensures ok { OnOk result (asm.new ≡ extended asm.old (quotient_items to a b nothing)) }
+    ensures err { OnErr result (AppendsFrontOf (quotient_items to a b nothing) asm.old asm.new) }
 {
     append_divisor_test(asm, b, nothing)?;
-    asm.emit(is_negative(CHECK, a))?;
-    asm.emit(is_negative(OTHER_CHECK, b))?;
-    asm.emit(on_registers(OpOp::And, CHECK, CHECK, OTHER_CHECK))?;
-    asm.emit(on_registers(OpOp::Div, to, a, b))?;
-    asm.emit(is_negative(OTHER_CHECK, to))?;
-    asm.emit(on_registers(OpOp::And, CHECK, CHECK, OTHER_CHECK))?;
+    append_all(
+        asm,
+        &[
+            is_negative(CHECK, a),
+            is_negative(OTHER_CHECK, b),
+            on_registers(OpOp::And, CHECK, CHECK, OTHER_CHECK),
+            on_registers(OpOp::Div, to, a, b),
+            is_negative(OTHER_CHECK, to),
+            on_registers(OpOp::And, CHECK, CHECK, OTHER_CHECK),
+        ],
+    )?;
     asm.branch(BranchOp::Bne, CHECK, ZERO, nothing)
 }
 
 /// Appends a remainder, with the sign of the dividend.
 fn append_remainder(asm: &mut Asm, to: Reg, a: Reg, b: Reg, nothing: Label) -> Result<(), Memory>
     requires { nothing < asm.old.labels }
-    ensures { OnOk result (asm.new ≡ extended asm.old (remainder_items to a b nothing)) }
+    ensures ok { OnOk result (asm.new ≡ extended asm.old (remainder_items to a b nothing)) }
+    ensures err { OnErr result (AppendsFrontOf (remainder_items to a b nothing) asm.old asm.new) }
 {
     append_divisor_test(asm, b, nothing)?;
     asm.emit(on_registers(OpOp::Rem, to, a, b))
 }
 
-/// Appends an operation on the integers in two registers.
+/// Appends a comparison of two words: whether they are the same.
+fn append_sameness(asm: &mut Asm, to: Reg, a: Reg, b: Reg, nothing: Label) -> Result<(), Memory>
+    ensures ok { OnOk result (asm.new ≡ extended asm.old (operation_items Is to a b nothing)) }
+    ensures err { OnErr result
+        (AppendsFrontOf (operation_items Is to a b nothing) asm.old asm.new) }
+{
+    append_all(
+        asm,
+        &[
+            on_registers(OpOp::Sub, to, a, b),
+            on_immediate(OpImmOp::Sltiu, to, to, 1),
+        ],
+    )
+}
+
+/// Appends an operation on the values in two registers.
 pub(crate) fn append_operation(
     asm: &mut Asm,
     operation: Two,
@@ -118,8 +161,10 @@ pub(crate) fn append_operation(
     nothing: Label,
 ) -> Result<(), Memory>
     requires { nothing < asm.old.labels }
-    ensures { OnOk result (asm.new ≡ extended asm.old (operation_items (two_viewed operation)
+    ensures ok { OnOk result (asm.new ≡ extended asm.old (operation_items (two_viewed operation)
         to a b nothing)) }
+    ensures err { OnErr result (AppendsFrontOf (operation_items (two_viewed operation)
+        to a b nothing) asm.old asm.new) }
 {
     match operation {
         Two::Sum if a.0 < b.0 => append_sum(asm, to, a, b, nothing),
@@ -128,16 +173,31 @@ pub(crate) fn append_operation(
         Two::Product => append_product(asm, to, a, b, nothing),
         Two::Quotient => append_quotient(asm, to, a, b, nothing),
         Two::Remainder => append_remainder(asm, to, a, b, nothing),
-        _ => Ok(()),
+        Two::Is => append_sameness(asm, to, a, b, nothing),
+        Two::Less => asm.emit(on_registers(OpOp::Slt, to, a, b)),
+        Two::BothOf => asm.emit(on_registers(OpOp::And, to, a, b)),
+        Two::EitherOf => asm.emit(on_registers(OpOp::Or, to, a, b)),
     }
 }
 
-/// Appends a negation.
-pub(crate) fn append_negation(asm: &mut Asm, to: Reg, a: Reg, nothing: Label) -> Result<(), Memory>
+/// Appends an operation on the value in a register.
+pub(crate) fn append_one(
+    asm: &mut Asm,
+    operation: One,
+    to: Reg,
+    a: Reg,
+    nothing: Label,
+) -> Result<(), Memory>
     requires { nothing < asm.old.labels }
-    ensures { OnOk result (asm.new ≡ extended asm.old (negation_items Negation to a nothing)) }
+    ensures ok { OnOk result
+        (asm.new ≡ extended asm.old (one_items (one_viewed operation) to a nothing)) }
+    ensures err { OnErr result
+        (AppendsFrontOf (one_items (one_viewed operation) to a nothing) asm.old asm.new) }
 {
-    append_difference(asm, to, ZERO, a, nothing)
+    match operation {
+        One::Negation => append_difference(asm, to, ZERO, a, nothing),
+        One::Not => asm.emit(on_immediate(OpImmOp::Xori, to, a, 1)),
+    }
 }
 
 /// Appends a sum with a constant of 12 bits. It doesn't go to the register of its other part.
@@ -150,14 +210,11 @@ pub(crate) fn append_addition(
 ) -> Result<(), Memory>
     requires label { nothing < asm.old.labels }
     requires small { IsTrue (has_bits 12 constant) }
-    ensures { OnOk result (asm.new ≡ extended asm.old (addition_items to a constant nothing)) }
+    ensures ok { OnOk result (asm.new ≡ extended asm.old (addition_items to a constant nothing)) }
+    ensures err { OnErr result
+        (AppendsFrontOf (addition_items to a constant nothing) asm.old asm.new) }
 {
-    asm.emit(Inst::OpImm {
-        op: OpImmOp::Addi,
-        rd: to,
-        rs1: a,
-        imm: constant,
-    })?;
+    asm.emit(on_immediate(OpImmOp::Addi, to, a, constant))?;
     if constant < 0 {
         asm.branch(BranchOp::Bge, to, a, nothing)
     } else {

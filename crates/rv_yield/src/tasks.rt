@@ -3,15 +3,19 @@
 
 ghost use Rattle.std.specs.Prelude.{◌≡◌, ℕ, ◌≢◌, ◌<◌, ◌≤◌, ◌+◌, ◌++◌, ◌∷◌, [], All, OnOk, IfSome, IfNone, IfOk, OnErr, IsTrue, None, true, length, slice_index};
 ghost use Rattle.action_terms.specs.Forms.{yielder_at, two_viewed, IsDatum};
-ghost use Rattle.rv_yield.specs.Registers.{AreNeeds, registers_needed, is_built, addend, other_addend};
+ghost use Rattle.rv_yield.specs.Fronts.{IsAppended, AppendsFrontOf};
+ghost use Rattle.rv_yield.specs.Holding.{only_offset, nth_offset};
+ghost use Rattle.rv_yield.specs.Registers.{registers_needed, is_built, addend, other_addend};
 ghost use Rattle.rv_yield.specs.YielderCode.{of_literal, second_constant, first_constant, small, addend_for};
-ghost use Rattle.rv_yield.specs.Tasks.{extended, task_items, items_of, IsReady, IsEmitted, addition_tasks, both_tasks, operand_tasks, HasTaskWords, HaveWords, task_turns, turns};
+ghost use Rattle.rv_yield.specs.Tasks.{task_items, items_of, IsReady, addition_tasks, both_tasks, operand_tasks, HasTaskWords, HaveWords, task_turns, turns};
 
-use crate::operations::{append_addition, append_negation, append_operation};
+use crate::operations::{append_addition, append_one, append_operation};
+use crate::source::Source;
+use crate::words::append_placed;
 use acg_base::Memory;
 use action_terms::{Graph, One, Two, YielderView};
+use rv_asm::Asm;
 use rv_asm::pieces::load_constant;
-use rv_asm::{Asm, Label};
 use rv_code::Reg;
 
 /// Code that is still to be emitted.
@@ -20,11 +24,11 @@ pub(crate) enum Task {
     /// The value of a yielder goes to a register, by way of those from another one on.
     Value(u32, Reg, Reg),
     /// An operation on the values of two registers goes to another.
-    Operation(Two, Reg, Reg, Reg),
+    OnTwo(Two, Reg, Reg, Reg),
     /// A sum with a constant of 12 bits goes to a register, from another.
     Addition(Reg, Reg, i32),
-    /// A negation goes to a register, from another.
-    Negation(Reg, Reg),
+    /// An operation on the value of a register goes to another.
+    OnOne(One, Reg, Reg),
 }
 
 /// An integer, where it is one of 12 bits.
@@ -96,11 +100,11 @@ fn push_both(
     let (first, second) = operands;
     let next = Reg(free.0 + 1);
     if first_later {
-        tasks.push(Task::Operation(operation, to, next, free))?;
+        tasks.push(Task::OnTwo(operation, to, next, free))?;
         tasks.push(Task::Value(first, next, next))?;
         tasks.push(Task::Value(second, free, free))?;
     } else {
-        tasks.push(Task::Operation(operation, to, free, next))?;
+        tasks.push(Task::OnTwo(operation, to, free, next))?;
         tasks.push(Task::Value(second, next, next))?;
         tasks.push(Task::Value(first, free, free))?;
     }
@@ -110,65 +114,100 @@ fn push_both(
 /// Has an operation done whose value goes to a register.
 fn push_operands(
     tasks: &mut Vec<Task>,
-    graph: &Graph<'_>,
-    needs: &[usize],
+    source: &Source<'_>,
     operation: Two,
     to: Reg,
     free: Reg,
     operands: (u32, u32),
 ) -> Result<(), Memory>
-    requires needs { AreNeeds graph.now.yielders needs.now }
-    requires first { operands.0 < length graph.now.yielders }
-    requires second { operands.1 < length graph.now.yielders }
-    requires built { (is_built (yielder_at graph.now.yielders operands.0) ≡ true) × (is_built
-        (yielder_at graph.now.yielders operands.1) ≡ true) }
+    requires first { IsDatum source.now.graph.now.yielders operands.0 }
+    requires second { IsDatum source.now.graph.now.yielders operands.1 }
+    requires built { (is_built (yielder_at source.now.graph.now.yielders operands.0) ≡ true)
+        × (is_built (yielder_at source.now.graph.now.yielders operands.1) ≡ true) }
     requires free { free < 31 }
     ensures { OnOk result (tasks.new.items ≡ tasks.old.items ++ operand_tasks
-        graph.now.yielders operation to free operands.0 operands.1) }
+        source.now.graph.now.yielders operation to free operands.0 operands.1) }
 {
     let (first, second) = operands;
-    if let Some(constant) = second_constant(graph, operation, second) {
+    if let Some(constant) = second_constant(source.graph, operation, second) {
         return push_addition(tasks, to, free, constant, first);
     }
-    if let Some(constant) = first_constant(graph, operation, first) {
+    if let Some(constant) = first_constant(source.graph, operation, first) {
         return push_addition(tasks, to, free, constant, second);
     }
-    let first_later = needs[first as usize] < needs[second as usize];
+    let first_later = source.needs[first as usize] < source.needs[second as usize];
     push_both(tasks, operation, first_later, to, free, operands)
+}
+
+/// The offset of the only datum that is given.
+fn only_offset(given: &[u32]) -> Option<u32>
+    ensures { result ≡ only_offset given.now }
+{
+    match given {
+        [offset] => Some(*offset),
+        _ => None,
+    }
+}
+
+/// The offset of the datum of a place, from 1.
+fn nth_offset(given: &[u32], place: u32) -> Option<u32>
+    ensures { result ≡ nth_offset given.now place }
+{
+    if place == 0 {
+        return None;
+    }
+    given.get(place as usize - 1).copied()
 }
 
 /// Has the value of a yielder in a register, or puts off what it takes.
 fn append_value(
     asm: &mut Asm,
     tasks: &mut Vec<Task>,
-    graph: &Graph<'_>,
-    needs: &[usize],
+    source: &Source<'_>,
     yielder: u32,
     to: Reg,
     free: Reg,
 ) -> Result<(), Memory>
-    requires needs { AreNeeds graph.now.yielders needs.now }
-    requires ready { IsReady graph.now.yielders (Task.Value yielder to free) }
-    requires rest { All (IsReady graph.now.yielders) tasks.old.items }
-    ensures items { OnOk result ((nothing : ℕ) → IsEmitted graph.now.yielders nothing
-        (Task.Value yielder to free) tasks.old.items tasks.new.items asm.old asm.new) }
-    ensures ready { OnOk result (All (IsReady graph.now.yielders) tasks.new.items) }
-    ensures words { OnOk result (HaveWords graph.now.yielders tasks.new.items → HaveWords
-        graph.now.yielders tasks.old.items × HasTaskWords graph.now.yielders (Task.Value
-        yielder to free)) }
-    ensures turns { OnOk result (turns graph.now.yielders tasks.new.items < turns
-        graph.now.yielders tasks.old.items + task_turns graph.now.yielders (Task.Value yielder
-        to free)) }
+    requires label { source.now.nothing < asm.old.labels }
+    requires ready { IsReady source.now.graph.now.yielders (Task.Value yielder to free) }
+    requires rest { All (IsReady source.now.graph.now.yielders) tasks.old.items }
+    ensures items { OnOk result (IsAppended
+        (task_items source.now.graph.now.yielders source.now.given.now source.now.nothing
+        (Task.Value yielder to free) ++ items_of source.now.graph.now.yielders
+        source.now.given.now source.now.nothing tasks.old.items)
+        (items_of source.now.graph.now.yielders source.now.given.now source.now.nothing
+        tasks.new.items) asm.old asm.new) }
+    ensures err { OnErr result (AppendsFrontOf (task_items source.now.graph.now.yielders
+        source.now.given.now source.now.nothing (Task.Value yielder to free))
+        asm.old asm.new) }
+    ensures ready { OnOk result
+        (All (IsReady source.now.graph.now.yielders) tasks.new.items) }
+    ensures words { OnOk result (HaveWords source.now.graph.now.yielders tasks.new.items
+        → HaveWords source.now.graph.now.yielders tasks.old.items
+        × HasTaskWords source.now.graph.now.yielders (Task.Value yielder to free)) }
+    ensures turns { OnOk result (turns source.now.graph.now.yielders tasks.new.items
+        < turns source.now.graph.now.yielders tasks.old.items
+        + task_turns source.now.graph.now.yielders (Task.Value yielder to free)) }
 {
-    match graph.yielder_view(yielder as usize) {
+    match source.graph.yielder_view(yielder as usize) {
         YielderView::Number(value) => load_constant(asm, to, value.cast_unsigned()),
+        YielderView::Truth(value) => load_constant(asm, to, u64::from(value)),
+        YielderView::Given { .. } => {
+            append_placed(asm, only_offset(source.given), to, source.nothing)
+        }
+        YielderView::GivenAt { place, .. } => {
+            append_placed(asm, nth_offset(source.given, place), to, source.nothing)
+        }
         YielderView::OnTwo {
             operation,
             first,
             second,
-        } => push_operands(tasks, graph, needs, operation, to, free, (first, second)),
-        YielderView::OnOne { argument, .. } => {
-            tasks.push(Task::Negation(to, free))?;
+        } => push_operands(tasks, source, operation, to, free, (first, second)),
+        YielderView::OnOne {
+            operation,
+            argument,
+        } => {
+            tasks.push(Task::OnOne(operation, to, free))?;
             tasks.push(Task::Value(argument, free, free))?;
             Ok(())
         }
@@ -180,27 +219,33 @@ fn append_value(
 pub(crate) fn append_task(
     asm: &mut Asm,
     tasks: &mut Vec<Task>,
-    graph: &Graph<'_>,
-    needs: &[usize],
+    source: &Source<'_>,
     task: Task,
-    nothing: Label,
 ) -> Result<(), Memory>
-    requires needs { AreNeeds graph.now.yielders needs.now }
-    requires label { nothing < asm.old.labels }
-    requires ready { IsReady graph.now.yielders task }
-    requires rest { All (IsReady graph.now.yielders) tasks.old.items }
-    ensures items { OnOk result (IsEmitted graph.now.yielders nothing task tasks.old.items
-        tasks.new.items asm.old asm.new) }
-    ensures ready { OnOk result (All (IsReady graph.now.yielders) tasks.new.items) }
-    ensures words { OnOk result (HaveWords graph.now.yielders tasks.new.items → HaveWords
-        graph.now.yielders tasks.old.items × HasTaskWords graph.now.yielders task) }
-    ensures turns { OnOk result (turns graph.now.yielders tasks.new.items < turns
-        graph.now.yielders tasks.old.items + task_turns graph.now.yielders task) }
+    requires label { source.now.nothing < asm.old.labels }
+    requires ready { IsReady source.now.graph.now.yielders task }
+    requires rest { All (IsReady source.now.graph.now.yielders) tasks.old.items }
+    ensures items { OnOk result (IsAppended
+        (task_items source.now.graph.now.yielders source.now.given.now source.now.nothing task
+        ++ items_of source.now.graph.now.yielders source.now.given.now source.now.nothing
+        tasks.old.items) (items_of source.now.graph.now.yielders source.now.given.now
+        source.now.nothing tasks.new.items) asm.old asm.new) }
+    ensures err { OnErr result (AppendsFrontOf (task_items source.now.graph.now.yielders
+        source.now.given.now source.now.nothing task) asm.old asm.new) }
+    ensures ready { OnOk result
+        (All (IsReady source.now.graph.now.yielders) tasks.new.items) }
+    ensures words { OnOk result (HaveWords source.now.graph.now.yielders tasks.new.items
+        → HaveWords source.now.graph.now.yielders tasks.old.items
+        × HasTaskWords source.now.graph.now.yielders task) }
+    ensures turns { OnOk result (turns source.now.graph.now.yielders tasks.new.items
+        < turns source.now.graph.now.yielders tasks.old.items
+        + task_turns source.now.graph.now.yielders task) }
 {
+    let nothing = source.nothing;
     match task {
-        Task::Value(yielder, to, free) => append_value(asm, tasks, graph, needs, yielder, to, free),
-        Task::Operation(operation, to, a, b) => append_operation(asm, operation, to, a, b, nothing),
+        Task::Value(yielder, to, free) => append_value(asm, tasks, source, yielder, to, free),
+        Task::OnTwo(operation, to, a, b) => append_operation(asm, operation, to, a, b, nothing),
         Task::Addition(to, a, constant) => append_addition(asm, to, a, constant, nothing),
-        Task::Negation(to, a) => append_negation(asm, to, a, nothing),
+        Task::OnOne(operation, to, a) => append_one(asm, operation, to, a, nothing),
     }
 }

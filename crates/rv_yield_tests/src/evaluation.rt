@@ -93,10 +93,12 @@ fn assembled(
     append_failure(&mut asm, start, nothing)?;
     append_start(&mut asm)?;
     let slots = Slots {
+        given: &[],
+        bound: &[],
         target: offset,
         nothing,
     };
-    yield_code(alloc, &mut asm, graph, needs, yielder, slots)?;
+    yield_code(alloc, &mut asm, graph, needs, yielder, &slots)?;
     append_end(&mut asm, REGION + 8 * u64::from(offset))?;
     asm.finish()
 }

@@ -8,4 +8,4 @@ pub returns-in-0-clause-unbuilt : goal.returns-in-0-clause-unbuilt
 returns-in-0-clause-unbuilt c =
     let y = yielder_at c.args.graph.now.yielders c.args.yielder in
     let zero : slice_index c.args.needs.now c.args.yielder ≡ 0 = search rules in
-    need-none y (sym (c.requires.needs.each c.args.yielder c.requires.within) ∙ zero)
+    need-none y (sym (c.requires.needs.each c.args.yielder c.requires.datum) ∙ zero)
