@@ -1,0 +1,25 @@
+use Rattle.std.proofs.Common.{map, arith}
+use Rattle.meta_terms.specs.PlainItems.{plain_item}
+use Rattle.meta_check.proofs.RulesBelow.{found_broken, none_broken, numbered_finds}
+use Rattle.meta_check.proofs.breaches.first_of_equations.Goals as goal
+
+pub returns-in-Some-2 : goal.returns-in-Some-2
+returns-in-Some-2 c =
+    let all = map plain_item c.args.items.now in
+    let below5 = none_broken all 5 c.in_ok-item.field-0 c.requires c.in_ok-item.ensures c.in_default.not-Some in
+    found_broken all 6 c.in-Some-2.item c.in_ok-item-2.field-0 (omega arith) below5 c.in_ok-item-2.ensures c.in-Some-2.is
+
+pub returns-in-Some-3 : goal.returns-in-Some-3
+returns-in-Some-3 c =
+    let all = map plain_item c.args.items.now in
+    let below5 = none_broken all 5 c.in_ok-item.field-0 c.requires c.in_ok-item.ensures c.in_default.not-Some in
+    let below6 = none_broken all 6 c.in_ok-item-2.field-0 below5 c.in_ok-item-2.ensures c.in_default-2.not-Some in
+    found_broken all 7 c.in-Some-3.item c.in_ok-item-3.field-0 (omega arith) below6 c.in_ok-item-3.ensures c.in-Some-3.is
+
+pub returns : goal.returns
+returns c =
+    let all = map plain_item c.args.items.now in
+    let below5 = none_broken all 5 c.in_ok-item.field-0 c.requires c.in_ok-item.ensures c.in_default.not-Some in
+    let below6 = none_broken all 6 c.in_ok-item-2.field-0 below5 c.in_ok-item-2.ensures c.in_default-2.not-Some in
+    let below7 = none_broken all 7 c.in_ok-item-3.field-0 below6 c.in_ok-item-3.ensures c.in_default-3.not-Some in
+    numbered_finds all 8 c.in_ok-misused_part.field-0 c.numbered.result (omega arith) below7 c.in_ok-misused_part.ensures c.numbered.ensures

@@ -1,0 +1,7 @@
+use Rattle.std.proofs.Common.{◌≡◌, [], map, take}
+use Rattle.meta_terms.specs.PlainItems.{plain_item}
+use Rattle.meta_check.specs.Views.{nonterminals_of}
+use Rattle.meta_check.proofs.names.start.Given as goal
+
+abbrev pub invariant-loop-item : goal.invariant-loop-item
+invariant-loop-item l = nonterminals_of (take l.item-index (map plain_item l.items)) ≡ []

@@ -1,0 +1,4 @@
+pub mod Views
+pub mod Rules
+pub mod Tables
+pub mod MetaErrors

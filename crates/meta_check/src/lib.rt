@@ -1,0 +1,14 @@
+//! Descriptions checked: whether their items meet the rules between them.
+#![tactic(auto)]
+
+mod breaches;
+pub mod checking;
+pub mod description;
+mod equations;
+pub mod errors;
+mod names;
+mod templates;
+
+pub use checking::check;
+pub use description::Description;
+pub use errors::MetaError;
