@@ -6,6 +6,7 @@ use Rattle.std.specs.Map.{lookup}
 use Rattle.std.specs.List.{list_any}
 use Rattle.std.specs.Option.{option_or}
 use Rattle.std.specs.Str.{bytes_eq}
+use Rattle.std.proofs.lemmas.Bool.{and_parts}
 use Rattle.std.proofs.lemmas.Slice.Eq.{bytes_eq-Decides}
 use Rattle.indexmap.specs.IndexMap.{insert_entry}
 use Rattle.gram_form.specs.declared.part.Part.{Part}
@@ -20,7 +21,7 @@ use Rattle.meta_check.specs.Views.{productions_of, is_in, alternatives_of, place
 use Rattle.meta_check.specs.Tables.{Key, Alternatives, AreAlternatives, is_key, number_for, number_in}
 use Rattle.meta_check.proofs.Lookups.{Agrees, lookup_insert}
 use Rattle.meta_check.proofs.SoFar.{productions_append, next_of, none_more}
-use Rattle.meta_check.proofs.SameParts.{halves, parts_same, parts_self}
+use Rattle.meta_check.proofs.SameParts.{parts_same, parts_self}
 
 -- keys are compared by their names and the parts behind them
 abbrev pub same_key : Key → Key → Bool
@@ -28,7 +29,7 @@ same_key a b = is_key a.0.now (map plain_part a.1.now) b
 
 key_names : (name : List ℕ) (parts : List PlainPart) (k : Key) → is_key name parts k ≡ true → (name ≡ k.0.now) × (map plain_part k.1.now ≡ parts)
 key_names name parts k h =
-    let both = halves (bytes_eq name k.0.now) (same_parts (map plain_part k.1.now) parts) h in
+    let both = and_parts (bytes_eq name k.0.now) (same_parts (map plain_part k.1.now) parts) h in
     ((bytes_eq-Decides name k.0.now).0 both.0, parts_same (map plain_part k.1.now) parts both.1)
 
 named_key : (name : List ℕ) (parts : List PlainPart) (k : Key) → name ≡ k.0.now → map plain_part k.1.now ≡ parts → is_key name parts k ≡ true
@@ -107,7 +108,7 @@ taken (x ∷ list) (suc i) h = ap suc (taken list i (omega arith))
 
 number_next : (own : List ℕ) (list : List (Bor (List Part))) (i : ℕ) (d : Bor (List Part)) (name : List ℕ) (parts : List PlainPart) → i < length list
     → number_in own (take (i + 1) (map plain_alternative list)) name parts
-      ≡ option_or (number_in own (take i (map plain_alternative list)) name parts) (only (bytes_eq name own && same_parts (plain_alternative (get_or list i d)) parts) i)
+    ≡ option_or (number_in own (take i (map plain_alternative list)) name parts) (only (bytes_eq name own && same_parts (plain_alternative (get_or list i d)) parts) i)
 number_next own list i d name parts h = pick (bytes_eq name own)
   where
     so_far : List (List PlainPart)
@@ -127,13 +128,6 @@ number_next own list i d name parts h = pick (bytes_eq name own)
 -- what a table has, with some alternatives of a production
 abbrev pub IsNoted : (old new : Alternatives) (own : List ℕ) (list : List (List PlainPart)) → Type 0
 IsNoted old new own list = (name : List ℕ) (parts : List PlainPart) → number_for new name parts ≡ option_or (number_for old name parts) (number_in own list name parts)
-
-pub none_noted : (old : Alternatives) (own : List ℕ) → IsNoted old old own []
-none_noted old own name parts = pick (bytes_eq name own)
-  where
-    pick : (b : Bool) → number_for old name parts ≡ option_or (number_for old name parts) (if b then None else None)
-    pick true = sym (or_none (number_for old name parts))
-    pick false = sym (or_none (number_for old name parts))
 
 -- with one more
 pub one_noted : (old so_far new : Alternatives) (own : Bor (List ℕ)) (list : List (Bor (List Part))) (i : ℕ) (d : Bor (List Part)) → i < length list
@@ -179,7 +173,7 @@ production_noted list p old new fresh before noted name parts =
   where
     pick : (b : Bool) → is_in (map (λ (q : PlainProduction). q.name) list) name ≡ b → (c : Bool) → bytes_eq name p.name ≡ c
         → option_or (place_among 0 (alternatives_of list name) parts) (if c then place_among 0 p.alternatives parts else None)
-          ≡ place_among 0 (if b then alternatives_of list name else (if c then p.alternatives else [])) parts
+        ≡ place_among 0 (if b then alternatives_of list name else (if c then p.alternatives else [])) parts
     pick true e true f =
         let wrong : true ≡ false = sym e ∙ ap (is_in (map (λ (q : PlainProduction). q.name) list)) ((bytes_eq-Decides name p.name).0 f) ∙ fresh in absurd (cc)
     pick true e false f = or_none (place_among 0 (alternatives_of list name) parts)
@@ -200,7 +194,7 @@ alternatives_noted list i d p old new h is e holds before noted name parts =
     fresh false e = e
     fresh true f =
         let here : repeats_name (take i (map plain_item list)) (map plain_item list) (plain_item (get_or list i d)) ≡ true =
-            ap (λ (x : Item). repeats_name (take i (map plain_item list)) (map plain_item list) (plain_item x)) (sym is ∙ e) ∙ f in
+        ap (λ (x : Item). repeats_name (take i (map plain_item list)) (map plain_item list) (plain_item x)) (sym is ∙ e) ∙ f in
         absurd (holds i (at_some plain_item list i d (λ x. repeats_name (take i (map plain_item list)) (map plain_item list) x ≡ true) h here))
 
 pub alternatives_none : (list : List Item) (i : ℕ) (d : Item) (old : Alternatives) → i < length list → d ≡ get_or list i d → productions_of (plain_item d ∷ []) ≡ []

@@ -5,6 +5,7 @@ use Rattle.std.specs.Borrow.{Bor}
 use Rattle.std.specs.List.{list_any}
 use Rattle.std.specs.Str.{bytes_eq}
 use Rattle.std.proofs.lemmas.List.Folds.{list_any-append}
+use Rattle.std.proofs.Math.Bool.{and-false, or-false}
 use Rattle.meta_terms.specs.PlainItems.{PlainItem, PlainEquation}
 use Rattle.meta_check.specs.Rules.{gives_the_same, same_number}
 use Rattle.meta_check.specs.Tables.{Texts, Alternatives, AreNonterminals, AreAlternatives, alternative_by, number_behind}
@@ -45,22 +46,14 @@ pair_more all pairs new equations e name m so_far alternative is pushed f n =
     ∙ ap (λ o. list_any (is_for all f n) equations || ((bytes_eq f e.function && same_number (Some n) o) || false)) (sym alternative)
     ∙ sym (list_any-append (is_for all f n) equations (e ∷ []))
 
-and_false : (b : Bool) → (b && false) ≡ false
-and_false true = refl
-and_false false = refl
-
-or_false : (b : Bool) → (b || false) ≡ b
-or_false true = refl
-or_false false = refl
-
 pub pair_none : (all : List PlainItem) (pairs : List Pair) (equations : List PlainEquation) (e : PlainEquation) → ArePairs all pairs equations → alternative_of all e ≡ None
     → ArePairs all pairs (equations ++ e ∷ [])
 pair_none all pairs equations e so_far none f n =
     so_far f n
     ∙ sym (list_any-append (is_for all f n) equations (e ∷ [])
     ∙ ap (λ o. list_any (is_for all f n) equations || ((bytes_eq f e.function && same_number (Some n) o) || false)) none
-    ∙ ap (λ b. list_any (is_for all f n) equations || (b || false)) (and_false (bytes_eq f e.function))
-    ∙ or_false (list_any (is_for all f n) equations))
+    ∙ ap (λ b. list_any (is_for all f n) equations || (b || false)) (and-false (bytes_eq f e.function))
+    ∙ or-false (list_any (is_for all f n) equations))
 
 -- an earlier equation is for the function and the alternative of this one
 pub repeats_by : (all : List PlainItem) (pairs : List Pair) (equations : List PlainEquation) (e : PlainEquation) (m : ℕ) → ArePairs all pairs equations → alternative_of all e ≡ Some m
@@ -74,4 +67,4 @@ repeats_none all equations e none = ap (λ o. list_any (λ g. bytes_eq e.functio
   where
     go : (equations : List PlainEquation) → list_any (λ (g : PlainEquation). bytes_eq e.function g.function && same_number None (alternative_of all g)) equations ≡ false
     go [] = refl
-    go (g ∷ equations) = ap (λ b. b || list_any (λ (g : PlainEquation). bytes_eq e.function g.function && same_number None (alternative_of all g)) equations) (and_false (bytes_eq e.function g.function)) ∙ go equations
+    go (g ∷ equations) = ap (λ b. b || list_any (λ (g : PlainEquation). bytes_eq e.function g.function && same_number None (alternative_of all g)) equations) (and-false (bytes_eq e.function g.function)) ∙ go equations

@@ -2,6 +2,7 @@
 use Rattle.std.proofs.Common.{◌≡◌, ℕ, zero, suc, Bool, true, false, List, [], ◌∷◌, ◌++◌, refl, ap, subst}
 use Rattle.std.specs.Prelude.{◌||◌, IsSomeAnd, slice_get}
 use Rattle.std.specs.List.{list_any}
+use Rattle.std.proofs.lemmas.Bool.{or_right}
 use Rattle.gram_form.specs.Plain.{PlainProduction}
 use Rattle.gram_form.specs.GrammarErrors.{IsGramError}
 use Rattle.gram_form.specs.declared.errors.GramError.{GramError}
@@ -31,11 +32,7 @@ cut_at (x ∷ xs) (suc k) P h =
 any_at : {X : Type 0} (test : X → Bool) (xs : List X) (k : ℕ) (P : X → Type 0) → ((x : X) → P x → test x ≡ true) → IsSomeAnd (slice_get xs k) P → list_any test xs ≡ true
 any_at test [] k P passes h = absurd h
 any_at test (x ∷ xs) zero P passes h = ap (λ b. b || list_any test xs) (passes x h)
-any_at test (x ∷ xs) (suc k) P passes h = either (test x) (list_any test xs) (any_at test xs k P passes h)
-  where
-    either : (a b : Bool) → b ≡ true → (a || b) ≡ true
-    either true b e = refl
-    either false b e = e
+any_at test (x ∷ xs) (suc k) P passes h = or_right (test x) (list_any test xs) (any_at test xs k P passes h)
 
 pub all_defined : (items : List PlainItem) → Holds names_no_production items → (x : Place) → IsUndefinedAt (productions_of items) x → ⊥
 all_defined items holds x undefined =
@@ -43,8 +40,8 @@ all_defined items holds x undefined =
     let r = cut_at (productions_of items) x.production (λ p. IsUndefinedIn known p.alternatives x.alternative x.part) undefined in
     let f = production_found items r.before r.after r.own r.cut in
     let breaks : names_no_production f.0 items (AProduction r.own) ≡ true =
-        any_at (list_any (is_undefined known)) r.own.alternatives x.alternative (λ parts. IsUndefinedPart known parts x.part)
-        (λ parts h. any_at (is_undefined known) parts x.part (λ part. is_undefined known part ≡ true) (λ part e. e) h) r.holds in
+    any_at (list_any (is_undefined known)) r.own.alternatives x.alternative (λ parts. IsUndefinedPart known parts x.part)
+    (λ parts h. any_at (is_undefined known) parts x.part (λ part. is_undefined known part ≡ true) (λ part e. e) h) r.holds in
     breaks_there names_no_production items f.0 f.1 (AProduction r.own) f.2 breaks holds
 
 -- so the error of an undefined part never comes

@@ -2,6 +2,7 @@
 use Rattle.std.proofs.Common.{◌≡◌, ◌∙◌, ℕ, zero, suc, ◌<◌, Bool, true, false, List, [], ◌∷◌, ◌++◌, length, get_or, map, take, refl, sym, ap, subst, arith}
 use Rattle.std.specs.Prelude.{◌||◌, IsSomeAnd, slice_get}
 use Rattle.std.specs.Str.{bytes_eq}
+use Rattle.std.proofs.lemmas.Bool.{or_right}
 use Rattle.std.proofs.lemmas.Slice.Eq.{bytes_eq-Decides}
 use Rattle.gram_form.specs.Plain.{PlainProduction}
 use Rattle.gram_form.specs.Grammars.{names_of, HaveDistinctNames}
@@ -47,11 +48,7 @@ repeated (p ∷ list) zero (suc j) d less h e =
     }
 repeated (p ∷ list) (suc i) (suc j) d less h e =
     let r = repeated list i j d (omega (arith, less)) (omega arith) e in
-    record { before = p ∷ r.before; own = r.own; after = r.after; cut = ap (λ ps. p ∷ ps) r.cut; repeated = either (bytes_eq r.own.name p.name) (is_in (names_of r.before) r.own.name) r.repeated }
-  where
-    either : (a b : Bool) → b ≡ true → (a || b) ≡ true
-    either true b h = refl
-    either false b h = h
+    record { before = p ∷ r.before; own = r.own; after = r.after; cut = ap (λ ps. p ∷ ps) r.cut; repeated = or_right (bytes_eq r.own.name p.name) (is_in (names_of r.before) r.own.name) r.repeated }
 
 pub distinct_names : (items : List PlainItem) → Holds repeats_name items → HaveDistinctNames (productions_of items)
 distinct_names items holds i j d less h same =

@@ -6,6 +6,7 @@ use Rattle.std.specs.List.{list_any}
 use Rattle.std.specs.Map.{lookup}
 use Rattle.std.specs.Str.{bytes_eq}
 use Rattle.std.proofs.lemmas.List.{map-append}
+use Rattle.std.proofs.Math.Bool.{or-false}
 use Rattle.indexmap.specs.IndexMap.{insert_entry}
 use Rattle.gram_form.specs.declared.part.Part.{Part}
 use Rattle.gram_form.specs.Plain.{PlainPart, plain_part}
@@ -82,10 +83,6 @@ part_next (q ∷ list) p v = pick (list_any (bytes_eq v) (option_to_list q.varia
     pick true rest = refl
     pick false rest = rest
 
-or_false : (b : Bool) → (b || false) ≡ b
-or_false true = refl
-or_false false = refl
-
 pub part_noted : (list : List PatternPart) (i : ℕ) (d : PatternPart) (x : Bor (List ℕ)) (old new : List (Bor (List ℕ) × Part)) → i < length list → (get_or list i d).variable ≡ Some x
     → ((v : List ℕ) → part_in old v ≡ part_for (take i (map plain_pattern_part list)) v) → ((v : List ℕ) → part_in new v ≡ else_at (part_in old v) (bytes_eq v x.now) (plain_part (get_or list i d).part))
     → (v : List ℕ) → part_in new v ≡ part_for (take (i + 1) (map plain_pattern_part list)) v
@@ -93,7 +90,7 @@ part_noted list i d x old new h e before step v =
     let so_far = take i (map plain_pattern_part list) in
     step v
     ∙ ap (λ o. else_at o (bytes_eq v x.now) (plain_part (get_or list i d).part)) (before v)
-    ∙ ap (λ b. else_at (part_for so_far v) b (plain_part (get_or list i d).part)) (sym (ap (λ (o : Option (Bor (List ℕ))). list_any (bytes_eq v) (option_to_list (option_map (λ (t : Bor (List ℕ)). t.now) o))) e ∙ or_false (bytes_eq v x.now)))
+    ∙ ap (λ b. else_at (part_for so_far v) b (plain_part (get_or list i d).part)) (sym (ap (λ (o : Option (Bor (List ℕ))). list_any (bytes_eq v) (option_to_list (option_map (λ (t : Bor (List ℕ)). t.now) o))) e ∙ or-false (bytes_eq v x.now)))
     ∙ sym (part_next so_far (plain_pattern_part (get_or list i d)) v)
     ∙ ap (λ ps. part_for ps v) (sym (take_part list i d h))
 

@@ -2,6 +2,7 @@
 use Rattle.std.proofs.Common.{◌≡◌, ◌∙◌, ℕ, Bool, true, false, not, ◌&&◌, List, [], ◌∷◌, map, Option, Some, None, option_to_list, refl, sym, ap}
 use Rattle.std.specs.Prelude.{◌||◌, option_map}
 use Rattle.std.specs.List.{list_any, list_all}
+use Rattle.std.proofs.Math.Bool.{and-true}
 use Rattle.gram_form.specs.Plain.{PlainPart, PlainNonterm}
 use Rattle.meta_terms.specs.declared.template.TemplateNode.{TemplateNode}
 use Rattle.meta_terms.specs.Nodes.{label_of}
@@ -11,19 +12,15 @@ use Rattle.meta_check.specs.Rules.{fits, stands_for}
 use Rattle.meta_check.specs.Tables.{wanted_part, is_fit}
 use Rattle.meta_check.specs.Views.{declarations_of, nonterminal_of, part_for}
 
-and_true : (b : Bool) → (b && true) ≡ b
-and_true true = refl
-and_true false = refl
-
 pub fits_by : (all : List PlainItem) (e : PlainEquation) (nonterminal : List ℕ → Option (List ℕ)) (part : List ℕ → Option PlainPart)
     → ((f : List ℕ) → nonterminal f ≡ nonterminal_of (declarations_of all) f) → ((v : List ℕ) → part v ≡ part_for e.pattern v) → (l : Label) → is_fit nonterminal part l ≡ fits all e l
 fits_by all e nonterminal part n p (ActionNode k i t) = refl
 fits_by all e nonterminal part n p (YielderNode k t) = refl
-fits_by all e nonterminal part n p (ActionTokenOf k i t v) = and_true (stands_for (option_to_list (wanted_part nonterminal (ActionTokenOf k i t v))) (part v)) ∙ ap (stands_for (option_to_list (wanted_part nonterminal (ActionTokenOf k i t v)))) (p v)
-fits_by all e nonterminal part n p (YielderTokenOf k t v) = and_true (stands_for (option_to_list (wanted_part nonterminal (YielderTokenOf k t v))) (part v)) ∙ ap (stands_for (option_to_list (wanted_part nonterminal (YielderTokenOf k t v)))) (p v)
-fits_by all e nonterminal part n p (ValueOf v) = and_true (stands_for (option_to_list (wanted_part nonterminal (ValueOf v))) (part v)) ∙ ap (stands_for (option_to_list (wanted_part nonterminal (ValueOf v)))) (p v)
+fits_by all e nonterminal part n p (ActionTokenOf k i t v) = and-true (stands_for (option_to_list (wanted_part nonterminal (ActionTokenOf k i t v))) (part v)) ∙ ap (stands_for (option_to_list (wanted_part nonterminal (ActionTokenOf k i t v)))) (p v)
+fits_by all e nonterminal part n p (YielderTokenOf k t v) = and-true (stands_for (option_to_list (wanted_part nonterminal (YielderTokenOf k t v))) (part v)) ∙ ap (stands_for (option_to_list (wanted_part nonterminal (YielderTokenOf k t v)))) (p v)
+fits_by all e nonterminal part n p (ValueOf v) = and-true (stands_for (option_to_list (wanted_part nonterminal (ValueOf v))) (part v)) ∙ ap (stands_for (option_to_list (wanted_part nonterminal (ValueOf v)))) (p v)
 fits_by all e nonterminal part n p (Applied f v) =
-    and_true (stands_for (option_to_list (option_map PlainNonterm (nonterminal f))) (part v))
+    and-true (stands_for (option_to_list (option_map PlainNonterm (nonterminal f))) (part v))
     ∙ ap (stands_for (option_to_list (option_map PlainNonterm (nonterminal f)))) (p v)
     ∙ ap (λ o. stands_for (option_to_list (option_map PlainNonterm o)) (part_for e.pattern v)) (n f)
     ∙ pick (nonterminal_of (declarations_of all) f)

@@ -3,7 +3,7 @@ use Rattle.std.proofs.Common.{◌≡◌, ◌∙◌, ◌⊎◌, inl, inr, ℕ, ze
 use Rattle.std.specs.Prelude.{IsSomeAnd, slice_get}
 use Rattle.gram_form.specs.Plain.{PlainProduction}
 use Rattle.meta_terms.specs.PlainItems.{PlainDeclaration, PlainEquation, PlainItem, AProduction, ADeclaration, AnEquation}
-use Rattle.meta_check.specs.MetaErrors.{in_order}
+use Rattle.meta_check.specs.Checked.{in_order}
 use Rattle.meta_check.specs.Rules.{Rule, Breaks, Holds}
 use Rattle.meta_check.specs.Views.{productions_of, declarations_of, equations_of}
 use Rattle.meta_check.proofs.SoFar.{Appends, productions_append, declarations_append, equations_append}
@@ -181,15 +181,15 @@ order_kept items =
     record {
       productions = kinds_append productions_of productions_append ps ds es
           ∙ ap₂ (λ a b. a ++ b) (all_own AProduction productions_of production_kind ps)
-              (ap₂ (λ a b. a ++ b) (no_other ADeclaration productions_of refl (λ a xs. refl) ds) (no_other AnEquation productions_of refl (λ a xs. refl) es))
+          (ap₂ (λ a b. a ++ b) (no_other ADeclaration productions_of refl (λ a xs. refl) ds) (no_other AnEquation productions_of refl (λ a xs. refl) es))
           ∙ append-nil ps;
       declarations = kinds_append declarations_of declarations_append ps ds es
           ∙ ap₂ (λ a b. a ++ b) (no_other AProduction declarations_of refl (λ a xs. refl) ps)
-              (ap₂ (λ a b. a ++ b) (all_own ADeclaration declarations_of declaration_kind ds) (no_other AnEquation declarations_of refl (λ a xs. refl) es))
+          (ap₂ (λ a b. a ++ b) (all_own ADeclaration declarations_of declaration_kind ds) (no_other AnEquation declarations_of refl (λ a xs. refl) es))
           ∙ append-nil ds;
       equations = kinds_append equations_of equations_append ps ds es
           ∙ ap₂ (λ a b. a ++ b) (no_other AProduction equations_of refl (λ a xs. refl) ps)
-              (ap₂ (λ a b. a ++ b) (no_other ADeclaration equations_of refl (λ a xs. refl) ds) (all_own AnEquation equations_of equation_kind es));
+          (ap₂ (λ a b. a ++ b) (no_other ADeclaration equations_of refl (λ a xs. refl) ds) (all_own AnEquation equations_of equation_kind es));
     }
 
 -- what holds of items, holds of them in that order
@@ -223,8 +223,8 @@ sorted_holds rule of_kinds items holds k b =
         (λ f h. subst (λ (z : PlainItem). SameBefore earlier f z) (sym a.item_is) h)
     second earlier x more others breaks d e (inr b) =
         let skipped : equations_of others ≡ equations_of b.others =
-            ap equations_of b.earlier_is ∙ equations_append (map ADeclaration (declarations_of items)) b.others
-            ∙ ap (λ xs. xs ++ equations_of b.others) (no_other ADeclaration equations_of refl (λ a xs. refl) (declarations_of items)) in
+        ap equations_of b.earlier_is ∙ equations_append (map ADeclaration (declarations_of items)) b.others
+        ∙ ap (λ xs. xs ++ equations_of b.others) (no_other ADeclaration equations_of refl (λ a xs. refl) (declarations_of items)) in
         third earlier x more b.others breaks (e ∙ skipped)
         (among AnEquation equations_of equation_kind (equations_of items) [] b.others more x (append-nil (map AnEquation (equations_of items)) ∙ b.cut))
 
@@ -234,11 +234,11 @@ sorted_holds rule of_kinds items holds k b =
         refuted AProduction productions_of production_kind earlier x breaks a (λ f h. subst (λ (z : PlainItem). SameBefore earlier f z) (sym a.item_is) h)
     first earlier x more breaks (inr b) =
         let declarations : declarations_of earlier ≡ declarations_of b.others =
-            ap declarations_of b.earlier_is ∙ declarations_append (map AProduction (productions_of items)) b.others
-            ∙ ap (λ xs. xs ++ declarations_of b.others) (no_other AProduction declarations_of refl (λ a xs. refl) (productions_of items)) in
+        ap declarations_of b.earlier_is ∙ declarations_append (map AProduction (productions_of items)) b.others
+        ∙ ap (λ xs. xs ++ declarations_of b.others) (no_other AProduction declarations_of refl (λ a xs. refl) (productions_of items)) in
         let equations : equations_of earlier ≡ equations_of b.others =
-            ap equations_of b.earlier_is ∙ equations_append (map AProduction (productions_of items)) b.others
-            ∙ ap (λ xs. xs ++ equations_of b.others) (no_other AProduction equations_of refl (λ a xs. refl) (productions_of items)) in
+        ap equations_of b.earlier_is ∙ equations_append (map AProduction (productions_of items)) b.others
+        ∙ ap (λ xs. xs ++ equations_of b.others) (no_other AProduction equations_of refl (λ a xs. refl) (productions_of items)) in
         second earlier x more b.others breaks declarations equations
         (among ADeclaration declarations_of declaration_kind (declarations_of items) (map AnEquation (equations_of items)) b.others more x b.cut)
 

@@ -5,6 +5,7 @@ use Rattle.std.specs.List.{list_any}
 use Rattle.std.specs.Str.{bytes_eq}
 use Rattle.std.proofs.lemmas.List.{map-append}
 use Rattle.std.proofs.lemmas.List.Folds.{list_any-append}
+use Rattle.std.proofs.Math.Bool.{or-false}
 use Rattle.std.proofs.lemmas.Slice.Eq.{bytes_eq-Decides}
 use Rattle.gram_form.specs.Grammars.{is_undefined, seen_with}
 use Rattle.gram_form.specs.Plain.{PlainPart, PlainLiteral, PlainNonterm, PlainIdentifier, PlainNumeral, PlainProduction, plain_part, plain_alternative}
@@ -23,10 +24,6 @@ use Rattle.meta_check.proofs.SoFar.{Appends, productions_append, declarations_ap
 abbrev pub HaveSame : List (List ℕ) → List (List ℕ) → Type 0
 HaveSame known names = (name : List ℕ) → is_in known name ≡ is_in names name
 
-or_false : (b : Bool) → (b || false) ≡ b
-or_false true = refl
-or_false false = refl
-
 or_self : (a b : Bool) → (b ≡ true → a ≡ true) → (a || b) ≡ a
 or_self true b h = refl
 or_self false true h = sym (h refl)
@@ -39,7 +36,7 @@ seen_same known names name h n =
   where
     there : is_in known name ≡ true → is_in (name ∷ []) n ≡ true → is_in known n ≡ true
     there k e =
-        let same : n ≡ name = (bytes_eq-Decides n name).0 (sym (or_false (bytes_eq n name)) ∙ e) in
+        let same : n ≡ name = (bytes_eq-Decides n name).0 (sym (or-false (bytes_eq n name)) ∙ e) in
         ap (is_in known) same ∙ k
 
     pick : (b : Bool) → is_in known name ≡ b → is_in (if b then known else known ++ name ∷ []) n ≡ (is_in known n || is_in (name ∷ []) n)
@@ -139,3 +136,12 @@ same_calls known names h (ADeclaration d) = refl
 same_calls known names h (AnEquation e) =
     ap (λ b. not b || list_any (applies_outside known) e.action) (h e.function)
     ∙ ap (λ b. not (is_in names e.function) || b) (same_any (applies_outside known) (applies_outside names) (same_applied known names h) e.action)
+
+-- an insertion tells whether the key was new
+pub was_there : (b : Bool) → not b ≡ false → b ≡ true
+was_there true h = refl
+was_there false h = absurd (cc)
+
+pub was_new : (b : Bool) → not b ≡ true → b ≡ false
+was_new true h = absurd (cc)
+was_new false h = refl

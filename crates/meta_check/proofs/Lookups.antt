@@ -40,16 +40,10 @@ lookup_insert {K} {V} eq test a (e ∷ entries) k v = pick (eq k e.0) refl (look
 abbrev pub same_text : Bor (List ℕ) → Bor (List ℕ) → Bool
 same_text a b = bytes_eq a.now b.now
 
-bytes_same : (a b : List ℕ) → bytes_eq a b ≡ true → a ≡ b
-bytes_same a b h = (bytes_eq-Decides a b).0 h
-
-bytes_self : (a b : List ℕ) → a ≡ b → bytes_eq a b ≡ true
-bytes_self a b h = (bytes_eq-Decides a b).1 h
-
 pub texts_agree : (name : List ℕ) → Agrees same_text (λ k. bytes_eq name k.now)
 texts_agree name = record {
-  congruent = λ k q h. ap (bytes_eq name) (bytes_same k.now q.now h);
-  apart = λ k q t u. bytes_self k.now q.now (sym (bytes_same name k.now t) ∙ bytes_same name q.now u);
+  congruent = λ k q h. ap (bytes_eq name) ((bytes_eq-Decides k.now q.now).0 h);
+  apart = λ k q t u. (bytes_eq-Decides k.now q.now).1 (sym ((bytes_eq-Decides name k.now).0 t) ∙ (bytes_eq-Decides name q.now).0 u);
 }
 
 -- a list of names with values, and one pair more behind it
@@ -68,7 +62,7 @@ text_new {V} entries k v name new =
     pick false e (Some x) f = refl
     pick true e None f = refl
     pick true e (Some x) f =
-        let there : false ≡ is_some (lookup (λ (q : Bor (List ℕ)). bytes_eq name q.now) entries) = new ∙ ap (λ n. is_some (lookup (λ (q : Bor (List ℕ)). bytes_eq n q.now) entries)) (sym (bytes_same name k.now e)) in
+        let there : false ≡ is_some (lookup (λ (q : Bor (List ℕ)). bytes_eq name q.now) entries) = new ∙ ap (λ n. is_some (lookup (λ (q : Bor (List ℕ)). bytes_eq n q.now) entries)) (sym ((bytes_eq-Decides name k.now).0 e)) in
         let wrong : false ≡ true = there ∙ ap is_some f in absurd (cc)
 
 -- a text that is there
@@ -80,5 +74,5 @@ text_known {V} entries k v name known = pick (bytes_eq name k.now) refl (lookup 
     pick b e (Some x) f = refl
     pick false e None f = refl
     pick true e None f =
-        let there : true ≡ is_some (lookup (λ (q : Bor (List ℕ)). bytes_eq name q.now) entries) = known ∙ ap (λ n. is_some (lookup (λ (q : Bor (List ℕ)). bytes_eq n q.now) entries)) (sym (bytes_same name k.now e)) in
+        let there : true ≡ is_some (lookup (λ (q : Bor (List ℕ)). bytes_eq name q.now) entries) = known ∙ ap (λ n. is_some (lookup (λ (q : Bor (List ℕ)). bytes_eq n q.now) entries)) (sym ((bytes_eq-Decides name k.now).0 e)) in
         let wrong : true ≡ false = there ∙ ap is_some f in absurd (cc)

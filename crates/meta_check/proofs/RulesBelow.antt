@@ -7,9 +7,6 @@ use Rattle.meta_check.specs.declared.breaches.Breach.{Breach}
 use Rattle.meta_check.specs.MetaErrors.{FindsBreach}
 use Rattle.meta_check.specs.Rules.{Rule, rules, Holds, HoldBelow, IsFirstBreach, IsFirstBroken, IsWellFormed}
 
-pub none_below : (items : List PlainItem) → HoldBelow items 0
-none_below items r h = absurd (omega (arith, h))
-
 -- one rule more
 pub one_below : (items : List PlainItem) (n : ℕ) → HoldBelow items n → IsSomeAnd (slice_get rules n) (λ rule. Holds rule items) → HoldBelow items (n + 1)
 one_below items n below here = below_more (λ r. IsSomeAnd (slice_get rules r) (λ rule. Holds rule items)) n below here
@@ -41,14 +38,6 @@ pub none_broken : (items : List PlainItem) (number : ℕ) (found : Option ℕ) �
     → ((k : ℕ) → found ≡ Some k → ⊥) → HoldBelow items (number - 1 + 1)
 none_broken items number None below finds other = one_below items (number - 1) below finds
 none_broken items number (Some k) below finds other = absurd (other k refl)
-
--- the item that breaks it is there
-pub broken_within : (items : List PlainItem) (number k : ℕ) → IsFirstBroken items number k → k < length items
-broken_within items number k b = go (slice_get rules (number - 1)) b.breach
-  where
-    go : (o : Option Rule) → IsSomeAnd o (λ rule. IsFirstBreach rule items k) → k < length items
-    go None h = absurd h
-    go (Some rule) h = some_within items k (λ item. rule (take k items) items item ≡ true) h.breaks
 
 -- all nine
 pub all_hold : (items : List PlainItem) → HoldBelow items 9 → IsWellFormed items

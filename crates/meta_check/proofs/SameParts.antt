@@ -1,35 +1,26 @@
 -- Parts are the same exactly where the comparison says so.
 use Rattle.std.proofs.Common.{◌≡◌, ◌∙◌, ℕ, Bool, true, false, ◌&&◌, List, [], ◌∷◌, map, refl, sym, ap, ap₂, cond}
 use Rattle.std.specs.Str.{bytes_eq}
+use Rattle.std.proofs.lemmas.Bool.{and_parts}
 use Rattle.std.proofs.lemmas.Slice.Eq.{bytes_eq-Decides}
 use Rattle.gram_form.specs.Plain.{PlainPart, PlainLiteral, PlainNonterm, PlainIdentifier, PlainNumeral}
 use Rattle.meta_check.specs.Views.{same_part, same_parts}
 
-bytes_same : (a b : List ℕ) → bytes_eq a b ≡ true → a ≡ b
-bytes_same a b h = (bytes_eq-Decides a b).0 h
-
-bytes_self : (a : List ℕ) → bytes_eq a a ≡ true
-bytes_self a = (bytes_eq-Decides a a).1 refl
-
-pub halves : (a b : Bool) → a && b ≡ true → (a ≡ true) × (b ≡ true)
-halves true b h = (refl, h)
-halves false b h = absurd (cc)
-
 part_same : (a b : PlainPart) → same_part a b ≡ true → a ≡ b
-part_same (PlainLiteral a) (PlainLiteral b) h = ap PlainLiteral (bytes_same a b h)
-part_same (PlainNonterm a) (PlainNonterm b) h = ap PlainNonterm (bytes_same a b h)
+part_same (PlainLiteral a) (PlainLiteral b) h = ap PlainLiteral ((bytes_eq-Decides a b).0 h)
+part_same (PlainNonterm a) (PlainNonterm b) h = ap PlainNonterm ((bytes_eq-Decides a b).0 h)
 part_same PlainIdentifier PlainIdentifier h = refl
 part_same PlainNumeral PlainNumeral h = refl
 part_same a b h = absurd (cc)
 
 pub parts_same : (xs ys : List PlainPart) → same_parts xs ys ≡ true → xs ≡ ys
 parts_same [] [] h = refl
-parts_same (a ∷ xs) (b ∷ ys) h = let both = halves (same_part a b) (same_parts xs ys) h in ap₂ (λ c cs. c ∷ cs) (part_same a b both.0) (parts_same xs ys both.1)
+parts_same (a ∷ xs) (b ∷ ys) h = let both = and_parts (same_part a b) (same_parts xs ys) h in ap₂ (λ c cs. c ∷ cs) (part_same a b both.0) (parts_same xs ys both.1)
 parts_same xs ys h = absurd (cc)
 
 part_self : (a : PlainPart) → same_part a a ≡ true
-part_self (PlainLiteral a) = bytes_self a
-part_self (PlainNonterm a) = bytes_self a
+part_self (PlainLiteral a) = (bytes_eq-Decides a a).1 refl
+part_self (PlainNonterm a) = (bytes_eq-Decides a a).1 refl
 part_self PlainIdentifier = refl
 part_self PlainNumeral = refl
 

@@ -18,10 +18,10 @@ pub first_name : (list : List Item) (i : ℕ) (d : Item) (p : Production) → i 
 first_name list i d p h is own none =
     let c = cut_here list i d h is in
     let all : nonterminals_of (map plain_item list) ≡ p.name.now ∷ nonterminals_of c.0 =
-        ap nonterminals_of c.1
-        ∙ nonterminals_append (take i (map plain_item list)) (plain_item d ∷ c.0)
-        ∙ ap (λ ns. ns ++ nonterminals_of (plain_item d ∷ c.0)) none
-        ∙ ap (λ (x : Item). nonterminals_of (plain_item x ∷ c.0)) own in
+    ap nonterminals_of c.1
+    ∙ nonterminals_append (take i (map plain_item list)) (plain_item d ∷ c.0)
+    ∙ ap (λ ns. ns ++ nonterminals_of (plain_item d ∷ c.0)) none
+    ∙ ap (λ (x : Item). nonterminals_of (plain_item x ∷ c.0)) own in
     sym (ap (take 1) all)
 
 false_true : false ≡ true → ⊥

@@ -4,6 +4,7 @@ use Rattle.std.specs.Prelude.{◌||◌, option_map}
 use Rattle.std.specs.Borrow.{Bor}
 use Rattle.std.specs.List.{list_any}
 use Rattle.std.specs.Str.{bytes_eq}
+use Rattle.std.proofs.lemmas.Bool.{or_left, or_right, or_parts, or_from}
 use Rattle.std.proofs.lemmas.List.Folds.{list_any-append}
 use Rattle.std.proofs.lemmas.Slice.Eq.{bytes_eq-Decides}
 use Rattle.gram_form.specs.Grammars.{seen_with}
@@ -56,29 +57,15 @@ same_sides a b = pick (bytes_eq a b) refl (bytes_eq b a) refl
     pick true e false f = let wrong : true ≡ false = sym ((bytes_eq-Decides b a).1 (sym ((bytes_eq-Decides a b).0 e))) ∙ f in absurd (cc)
     pick false e true f = let wrong : true ≡ false = sym ((bytes_eq-Decides a b).1 (sym ((bytes_eq-Decides b a).0 f))) ∙ e in absurd (cc)
 
-or_false : (a b : Bool) → (a || b) ≡ false → (a ≡ false) × (b ≡ false)
-or_false false false h = (refl, refl)
-or_false false true h = absurd (cc)
-or_false true b h = absurd (cc)
-
-neither : (a b : Bool) → a ≡ false → b ≡ false → (a || b) ≡ false
-neither false false h k = refl
-neither true b h k = absurd (cc)
-neither false true h k = absurd (cc)
-
 -- a text behind others that don't have it
 repeats_push : (xs : List (List ℕ)) (y : List ℕ) → repeats xs ≡ false → is_in xs y ≡ false → repeats (xs ++ y ∷ []) ≡ false
 repeats_push [] y r h = refl
 repeats_push (x ∷ xs) y r h =
-    let both = or_false (is_in xs x) (repeats xs) r in
-    let apart = or_false (bytes_eq y x) (is_in xs y) h in
-    neither (is_in (xs ++ y ∷ []) x) (repeats (xs ++ y ∷ []))
-    (list_any-append (bytes_eq x) xs (y ∷ []) ∙ neither (is_in xs x) (is_in (y ∷ []) x) both.0 (neither (bytes_eq x y) false (same_sides x y ∙ apart.0) refl))
+    let both = or_parts (is_in xs x) (repeats xs) r in
+    let apart = or_parts (bytes_eq y x) (is_in xs y) h in
+    or_from (is_in (xs ++ y ∷ []) x) (repeats (xs ++ y ∷ []))
+    (list_any-append (bytes_eq x) xs (y ∷ []) ∙ or_from (is_in xs x) (is_in (y ∷ []) x) both.0 (or_from (bytes_eq x y) false (same_sides x y ∙ apart.0) refl))
     (repeats_push xs y both.1 apart.1)
-
-either : (a b : Bool) → b ≡ true → (a || b) ≡ true
-either true b h = refl
-either false b h = h
 
 -- a text behind others that have it
 repeats_known : (xs : List (List ℕ)) (y : List ℕ) (more : List (List ℕ)) → is_in xs y ≡ true → repeats (xs ++ y ∷ more) ≡ true
@@ -86,16 +73,12 @@ repeats_known [] y more h = absurd (cc)
 repeats_known (x ∷ xs) y more h = pick (bytes_eq y x) refl h (λ k. repeats_known xs y more k)
   where
     there : bytes_eq y x ≡ true → is_in (xs ++ y ∷ more) x ≡ true
-    there e = list_any-append (bytes_eq x) xs (y ∷ more) ∙ either (is_in xs x) (bytes_eq x y || is_in more x) (ap (λ b. b || is_in more x) (same_sides x y ∙ e))
-
-    first : (a b : Bool) → a ≡ true → (a || b) ≡ true
-    first true b h = refl
-    first false b h = absurd (cc)
+    there e = list_any-append (bytes_eq x) xs (y ∷ more) ∙ or_right (is_in xs x) (bytes_eq x y || is_in more x) (ap (λ b. b || is_in more x) (same_sides x y ∙ e))
 
     pick : (b : Bool) → bytes_eq y x ≡ b → (b || is_in xs y) ≡ true → (is_in xs y ≡ true → repeats (xs ++ y ∷ more) ≡ true)
         → (is_in (xs ++ y ∷ more) x || repeats (xs ++ y ∷ more)) ≡ true
-    pick true e h rest = first (is_in (xs ++ y ∷ more) x) (repeats (xs ++ y ∷ more)) (there e)
-    pick false e h rest = either (is_in (xs ++ y ∷ more) x) (repeats (xs ++ y ∷ more)) (rest h)
+    pick true e h rest = or_left (is_in (xs ++ y ∷ more) x) (repeats (xs ++ y ∷ more)) (there e)
+    pick false e h rest = or_right (is_in (xs ++ y ∷ more) x) (repeats (xs ++ y ∷ more)) (rest h)
 
 -- a variable that is there already
 pub variable_known : (list : List PatternPart) (i : ℕ) (d : PatternPart) (v : Bor (List ℕ)) (known : List (List ℕ)) → i < length list → (get_or list i d).variable ≡ Some v
@@ -112,15 +95,12 @@ pub record AreDistinct (known names : List (List ℕ)) : Type 0 where
   pub distinct : repeats names ≡ false
   pub same : HaveSame known names
 
-pub none_distinct : AreDistinct [] []
-none_distinct = record { distinct = refl; same = λ n. refl }
-
 pub variable_new : (list : List PatternPart) (i : ℕ) (d : PatternPart) (v : Bor (List ℕ)) (known : List (List ℕ)) → i < length list → (get_or list i d).variable ≡ Some v
     → AreDistinct known (variables_of (take i (map plain_pattern_part list))) → is_in known v.now ≡ false → AreDistinct (seen_with known v.now) (variables_of (take (i + 1) (map plain_pattern_part list)))
 variable_new list i d v known h own so_far new =
     let names = variables_of (take i (map plain_pattern_part list)) in
     let next : variables_of (take (i + 1) (map plain_pattern_part list)) ≡ names ++ v.now ∷ [] =
-        variables_next list i d h ∙ ap (λ (o : Option (Bor (List ℕ))). names ++ option_to_list (option_map (λ (t : Bor (List ℕ)). t.now) o)) own in
+    variables_next list i d h ∙ ap (λ (o : Option (Bor (List ℕ))). names ++ option_to_list (option_map (λ (t : Bor (List ℕ)). t.now) o)) own in
     record {
       distinct = ap repeats next ∙ repeats_push names v.now so_far.distinct (sym (so_far.same v.now) ∙ new);
       same = λ n. seen_same known names v.now so_far.same n ∙ ap (λ ns. is_in ns n) (sym next);
@@ -131,7 +111,7 @@ pub variable_none : (list : List PatternPart) (i : ℕ) (d : PatternPart) (known
 variable_none list i d known h own so_far =
     let names = variables_of (take i (map plain_pattern_part list)) in
     let next : variables_of (take (i + 1) (map plain_pattern_part list)) ≡ names =
-        variables_next list i d h ∙ ap (λ (o : Option (Bor (List ℕ))). names ++ option_to_list (option_map (λ (t : Bor (List ℕ)). t.now) o)) own ∙ append-nil names in
+    variables_next list i d h ∙ ap (λ (o : Option (Bor (List ℕ))). names ++ option_to_list (option_map (λ (t : Bor (List ℕ)). t.now) o)) own ∙ append-nil names in
     record { distinct = ap repeats next ∙ so_far.distinct; same = λ n. so_far.same n ∙ ap (λ ns. is_in ns n) (sym next) }
 
 -- whether a node uses another variable is told by the variables alone

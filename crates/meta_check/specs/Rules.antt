@@ -1,4 +1,4 @@
--- The rules of descriptions, one by one: whether an item breaks them, by the items before it and by all.
+-- The rules of descriptions: whether an item breaks one, by the items before it and by all items.
 use Rattle.std.specs.Prelude.{◌≡◌, ℕ, ◌-◌, ◌<◌, Bool, true, false, ◌&&◌, ◌||◌, not, nat_eq, List, [], ◌∷◌, length, take, map, Option, Some, None, is_none, IsSomeAnd, All, slice_get, if◌then◌else◌}
 use Rattle.std.specs.List.{list_any, list_all}
 use Rattle.std.specs.Option.{option_to_list}
@@ -33,13 +33,15 @@ abbrev pub equals_no_alternative : Rule
 equals_no_alternative earlier all (AnEquation e) = is_none (alternative_of all e)
 equals_no_alternative earlier all _ = false
 
--- two equations give one function an action for one alternative
+-- two numbers that are there, and are the same
 abbrev pub same_number : Option ℕ → Option ℕ → Bool
 same_number (Some m) (Some n) = nat_eq m n
 same_number _ _ = false
 
+-- two equations give one function an action for one alternative
 abbrev pub gives_the_same : List PlainItem → PlainEquation → PlainEquation → Bool
-gives_the_same all e f = bytes_eq e.function f.function && same_number (alternative_of all e) (alternative_of all f)
+gives_the_same all e f =
+    bytes_eq e.function f.function && same_number (alternative_of all e) (alternative_of all f)
 
 -- 6: an equation is for the function and the alternative of an earlier one
 abbrev pub repeats_equation : Rule
@@ -62,9 +64,12 @@ abbrev pub stands_for : List PlainPart → Option PlainPart → Bool
 stands_for parts None = true
 stands_for parts (Some part) = list_any (same_part part) parts
 
--- what a node of a template asks of its variable: f V a phrase of f's nonterminal, `value of V` a numeral and `token of V` an identifier
+-- what a node of a template asks of its variable: f V a phrase of f's nonterminal, `value of V` a
+-- numeral and `token of V` an identifier
 abbrev pub fits : List PlainItem → PlainEquation → Label → Bool
-fits all e (Applied f v) = stands_for (map PlainNonterm (option_to_list (nonterminal_of (declarations_of all) f))) (part_for e.pattern v)
+fits all e (Applied f v) =
+    stands_for (map PlainNonterm (option_to_list (nonterminal_of (declarations_of all) f)))
+    (part_for e.pattern v)
 fits all e (ValueOf v) = stands_for (PlainNumeral ∷ []) (part_for e.pattern v)
 fits all e (ActionTokenOf k n t v) = stands_for (PlainIdentifier ∷ []) (part_for e.pattern v)
 fits all e (YielderTokenOf k t v) = stands_for (PlainIdentifier ∷ []) (part_for e.pattern v)
@@ -78,13 +83,15 @@ misuses_part earlier all _ = false
 -- 9: the first declared function isn't declared for the first production's name
 abbrev pub starts_elsewhere : Rule
 starts_elsewhere earlier all (ADeclaration d) =
-    nat_eq (length (declarations_of earlier)) 0 && not (is_in (take 1 (nonterminals_of all)) d.nonterminal)
+    nat_eq (length (declarations_of earlier)) 0
+    && not (is_in (take 1 (nonterminals_of all)) d.nonterminal)
 starts_elsewhere earlier all _ = false
 
 -- the rules, from the first on
 abbrev pub rules : List Rule
 rules =
-    repeats_name ∷ names_no_production ∷ names_no_function ∷ repeats_function ∷ equals_no_alternative
+    repeats_name ∷ names_no_production ∷ names_no_function ∷ repeats_function
+    ∷ equals_no_alternative
     ∷ repeats_equation ∷ misuses_variable ∷ misuses_part ∷ starts_elsewhere ∷ []
 
 -- the item with the number, from 0, breaks the rule

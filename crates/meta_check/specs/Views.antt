@@ -7,14 +7,14 @@ use Rattle.gram_form.specs.Grammars.{is_undefined}
 use Rattle.gram_form.specs.Plain.{PlainPart, PlainLiteral, PlainNonterm, PlainIdentifier, PlainNumeral, PlainProduction}
 use Rattle.meta_terms.specs.Templates.{Label, ActionTokenOf, YielderTokenOf, Applied, ValueOf}
 use Rattle.meta_terms.specs.PlainItems.{PlainDeclaration, PlainPatternPart, PlainEquation, PlainItem, AProduction, ADeclaration, AnEquation}
-
 -- the productions, the declarations and the equations among items
 pub use Rattle.meta_terms.specs.ItemKinds.{productions_of, declarations_of, equations_of}
 
--- the nonterminals that have a production, and the functions that are declared
+-- the nonterminals that have a production
 abbrev pub nonterminals_of : List PlainItem → List (List ℕ)
 nonterminals_of items = map (λ (p : PlainProduction). p.name) (productions_of items)
 
+-- the functions that are declared
 abbrev pub functions_of : List PlainItem → List (List ℕ)
 functions_of items = map (λ (d : PlainDeclaration). d.function) (declarations_of items)
 
@@ -26,13 +26,15 @@ is_in names name = list_any (bytes_eq name) names
 abbrev pub names_outside : List (List ℕ) → PlainItem → Bool
 names_outside known (AProduction p) = list_any (list_any (is_undefined known)) p.alternatives
 names_outside known (ADeclaration d) = not (is_in known d.nonterminal)
-names_outside known (AnEquation e) = list_any (λ (p : PlainPatternPart). is_undefined known p.part) e.pattern
+names_outside known (AnEquation e) =
+    list_any (λ (p : PlainPatternPart). is_undefined known p.part) e.pattern
 
--- the item is a production whose name is known, or a declaration whose function is
+-- the item is a production whose name is known
 abbrev pub repeats_production : List (List ℕ) → PlainItem → Bool
 repeats_production known (AProduction p) = is_in known p.name
 repeats_production known _ = false
 
+-- the item is a declaration whose function is known
 abbrev pub repeats_declaration : List (List ℕ) → PlainItem → Bool
 repeats_declaration known (ADeclaration d) = is_in known d.function
 repeats_declaration known _ = false
@@ -44,7 +46,8 @@ applies_outside known _ = false
 
 -- the head or the template of an equation names a function that isn't known
 abbrev pub calls_outside : List (List ℕ) → PlainItem → Bool
-calls_outside known (AnEquation e) = not (is_in known e.function) || list_any (applies_outside known) e.action
+calls_outside known (AnEquation e) =
+    not (is_in known e.function) || list_any (applies_outside known) e.action
 calls_outside known _ = false
 
 -- the variable that a node of a template uses
@@ -66,20 +69,26 @@ variables_of pattern = flat_map (λ (p : PlainPatternPart). option_to_list p.var
 -- the part that a variable stands for
 abbrev pub part_for : List PlainPatternPart → List ℕ → Option PlainPart
 part_for [] v = None
-part_for (p ∷ pattern) v = if list_any (bytes_eq v) (option_to_list p.variable) then Some p.part else part_for pattern v
+part_for (p ∷ pattern) v =
+    if list_any (bytes_eq v) (option_to_list p.variable) then Some p.part else part_for pattern v
 
 -- the nonterminal of a function: that of its first declaration
 abbrev pub nonterminal_of : List PlainDeclaration → List ℕ → Option (List ℕ)
 nonterminal_of [] f = None
-nonterminal_of (d ∷ list) f = if bytes_eq f d.function then Some d.nonterminal else nonterminal_of list f
+nonterminal_of (d ∷ list) f =
+    if bytes_eq f d.function then Some d.nonterminal else nonterminal_of list f
 
 -- the alternatives of a nonterminal: those of its first production, and none where it has none
 abbrev pub alternatives_of : List PlainProduction → List ℕ → List (List PlainPart)
 alternatives_of [] name = []
-alternatives_of (p ∷ list) name = if bytes_eq name p.name then p.alternatives else alternatives_of list name
+alternatives_of (p ∷ list) name =
+    if bytes_eq name p.name then p.alternatives else alternatives_of list name
 
+-- the alternatives of a function's nonterminal
 abbrev pub alternatives_for : List PlainItem → List ℕ → List (List PlainPart)
-alternatives_for items f = flat_map (alternatives_of (productions_of items)) (option_to_list (nonterminal_of (declarations_of items) f))
+alternatives_for items f =
+    flat_map (alternatives_of (productions_of items))
+    (option_to_list (nonterminal_of (declarations_of items) f))
 
 -- two parts are the same
 abbrev pub same_part : PlainPart → PlainPart → Bool
@@ -89,6 +98,7 @@ same_part PlainIdentifier PlainIdentifier = true
 same_part PlainNumeral PlainNumeral = true
 same_part _ _ = false
 
+-- two lists of parts are the same
 abbrev pub same_parts : List PlainPart → List PlainPart → Bool
 same_parts [] [] = true
 same_parts (a ∷ more) (b ∷ bs) = same_part a b && same_parts more bs
@@ -98,11 +108,13 @@ same_parts _ _ = false
 abbrev pub parts_of_pattern : List PlainPatternPart → List PlainPart
 parts_of_pattern pattern = map (λ (p : PlainPatternPart). p.part) pattern
 
--- the number of the first alternative that equals the parts
+-- the number of the first alternative that equals the parts, counted from n
 abbrev pub place_among : ℕ → List (List PlainPart) → List PlainPart → Option ℕ
 place_among n [] parts = None
-place_among n (a ∷ list) parts = if same_parts a parts then Some n else place_among (n + 1) list parts
+place_among n (a ∷ list) parts =
+    if same_parts a parts then Some n else place_among (n + 1) list parts
 
 -- the alternative for which the pattern of an equation stands: the least that equals it
 abbrev pub alternative_of : List PlainItem → PlainEquation → Option ℕ
-alternative_of items e = place_among 0 (alternatives_for items e.function) (parts_of_pattern e.pattern)
+alternative_of items e =
+    place_among 0 (alternatives_for items e.function) (parts_of_pattern e.pattern)

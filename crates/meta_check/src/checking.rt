@@ -4,7 +4,8 @@ ghost use Rattle.gram_form.specs.Plain.{plain_production};
 ghost use Rattle.meta_terms.specs.PlainItems.{plain_item, plain_declaration, plain_equation};
 ghost use Rattle.gram_form.specs.GrammarErrors.{AreFew};
 ghost use Rattle.meta_check.specs.Views.{productions_of, declarations_of, equations_of};
-ghost use Rattle.meta_check.specs.MetaErrors.{IsDescriptionOf, IsMetaError};
+ghost use Rattle.meta_check.specs.MetaErrors.{IsMetaError};
+ghost use Rattle.meta_check.specs.Checked.{IsDescriptionOf};
 ghost use Rattle.meta_check.specs.Rules.{Holds, IsWellFormed, names_no_production, repeats_name};
 ghost use Rattle.gram_form.specs.Grammars.{IsGrammar};
 
@@ -81,11 +82,11 @@ fn grammar_of<'a>(
     }
 }
 
-/// Checks the items of a description, which have at least one production, and at least one declaration
-/// or equation. What the description has lies in the arena.
+/// Checks the items of a description, which have at least one production, and at least one
+/// declaration or equation. What the description has lies in the arena.
 ///
-/// `MetaError::Rule` comes exactly where a rule is broken, with the first one and the first item that
-/// breaks it; `MetaError::Memory` where no memory is left.
+/// `MetaError::Rule` comes exactly where a rule is broken, with the first one and the first item
+/// that breaks it; `MetaError::Memory` where no memory is left.
 pub fn check<'a>(
     alloc: Global,
     arena: &'a Bump,

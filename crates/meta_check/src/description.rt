@@ -3,8 +3,8 @@ use gram_form::Grammar;
 use meta_terms::{Declaration, Equation};
 use std::marker::Model;
 
-/// A description whose items meet the rules. The first production's name is the start, and the first
-/// function is the main one.
+/// A description whose items meet the rules. The first production's name is the start, and the
+/// first function is the main one.
 #[derive(Drop)]
 pub struct Description<'a> {
     /// The productions, and the literals in them.
@@ -16,13 +16,11 @@ pub struct Description<'a> {
 }
 
 impl<'a> Model for Description<'a> {
-    ghost use Rattle.std.specs.Prelude.{map};
-    ghost use Rattle.meta_terms.specs.PlainItems.{plain_declaration, plain_equation};
-    ghost use Rattle.meta_check.specs.MetaErrors.{IsChecked, PlainDescription};
+    ghost use Rattle.meta_check.specs.Checked.{IsChecked, PlainDescription, plain_description};
 
     ghost Value = { PlainDescription };
 
-    ghost view = { λ d. record { grammar = d.grammar; functions = map plain_declaration d.functions.now; equations = map plain_equation d.equations.now } };
+    ghost view = { λ d. plain_description d.grammar d.functions.now d.equations.now };
 
-    ghost invariant = { λ d. IsChecked (record { grammar = d.grammar; functions = map plain_declaration d.functions.now; equations = map plain_equation d.equations.now }) };
+    ghost invariant = { λ d. IsChecked (plain_description d.grammar d.functions.now d.equations.now) };
 }

@@ -70,10 +70,7 @@ pub fn alternatives_of_names<'t>(
 }
 
 // The parts of a pattern.
-fn parts_of<'t>(
-    alloc: Global,
-    pattern: &[PatternPart<'t>],
-) -> Result<Vec<Part<'t>>, AllocError>
+fn parts_of<'t>(alloc: Global, pattern: &[PatternPart<'t>]) -> Result<Vec<Part<'t>>, AllocError>
     ensures { let all = parts_of_pattern (map plain_pattern_part pattern.now) in
         IfOk result (λ parts. map plain_part parts.items ≡ all) }
 {

@@ -136,7 +136,8 @@ fn parts_outside(parts: &[Part<'_>], names: &IndexSet<&[u8]>) -> bool
 // Tells whether one of the alternatives has such a part.
 fn alternatives_outside(alternatives: &[&[Part<'_>]], names: &IndexSet<&[u8]>) -> bool
     ensures { let keys = texts names.now.keys in
-        result ≡ list_any (λ a. list_any (λ p. is_undefined keys (plain_part p)) a.now) alternatives.now }
+        result ≡ list_any (λ a. list_any (λ p. is_undefined keys (plain_part p)) a.now)
+        alternatives.now }
 {
     alternatives.iter().any(|parts| parts_outside(parts, names))
 }

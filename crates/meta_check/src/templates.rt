@@ -147,10 +147,13 @@ fn nodes_misuse(
     parts: &IndexMap<&[u8], Part<'_>>,
     functions: &IndexMap<&[u8], &[u8]>,
 ) -> bool
-    ensures { let nonterminal = text_for functions.now.entries in let part = part_in parts.now.entries in
+    ensures { let nonterminal = text_for functions.now.entries in
+        let part = part_in parts.now.entries in
         result ≡ list_any (λ n. not (is_fit nonterminal part (label_of n))) nodes.now }
 {
-    nodes.iter().any(|node| misuses_part(node, parts, functions))
+    nodes
+        .iter()
+        .any(|node| misuses_part(node, parts, functions))
 }
 
 // The parts of a pattern by their variables.
@@ -172,8 +175,8 @@ fn parts_by_variable<'t>(
     Ok(parts)
 }
 
-/// The first equation whose template uses a variable for another part than it stands for: `f V` for a
-/// phrase of f's nonterminal, `value of V` for a numeral, `token of V` for an identifier.
+/// The first equation whose template uses a variable for another part than it stands for: `f V` for
+/// a phrase of f's nonterminal, `value of V` for a numeral, `token of V` for an identifier.
 pub fn misused_part(
     alloc: Global,
     items: &[Item<'_>],

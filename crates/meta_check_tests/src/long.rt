@@ -29,9 +29,9 @@ fn long_description(alloc: Global, count: u32) -> Result<Vec<u8>, AllocError> {
 #[test]
 fn a_long_description_meets_the_rules(rt: HostRuntime) -> Result<(), Fail> {
     let alloc = rt.alloc();
-    let text = long_description(alloc, 6400)?;
+    let text = long_description(alloc, 8400)?;
     assert!(rt; text.len() > 1000000);
     let verdict = verdict_on(alloc, text.as_slice());
-    assert_eq!(rt; verdict, Verdict::Holds(6400, 6400, 12800));
+    assert_eq!(rt; verdict, Verdict::Holds(8400, 8400, 16800));
     Ok(())
 }

@@ -1,6 +1,6 @@
 use Rattle.std.proofs.Common.{◌∙◌, ◌+◌, ◌<◌, List, length, map, sym, ap, subst, arith}
 use Rattle.meta_terms.specs.PlainItems.{PlainItem, plain_declaration, plain_equation, plain_item}
-use Rattle.meta_check.specs.MetaErrors.{PlainDescription, IsDescriptionOf}
+use Rattle.meta_check.specs.Checked.{PlainDescription, IsDescriptionOf}
 use Rattle.meta_check.specs.Rules.{IsWellFormed}
 use Rattle.meta_check.specs.Views.{declarations_of, equations_of}
 use Rattle.meta_check.proofs.KindRules.{description_checked}

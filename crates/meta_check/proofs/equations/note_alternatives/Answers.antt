@@ -15,10 +15,10 @@ loop-number-preserved c =
           (λ name parts. ap (λ m. number_for m.entries name parts) w.table-is
           ∙ ap (λ list. number_for list name parts) (w.in_ok-insert.ensures.entries ∙ insert_same _ same_key keys_are entries (p.name, get_or p.alternatives.now c.loop-number.number _) c.loop-number.number)
           ∙ key_new entries (p.name, get_or p.alternatives.now c.loop-number.number _) c.loop-number.number name parts
-              (w.if-not-contains_key.ensures ∙ ap is_some (lookup_same _ (same_key (p.name, get_or p.alternatives.now c.loop-number.number _)) (keys_are (p.name, get_or p.alternatives.now c.loop-number.number _)) entries)))
+          (w.if-not-contains_key.ensures ∙ ap is_some (lookup_same _ (same_key (p.name, get_or p.alternatives.now c.loop-number.number _)) (keys_are (p.name, get_or p.alternatives.now c.loop-number.number _)) entries)))
       | else-not-contains_key w ↦
           one_noted c.args.table.now.entries entries c.if-not-contains_key.table.entries p.name p.alternatives.now c.loop-number.number _ c.loop-number-test.true c.loop-number.invariant
           (λ name parts. ap (λ m. number_for m.entries name parts) w.table-is
           ∙ key_known entries (p.name, get_or p.alternatives.now c.loop-number.number _) c.loop-number.number name parts
-              (w.if-not-contains_key.ensures ∙ ap is_some (lookup_same _ (same_key (p.name, get_or p.alternatives.now c.loop-number.number _)) (keys_are (p.name, get_or p.alternatives.now c.loop-number.number _)) entries)))
+          (w.if-not-contains_key.ensures ∙ ap is_some (lookup_same _ (same_key (p.name, get_or p.alternatives.now c.loop-number.number _)) (keys_are (p.name, get_or p.alternatives.now c.loop-number.number _)) entries)))
     ]

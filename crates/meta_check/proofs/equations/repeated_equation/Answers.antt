@@ -4,18 +4,11 @@ use Rattle.meta_check.specs.Rules.{repeats_equation}
 use Rattle.meta_check.specs.Views.{equations_of}
 use Rattle.meta_check.proofs.Alternatives.{ArePairs, alternative_by_is, repeats_by, repeats_none}
 use Rattle.meta_check.proofs.Filling.{none_of}
+use Rattle.meta_check.proofs.Known.{was_there, was_new}
 use Rattle.meta_check.proofs.Pairs.{pair_pushed, pairs_noted, pairs_kept, pairs_other}
 use Rattle.meta_check.proofs.Searching.{equation_breaks, equation_holds, other_holds, holds_all}
 use Rattle.meta_check.proofs.equations.repeated_equation.Goals as goal
 use Rattle.meta_check.proofs.equations.repeated_equation.Goals.{in-Equation+in_ok-found+in-Some+in_ok-insert+else-not-branch, in-Equation+in_ok-found+in_default-found, in_default}
-
-was_there : (b : Bool) → not b ≡ false → b ≡ true
-was_there true h = refl
-was_there false h = absurd (cc)
-
-was_new : (b : Bool) → not b ≡ true → b ≡ false
-was_new true h = absurd (cc)
-was_new false h = refl
 
 pub returns-then-not-branch : goal.returns-then-not-branch
 returns-then-not-branch c =
@@ -54,11 +47,11 @@ loop-number-preserved c =
                 (pairs_kept c.args.items.now number c.index-items-number.result w.in-Equation.equation seen c.loop-number-test.true c.index-items-number.is w.in-Equation.is found c.loop-number.invariant.pairs);
           }
       | in_default w ↦ record {
-          holds = other_holds repeats_equation (λ earlier all. (λ p. refl, λ d. refl)) c.args.items.now number c.index-items-number.result
-              c.loop-number.invariant.holds c.index-items-number.is w.in_default.not-Equation;
-          pairs = subst (λ keys. ArePairs all keys (equations_of (take (number + 1) all))) (sym (ap (λ s. s.keys) w.seen-is))
-              (pairs_other c.args.items.now number c.index-items-number.result seen c.loop-number-test.true c.index-items-number.is w.in_default.not-Equation c.loop-number.invariant.pairs);
-        }
+        holds = other_holds repeats_equation (λ earlier all. (λ p. refl, λ d. refl)) c.args.items.now number c.index-items-number.result
+            c.loop-number.invariant.holds c.index-items-number.is w.in_default.not-Equation;
+        pairs = subst (λ keys. ArePairs all keys (equations_of (take (number + 1) all))) (sym (ap (λ s. s.keys) w.seen-is))
+            (pairs_other c.args.items.now number c.index-items-number.result seen c.loop-number-test.true c.index-items-number.is w.in_default.not-Equation c.loop-number.invariant.pairs);
+      }
     ]
 
 pub returns : goal.returns

@@ -4,17 +4,10 @@ use Rattle.gram_form.proofs.KeyTexts.{list_any-texts, texts-insert}
 use Rattle.meta_terms.specs.PlainItems.{plain_pattern_part}
 use Rattle.meta_check.specs.Views.{variables_of}
 use Rattle.meta_check.proofs.Filling.{none_of}
+use Rattle.meta_check.proofs.Known.{was_there, was_new}
 use Rattle.meta_check.proofs.Variables.{AreDistinct, variable_known, variable_new, variable_none}
 use Rattle.meta_check.proofs.templates.distinct_variables.Goals as goal
 use Rattle.meta_check.proofs.templates.distinct_variables.Goals.{in-Some+in_ok-insert+else-not-branch, in_default}
-
-was_there : (b : Bool) → not b ≡ false → b ≡ true
-was_there true h = refl
-was_there false h = absurd (cc)
-
-was_new : (b : Bool) → not b ≡ true → b ≡ false
-was_new true h = absurd (cc)
-was_new false h = refl
 
 pub returns-then-not-branch : goal.returns-then-not-branch
 returns-then-not-branch c =
