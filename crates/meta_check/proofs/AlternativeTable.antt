@@ -1,9 +1,8 @@
 -- The table of alternatives, filled production by production.
-use Rattle.std.proofs.Common.{◌≡◌, ◌∙◌, ℕ, zero, suc, ◌+◌, ◌<◌, Bool, true, false, not, ◌&&◌, List, [], ◌∷◌, ◌++◌, length, take, get_or, map, Option, Some, None, is_some, refl, sym, ap, ap₂, add-one, arith, cond}
+use Rattle.std.proofs.Common.{◌≡◌, ◌∙◌, ℕ, zero, suc, ◌+◌, ◌<◌, Bool, true, false, ◌&&◌, List, [], ◌∷◌, ◌++◌, length, take, get_or, map, Option, Some, None, is_some, refl, sym, ap, ap₂, add-one, arith}
 use Rattle.std.specs.Prelude.{◌||◌, if◌then◌else◌}
 use Rattle.std.specs.Borrow.{Bor}
 use Rattle.std.specs.Map.{lookup}
-use Rattle.std.specs.List.{list_any}
 use Rattle.std.specs.Option.{option_or}
 use Rattle.std.specs.Str.{bytes_eq}
 use Rattle.std.proofs.lemmas.Bool.{and_parts}
@@ -15,7 +14,7 @@ use Rattle.gram_form.specs.Plain.{PlainPart, PlainProduction, plain_part, plain_
 use Rattle.gram_form.proofs.Searching.{at_some}
 use Rattle.meta_terms.specs.declared.items.Item.{Item}
 use Rattle.meta_terms.specs.declared.items.Item.TheVariants as item
-use Rattle.meta_terms.specs.PlainItems.{PlainItem, plain_item}
+use Rattle.meta_terms.specs.PlainItems.{plain_item}
 use Rattle.meta_check.specs.Rules.{Holds, repeats_name}
 use Rattle.meta_check.specs.Views.{productions_of, is_in, alternatives_of, place_among, same_parts}
 use Rattle.meta_check.specs.Tables.{Key, Alternatives, AreAlternatives, is_key, number_for, number_in}

@@ -1,13 +1,13 @@
 -- Where no name is repeated, the names of productions are distinct.
-use Rattle.std.proofs.Common.{◌≡◌, ◌∙◌, ℕ, zero, suc, ◌<◌, Bool, true, false, List, [], ◌∷◌, ◌++◌, length, get_or, map, take, refl, sym, ap, subst, arith}
-use Rattle.std.specs.Prelude.{◌||◌, IsSomeAnd, slice_get}
+use Rattle.std.proofs.Common.{◌≡◌, ◌∙◌, ℕ, zero, suc, ◌<◌, true, List, [], ◌∷◌, ◌++◌, length, get_or, refl, sym, ap, arith}
+use Rattle.std.specs.Prelude.{◌||◌}
 use Rattle.std.specs.Str.{bytes_eq}
 use Rattle.std.proofs.lemmas.Bool.{or_right}
 use Rattle.std.proofs.lemmas.Slice.Eq.{bytes_eq-Decides}
 use Rattle.gram_form.specs.Plain.{PlainProduction}
 use Rattle.gram_form.specs.Grammars.{names_of, HaveDistinctNames}
 use Rattle.meta_terms.specs.PlainItems.{PlainItem, AProduction}
-use Rattle.meta_check.specs.Rules.{Breaks, Holds, repeats_name}
+use Rattle.meta_check.specs.Rules.{Holds, repeats_name}
 use Rattle.meta_check.specs.Views.{productions_of, is_in}
 use Rattle.meta_check.proofs.InOrder.{breaks_there, production_found}
 

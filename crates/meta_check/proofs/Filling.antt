@@ -1,6 +1,6 @@
 -- Tables of texts that are filled from a list, where the first with a name counts.
-use Rattle.std.proofs.Common.{◌≡◌, ◌∙◌, ℕ, zero, suc, ◌+◌, ◌<◌, Bool, true, false, List, [], ◌∷◌, ◌++◌, length, take, get_or, map, Option, Some, None, is_some, option_to_list, refl, sym, ap}
-use Rattle.std.specs.Prelude.{◌||◌, option_map, if◌then◌else◌}
+use Rattle.std.proofs.Common.{◌≡◌, ◌∙◌, ℕ, ◌+◌, ◌<◌, Bool, true, false, List, [], ◌∷◌, ◌++◌, length, take, get_or, map, Option, Some, None, is_some, option_to_list, refl, sym, ap}
+use Rattle.std.specs.Prelude.{option_map, if◌then◌else◌}
 use Rattle.std.specs.Borrow.{Bor}
 use Rattle.std.specs.List.{list_any}
 use Rattle.std.specs.Map.{lookup}
@@ -14,7 +14,7 @@ use Rattle.meta_terms.specs.declared.items.Declaration.{Declaration}
 use Rattle.meta_terms.specs.declared.items.PatternPart.{PatternPart}
 use Rattle.meta_terms.specs.declared.items.Item.{Item}
 use Rattle.meta_terms.specs.declared.items.Item.TheVariants as item
-use Rattle.meta_terms.specs.PlainItems.{PlainDeclaration, PlainPatternPart, PlainItem, plain_item, plain_declaration, plain_pattern_part}
+use Rattle.meta_terms.specs.PlainItems.{PlainDeclaration, PlainPatternPart, plain_item, plain_declaration, plain_pattern_part}
 use Rattle.meta_check.specs.Tables.{Texts, AreNonterminals, text_for, part_in}
 use Rattle.meta_check.specs.Views.{declarations_of, nonterminal_of, part_for, parts_of_pattern}
 use Rattle.meta_check.proofs.Lookups.{else_at, same_text, text_new, text_known}

@@ -1,15 +1,15 @@
 -- Each rule asks of the items before an item those of its kind alone, and of all items no order between kinds.
-use Rattle.std.proofs.Common.{◌≡◌, ◌∙◌, ℕ, zero, suc, ◌+◌, ◌<◌, Bool, true, false, not, ◌&&◌, List, [], ◌∷◌, ◌++◌, length, take, map, flat_map, option_to_list, nat_eq, refl, sym, ap, ap₂, subst, arith}
-use Rattle.std.specs.Prelude.{is_none, IsSomeAnd, slice_get, ◌||◌}
+use Rattle.std.proofs.Common.{◌≡◌, ◌∙◌, ℕ, zero, suc, ◌+◌, ◌<◌, Bool, true, not, ◌&&◌, List, [], ◌∷◌, length, take, map, flat_map, option_to_list, nat_eq, refl, sym, ap, ap₂, subst, arith}
+use Rattle.std.specs.Prelude.{is_none, IsSomeAnd, slice_get}
 use Rattle.std.specs.List.{list_any, list_all}
 use Rattle.std.specs.Str.{bytes_eq}
-use Rattle.gram_form.specs.Plain.{PlainPart, PlainProduction, PlainNonterm}
+use Rattle.gram_form.specs.Plain.{PlainProduction, PlainNonterm}
 use Rattle.meta_terms.specs.Templates.{Label, ActionNode, YielderNode, ActionTokenOf, YielderTokenOf, Applied, ValueOf}
 use Rattle.meta_terms.specs.PlainItems.{PlainDeclaration, PlainEquation, PlainItem, AProduction, ADeclaration, AnEquation}
 use Rattle.meta_check.specs.Checked.{PlainDescription, IsDescriptionOf, IsChecked, in_order, items_of}
 use Rattle.meta_check.specs.Rules.{Rule, rules, Holds, HoldBelow, IsWellFormed, same_number, gives_the_same, fits, stands_for, repeats_name, names_no_production, names_no_function, repeats_function, equals_no_alternative, repeats_equation, misuses_variable, misuses_part, starts_elsewhere}
 use Rattle.meta_check.specs.Views.{productions_of, declarations_of, equations_of, is_in, names_outside, calls_outside, alternative_of, alternatives_of, nonterminal_of, part_for, parts_of_pattern, place_among}
-use Rattle.meta_check.proofs.InOrder.{IsOfKinds, AreSame, SameBefore, breaks_there, sorted, sorted_holds, first_found}
+use Rattle.meta_check.proofs.InOrder.{IsOfKinds, AreSame, breaks_there, sorted, sorted_holds, first_found}
 use Rattle.meta_check.proofs.Known.{same_any}
 use Rattle.meta_check.proofs.RulesBelow.{all_hold}
 

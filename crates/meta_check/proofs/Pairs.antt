@@ -1,12 +1,12 @@
 -- The pairs of functions and alternatives, item by item.
-use Rattle.std.proofs.Common.{◌≡◌, ◌∙◌, ℕ, ◌+◌, ◌<◌, Bool, true, false, List, [], ◌∷◌, ◌++◌, length, take, get_or, map, cond, Some, None, refl, sym, ap}
+use Rattle.std.proofs.Common.{◌≡◌, ◌∙◌, ℕ, ◌+◌, ◌<◌, Bool, false, List, [], ◌∷◌, ◌++◌, length, take, get_or, map, cond, Some, None, refl, sym, ap}
 use Rattle.std.specs.List.{list_any}
 use Rattle.meta_terms.specs.declared.items.Equation.{Equation}
 use Rattle.meta_terms.specs.declared.items.Item.{Item}
 use Rattle.meta_terms.specs.declared.items.Item.TheVariants as item
-use Rattle.meta_terms.specs.PlainItems.{PlainItem, PlainEquation, plain_equation, plain_item}
+use Rattle.meta_terms.specs.PlainItems.{plain_equation, plain_item}
 use Rattle.meta_check.specs.Views.{equations_of, alternative_of}
-use Rattle.meta_check.proofs.Alternatives.{Pair, ArePairs, is_for, is_pair, pair_more, pair_none}
+use Rattle.meta_check.proofs.Alternatives.{Pair, ArePairs, is_for, pair_more, pair_none}
 use Rattle.meta_check.proofs.SoFar.{equations_append, next_of, no_equation, none_more}
 
 -- the equations so far, with the one that the item is

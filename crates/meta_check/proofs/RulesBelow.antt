@@ -1,11 +1,10 @@
 -- The rules that hold, one after another, and the first that doesn't.
-use Rattle.std.proofs.Common.{◌≡◌, ℕ, zero, suc, ◌+◌, ◌-◌, ◌<◌, List, [], ◌∷◌, length, get_or, take, true, Option, Some, None, MatchOption, below_more, refl, sym, subst, arith}
+use Rattle.std.proofs.Common.{◌≡◌, ℕ, zero, suc, ◌+◌, ◌-◌, ◌<◌, List, [], ◌∷◌, length, get_or, Option, Some, None, MatchOption, below_more, refl, sym, subst, arith}
 use Rattle.std.specs.Prelude.{IsSomeAnd, slice_get}
-use Rattle.gram_form.proofs.Searching.{some_within}
 use Rattle.meta_terms.specs.PlainItems.{PlainItem}
 use Rattle.meta_check.specs.declared.breaches.Breach.{Breach}
 use Rattle.meta_check.specs.MetaErrors.{FindsBreach}
-use Rattle.meta_check.specs.Rules.{Rule, rules, Holds, HoldBelow, IsFirstBreach, IsFirstBroken, IsWellFormed}
+use Rattle.meta_check.specs.Rules.{Rule, rules, Holds, HoldBelow, IsFirstBroken, IsWellFormed}
 
 -- one rule more
 pub one_below : (items : List PlainItem) (n : ℕ) → HoldBelow items n → IsSomeAnd (slice_get rules n) (λ rule. Holds rule items) → HoldBelow items (n + 1)

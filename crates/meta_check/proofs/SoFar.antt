@@ -1,13 +1,12 @@
 -- The productions, the declarations and the equations of the items so far.
 use Rattle.std.proofs.Common.{◌≡◌, ◌∙◌, ℕ, zero, suc, ◌+◌, ◌<◌, List, [], ◌∷◌, ◌++◌, length, take, get_or, map, refl, sym, ap, append-nil, add-one, arith}
 use Rattle.std.proofs.lemmas.List.{map-append}
-use Rattle.gram_form.specs.Plain.{PlainProduction}
 use Rattle.gram_form.specs.declared.part.Production.{Production}
 use Rattle.meta_terms.specs.declared.items.Declaration.{Declaration}
 use Rattle.meta_terms.specs.declared.items.Equation.{Equation}
 use Rattle.meta_terms.specs.declared.items.Item.{Item}
 use Rattle.meta_terms.specs.declared.items.Item.TheVariants as item
-use Rattle.meta_terms.specs.PlainItems.{PlainDeclaration, PlainEquation, PlainItem, AProduction, ADeclaration, AnEquation, plain_item}
+use Rattle.meta_terms.specs.PlainItems.{PlainItem, AProduction, ADeclaration, AnEquation, plain_item}
 use Rattle.meta_check.specs.Views.{productions_of, declarations_of, equations_of}
 
 -- what is made of items, one after another

@@ -1,5 +1,5 @@
 -- Descriptions whose items meet the rules.
-use Rattle.std.specs.Prelude.{◌≡◌, ◌<◌, ℕ, List, ◌++◌, length, map}
+use Rattle.std.specs.Prelude.{◌≡◌, ◌<◌, List, ◌++◌, length, map}
 use Rattle.gram_form.specs.Plain.{PlainGrammar, PlainProduction}
 use Rattle.meta_terms.specs.declared.items.Declaration.{Declaration}
 use Rattle.meta_terms.specs.declared.items.Equation.{Equation}

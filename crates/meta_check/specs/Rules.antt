@@ -1,12 +1,12 @@
 -- The rules of descriptions: whether an item breaks one, by the items before it and by all items.
-use Rattle.std.specs.Prelude.{◌≡◌, ℕ, ◌-◌, ◌<◌, Bool, true, false, ◌&&◌, ◌||◌, not, nat_eq, List, [], ◌∷◌, length, take, map, Option, Some, None, is_none, IsSomeAnd, All, slice_get, if◌then◌else◌}
+use Rattle.std.specs.Prelude.{◌≡◌, ℕ, ◌-◌, ◌<◌, Bool, true, false, ◌&&◌, ◌||◌, not, nat_eq, List, [], ◌∷◌, length, take, map, Option, Some, None, is_none, IsSomeAnd, All, slice_get}
 use Rattle.std.specs.List.{list_any, list_all}
 use Rattle.std.specs.Option.{option_to_list}
 use Rattle.std.specs.Str.{bytes_eq}
 use Rattle.gram_form.specs.Plain.{PlainPart, PlainNonterm, PlainIdentifier, PlainNumeral}
 use Rattle.meta_terms.specs.Templates.{Label, ActionTokenOf, YielderTokenOf, Applied, ValueOf}
 use Rattle.meta_terms.specs.PlainItems.{PlainEquation, PlainItem, ADeclaration, AnEquation}
-use Rattle.meta_check.specs.Views.{productions_of, declarations_of, equations_of, nonterminals_of, functions_of, is_in, names_outside, repeats_production, repeats_declaration, calls_outside, uses_outside, variables_of, part_for, nonterminal_of, alternative_of, same_part}
+use Rattle.meta_check.specs.Views.{declarations_of, equations_of, nonterminals_of, functions_of, is_in, names_outside, repeats_production, repeats_declaration, calls_outside, uses_outside, variables_of, part_for, nonterminal_of, alternative_of, same_part}
 
 -- a rule: whether an item breaks it, by the items before it and by all items
 abbrev pub Rule : Type 0

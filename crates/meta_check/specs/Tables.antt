@@ -1,7 +1,7 @@
 -- What the tables of names hold.
-use Rattle.std.specs.Prelude.{◌≡◌, ℕ, Bool, true, false, ◌&&◌, List, [], ◌∷◌, map, Option, Some, None, if◌then◌else◌, option_map}
+use Rattle.std.specs.Prelude.{◌≡◌, ℕ, Bool, ◌&&◌, List, map, Option, Some, None, if◌then◌else◌, option_map}
 use Rattle.std.specs.Borrow.{Bor}
-use Rattle.std.specs.List.{list_all, list_any}
+use Rattle.std.specs.List.{list_all}
 use Rattle.std.specs.Map.{lookup}
 use Rattle.std.specs.Option.{option_to_list}
 use Rattle.std.specs.Str.{bytes_eq}
@@ -10,7 +10,7 @@ use Rattle.gram_form.specs.Plain.{PlainPart, PlainNonterm, PlainIdentifier, Plai
 use Rattle.meta_terms.specs.Templates.{Label, ActionTokenOf, YielderTokenOf, Applied, ValueOf}
 use Rattle.meta_terms.specs.PlainItems.{PlainEquation, PlainItem}
 use Rattle.meta_check.specs.Views.{productions_of, declarations_of, nonterminal_of, alternatives_of, parts_of_pattern, place_among, same_parts, used_by}
-use Rattle.meta_check.specs.Rules.{same_number, stands_for}
+use Rattle.meta_check.specs.Rules.{stands_for}
 
 -- a table of texts by texts
 abbrev pub Texts : Type 0

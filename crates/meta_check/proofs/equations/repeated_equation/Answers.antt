@@ -1,4 +1,4 @@
-use Rattle.std.proofs.Common.{◌≡◌, ◌∙◌, ◌+◌, Bool, true, false, not, map, take, refl, sym, ap, subst}
+use Rattle.std.proofs.Common.{◌∙◌, ◌+◌, map, take, refl, sym, ap, subst}
 use Rattle.meta_terms.specs.PlainItems.{plain_equation, plain_item}
 use Rattle.meta_check.specs.Rules.{repeats_equation}
 use Rattle.meta_check.specs.Views.{equations_of}

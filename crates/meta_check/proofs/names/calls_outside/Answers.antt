@@ -1,4 +1,4 @@
-use Rattle.std.proofs.Common.{◌≡◌, ◌∙◌, Bool, true, false, not, map, sym, ap}
+use Rattle.std.proofs.Common.{◌≡◌, ◌∙◌, true, false, not, map, sym, ap}
 use Rattle.std.specs.Prelude.{◌||◌}
 use Rattle.std.specs.List.{list_any}
 use Rattle.gram_form.specs.Plain.{texts}

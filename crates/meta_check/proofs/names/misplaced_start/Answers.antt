@@ -1,4 +1,4 @@
-use Rattle.std.proofs.Common.{◌∙◌, map, sym, ap}
+use Rattle.std.proofs.Common.{◌∙◌, sym, ap}
 use Rattle.meta_check.specs.Rules.{starts_elsewhere}
 use Rattle.meta_check.specs.Views.{declarations_of, is_in}
 use Rattle.meta_check.proofs.Searching.{holds_all}

@@ -1,4 +1,4 @@
-use Rattle.std.proofs.Common.{◌≡◌, ◌∙◌, ℕ, ◌+◌, Bool, true, false, not, List, map, take, refl, sym, ap, subst}
+use Rattle.std.proofs.Common.{◌∙◌, ℕ, ◌+◌, List, map, take, sym, ap, subst}
 use Rattle.gram_form.specs.Plain.{texts}
 use Rattle.gram_form.proofs.KeyTexts.{list_any-texts, texts-insert}
 use Rattle.meta_terms.specs.PlainItems.{plain_pattern_part}

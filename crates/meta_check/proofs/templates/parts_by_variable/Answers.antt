@@ -1,4 +1,4 @@
-use Rattle.std.proofs.Common.{◌≡◌, ◌∙◌, Option, Some, None, refl, ap}
+use Rattle.std.proofs.Common.{◌∙◌, ap}
 use Rattle.meta_check.specs.Tables.{part_in}
 use Rattle.meta_check.proofs.Filling.{none_of, part_added, part_kept, part_noted, part_none}
 use Rattle.meta_check.proofs.templates.parts_by_variable.Goals as goal
