@@ -26,6 +26,33 @@ fn long_description(alloc: Global, count: u32) -> Result<Vec<u8>, AllocError> {
     Ok(text)
 }
 
+// A description of one nonterminal with so many alternatives, and an equation for each.
+fn wide_description(alloc: Global, count: u32) -> Result<Vec<u8>, AllocError> {
+    let mut text = Vec::new(alloc);
+    text.extend_from_slice(b"grammar\nP = [[ numeral ]]\n")?;
+    for n in 0..count {
+        let line = format!(in alloc; "| [[ \"w{n}\" P \"and\" identifier ]]\n")?;
+        text.extend_from_slice(line.as_bytes())?;
+    }
+    text.extend_from_slice(b".\nsemantics\nf _ : P .\n")?;
+    for n in 0..count {
+        let line = format!(in alloc; "f [[ \"w{n}\" X:P \"and\" I:identifier ]] = f X .\n")?;
+        text.extend_from_slice(line.as_bytes())?;
+    }
+    text.extend_from_slice(b"end .\n")?;
+    Ok(text)
+}
+
+#[test]
+fn a_wide_description_meets_the_rules(rt: HostRuntime) -> Result<(), Fail> {
+    let alloc = rt.alloc();
+    let text = wide_description(alloc, 14000)?;
+    assert!(rt; text.len() > 1000000);
+    let verdict = verdict_on(alloc, text.as_slice());
+    assert_eq!(rt; verdict, Verdict::Holds(1, 1, 14000));
+    Ok(())
+}
+
 #[test]
 fn a_long_description_meets_the_rules(rt: HostRuntime) -> Result<(), Fail> {
     let alloc = rt.alloc();

@@ -21,8 +21,16 @@ fn names_the_rule_that_an_edit_breaks(rt: HostRuntime) -> Result<(), Fail> {
         ),
         (b"\"+\" E", b"\"+\" F", Verdict::Breaks(2, 1)),
         (b"  evaluate _ : E .\n", b"", Verdict::Breaks(3, 3)),
-        (b"run _ : P .", b"run _ : P . run _ : P .", Verdict::Breaks(4, 3)),
-        (b"run [[ X:E ]]", b"run [[ X:E \"!\" ]]", Verdict::Breaks(5, 4)),
+        (
+            b"run _ : P .",
+            b"run _ : P . run _ : P .",
+            Verdict::Breaks(4, 3),
+        ),
+        (
+            b"run [[ X:E ]]",
+            b"run [[ X:E \"!\" ]]",
+            Verdict::Breaks(5, 4),
+        ),
         (
             b"end .",
             b"evaluate [[ N:numeral ]] = give value of N .\nend .",
@@ -120,7 +128,8 @@ fn names_an_equation_that_breaks_a_rule(rt: HostRuntime) {
             Verdict::Breaks(8, 2),
         ),
         (
-            b"grammar P = [[ numeral ]] . semantics f _ : P . f [[ X:numeral ]] = bind token of X to 1 . end .",
+            b"grammar P = [[ numeral ]] . semantics f _ : P .
+f [[ X:numeral ]] = bind token of X to 1 . end .",
             Verdict::Breaks(8, 2),
         ),
         (
@@ -147,11 +156,13 @@ fn names_the_least_rule_and_then_the_first_item(rt: HostRuntime) {
             Verdict::Breaks(1, 1),
         ),
         (
-            b"grammar P = [[ ]] . semantics f _ : P . f [[ \"a\" ]] = f X . f [[ \"b\" ]] = f X . end .",
+            b"grammar P = [[ ]] . semantics f _ : P . f [[ \"a\" ]] = f X .
+f [[ \"b\" ]] = f X . end .",
             Verdict::Breaks(5, 2),
         ),
         (
-            b"grammar P = [[ ]] | [[ ]] . semantics f _ : P . f [[ ]] = fail . f [[ ]] = fail . end .",
+            b"grammar P = [[ ]] | [[ ]] . semantics f _ : P . f [[ ]] = fail .
+f [[ ]] = fail . end .",
             Verdict::Breaks(6, 3),
         ),
     ];

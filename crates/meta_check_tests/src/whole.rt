@@ -16,10 +16,7 @@ fn what_is_cut_off_is_no_description(rt: HostRuntime) {
     assert_eq!(rt; verdict_on(alloc, whole), Verdict::Holds(2, 2, 3));
     for end in 0..341 {
         let (front, _) = SUMS.split_at(end);
-        let refused = matches!(
-            verdict_on(alloc, front),
-            Verdict::Byte(_) | Verdict::Run(_)
-        );
+        let refused = matches!(verdict_on(alloc, front), Verdict::Byte(_) | Verdict::Run(_));
         assert!(rt; refused);
     }
 }
