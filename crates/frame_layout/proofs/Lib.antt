@@ -1,0 +1,10 @@
+pub mod Words
+pub mod Placed
+pub mod RowLengths
+pub mod ProcedureRoots
+pub mod Placing
+pub mod FrameLaws
+pub mod LayoutLaws
+pub mod Grouping
+pub mod GraphParts
+pub mod NodeLists

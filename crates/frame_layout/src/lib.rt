@@ -2,6 +2,11 @@
 //! their frames.
 #![tactic(auto)]
 
+mod frames;
+mod lengths;
 pub mod places;
+mod roots;
+mod rows;
 
+pub use frames::layout;
 pub use places::{Layout, NodePlaces, Procedure};
