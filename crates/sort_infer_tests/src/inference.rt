@@ -6,7 +6,7 @@ use sort_infer::{SortError, infer};
 use sort_rules::rows::MarkedRow;
 use sort_rules::sets::atoms;
 use sort_rules::values::Value;
-use sort_rules::{MarkedBinds, MarkedTuple};
+use sort_rules::{MarkedBinds, MarkedTuple, factor, slots};
 use std::alloc::Global;
 use std::process::Abort;
 use std::test::Fail;
@@ -106,5 +106,56 @@ fn what_is_given_is_sent(rt: HostRuntime) -> Result<(), Fail> {
     };
     assert_eq!(rt; rows.get(1).copied(), Some(give));
     assert_eq!(rt; table.width(), 1);
+    Ok(())
+}
+
+// The slots of the procedures of the action whose nodes these are, and its factor, by its least
+// table.
+fn measures(rt: &impl Abort, alloc: Global, nodes: &[Pushed<'_>]) -> Result<(Vec<u64>, u64), Fail> {
+    let arena = Bump::new(alloc);
+    let graph = graph_of(rt, alloc, &arena, nodes)?;
+    match infer(alloc, &arena, &graph) {
+        Ok(table) => Ok((
+            slots(alloc, &graph, &table)?,
+            factor(alloc, &graph, &table)?,
+        )),
+        Err(_error) => Err("no table".into()),
+    }
+}
+
+// `(give 1) then (send the given integer)`: two places of one integer each
+#[test]
+fn places_take_words(rt: HostRuntime) -> Result<(), Fail> {
+    let nodes = [
+        action(Kind::Then, 0),
+        action(Kind::Give, 1),
+        datum(YKind::Number(1)),
+        action(Kind::Send, 0),
+        datum(YKind::Given {
+            sort: Sort::Integer,
+            place: 0,
+        }),
+    ];
+    let (slots, factor) = measures(&rt, rt.alloc(), &nodes)?;
+    assert_eq!(rt; slots.as_slice(), [58, 0, 0].as_slice());
+    assert_eq!(rt; factor, 496);
+    Ok(())
+}
+
+// `enact closure abstraction of (send 1 and send 2)`
+#[test]
+fn a_body_takes_words_of_its_own(rt: HostRuntime) -> Result<(), Fail> {
+    let nodes = [
+        action(Kind::Enact, 0),
+        datum(YKind::Closure),
+        action(Kind::And, 0),
+        action(Kind::Send, 0),
+        datum(YKind::Number(1)),
+        action(Kind::Send, 0),
+        datum(YKind::Number(2)),
+    ];
+    let (slots, factor) = measures(&rt, rt.alloc(), &nodes)?;
+    assert_eq!(rt; slots.as_slice(), [40, 56, 0, 0].as_slice());
+    assert_eq!(rt; factor, 448);
     Ok(())
 }

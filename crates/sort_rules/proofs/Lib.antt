@@ -53,4 +53,7 @@ pub mod Reaches
 pub mod HoldLaws
 pub mod MarkedLaws
 pub mod NodeWalks
+pub mod ProcedureWalks
+pub mod SlotWalks
+pub mod YielderCounts
 pub mod ValueMembers

@@ -10,9 +10,13 @@ use Rattle.action_terms.specs.declared.graph.Node.{Node as NodeInMemory}
 use Rattle.action_terms.proofs.GraphLaws.{length-nodes_few}
 use Rattle.sort_rules.specs.Demands.{allocates_from, closure_bodies, closures_at, is_allocate}
 
+-- a graph's action has as many nodes as the graph
+pub length-action : (g : Listed) → length g.nodes ≡ length (action_of g)
+length-action g = sym (length-map g.nodes (node_with (items_from 0 g.yielders)))
+
 -- the nodes of a graph in memory are as many as its action has
 pub length-nodes : (g : Listed) (ns : List NodeInMemory) → map listed_node ns ≡ g.nodes → length ns ≡ length (action_of g)
-length-nodes g ns e = sym (length-map ns listed_node) ∙ ap length e ∙ sym (length-map g.nodes (node_with (items_from 0 g.yielders)))
+length-nodes g ns e = sym (length-map ns listed_node) ∙ ap length e ∙ length-action g
 
 -- and at most 65,536
 pub nodes-few : (g : Listed) (ns : List NodeInMemory) → map listed_node ns ≡ g.nodes → IsGraph g → length ns ≤ 65536
@@ -22,7 +26,7 @@ nodes-few g ns e h =
     omega (arith, same, few)
 
 -- the first of the nodes that are left
-drop-node : (a : Action) (k : ℕ) → k < length a → drop k a ≡ node_at a k ∷ drop (suc k) a
+pub drop-node : (a : Action) (k : ℕ) → k < length a → drop k a ≡ node_at a k ∷ drop (suc k) a
 drop-node [] k h = absurd (omega arith)
 drop-node (n ∷ a) zero h = refl
 drop-node (n ∷ a) (suc k) h = drop-node a k (omega arith)

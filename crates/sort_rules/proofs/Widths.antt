@@ -13,7 +13,7 @@ use Rattle.sort_rules.specs.Shapes.{part_length}
 use Rattle.sort_rules.specs.Wellformed.{IsSort, ListedSort, UnreachedSort}
 use Rattle.sort_rules.proofs.ClearTables.{row_at}
 
-part-most : {x : Part} → IsSort x → part_length x ≤ most_components
+pub part-most : {x : Part} → IsSort x → part_length x ≤ most_components
 part-most UnreachedSort = omega arith
 part-most (ListedSort f l) = l
 

@@ -13,6 +13,7 @@ pub mod Operands
 pub mod Soundness
 pub mod Procedures
 pub mod Measures
+pub mod Filling
 pub mod Wellformed
 pub mod Rows
 pub mod Tests

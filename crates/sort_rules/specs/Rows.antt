@@ -1,5 +1,5 @@
 -- What contracts see of a table in memory: the rows and the contents of its nodes.
-use Rattle.std.specs.Prelude.{◌≡◌, ℕ, List, length, max, slice_index_or}
+use Rattle.std.specs.Prelude.{◌≡◌, ℕ, ◌+◌, List, length, max, slice_index_or}
 use Rattle.action_terms.specs.Actions.{Action}
 use Rattle.sort_rules.specs.Sets.{Set, empty_set}
 use Rattle.sort_rules.specs.Parts.{Part, Unreached}
@@ -21,6 +21,10 @@ pub record SortRow : Type 0 where
 abbrev pub row_length : SortRow → ℕ
 row_length r =
     max (part_length r.data_in) (max (part_length r.binds_in) (max (part_length r.data_out) (max (part_length r.binds_out) (part_length r.escaped))))
+
+-- the words that a row takes among the slots
+abbrev pub row_words : SortRow → ℕ
+row_words r = 8 + part_length r.data_in + part_length r.binds_in + part_length r.data_out + part_length r.binds_out + part_length r.escaped
 
 -- the rows, and the contents of the cells of each node
 pub record SortTable : Type 0 where

@@ -66,8 +66,8 @@ impl<'a> Model for Table<'a> {
     ghost invariant = { λ t. IsTable (sort_table t.rows.now t.contents.now) };
 }
 
-// The length of a tuple, 0 where it is unreached.
-fn tuple_length(sort: TupleSort<'_>) -> usize
+/// The length of a tuple, 0 where it is unreached.
+pub(crate) fn tuple_length(sort: TupleSort<'_>) -> usize
     ensures { result ≡ part_length (tuple_of sort.entry) }
 {
     match sort {
@@ -76,8 +76,8 @@ fn tuple_length(sort: TupleSort<'_>) -> usize
     }
 }
 
-// The length of bindings, 0 where they are unreached.
-fn binds_length(sort: BindSort<'_>) -> usize
+/// The length of bindings, 0 where they are unreached.
+pub(crate) fn binds_length(sort: BindSort<'_>) -> usize
     ensures { result ≡ part_length (binds_of sort.entry) }
 {
     match sort {

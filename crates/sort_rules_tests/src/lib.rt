@@ -4,6 +4,8 @@
 #[cfg(test)]
 mod judgements;
 #[cfg(test)]
+mod measures;
+#[cfg(test)]
 mod parts;
 #[cfg(test)]
 mod tables;
