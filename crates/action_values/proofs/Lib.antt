@@ -4,9 +4,7 @@ pub mod Overlaying
 pub mod Putting
 pub mod Laying
 pub mod DataLists
-pub mod ItemsAt
-pub mod ItemValues
 pub mod Stacks
-pub mod Opening
+pub mod Visiting
 pub mod Turns
 pub mod Answered

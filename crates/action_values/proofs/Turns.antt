@@ -1,18 +1,19 @@
 -- A walk over a yielder ends: arguments have greater numbers.
-use Rattle.std.proofs.Common.{◌≡◌, ℕ, suc, ◌+◌, ◌-◌, ◌*◌, ◌^◌, ◌<◌, ◌≤◌, max, Bool, true, false, cond, List, [], ◌∷◌, ◌++◌, Some, None, lit<, arith, ap, ◌∙◌}
-use Rattle.std.specs.Prelude.{IsTrue, sum_by, option_map}
+use Rattle.std.proofs.Common.{◌≡◌, ℕ, suc, ◌+◌, ◌-◌, ◌*◌, ◌^◌, ◌<◌, ◌≤◌, true, List, [], ◌∷◌, ◌++◌, lit<, arith, refl, ap, ◌∙◌}
+use Rattle.std.specs.Prelude.{sum_by}
 use Rattle.std.proofs.Math.Nat.{one-le-pow, pow-le-pow_right}
 use Rattle.std.proofs.lemmas.Grind.{pow_more}
 use Rattle.std.proofs.lemmas.List.Sums.{sum_by-append, sum_by-cons}
-use Rattle.action_terms.specs.declared.kinds.YKind.{YKind}
-use Rattle.action_values.specs.Evaluation.{arguments_of, opened, opened_by, job_turns}
-use Rattle.action_values.specs.declared.yielding.Arguments.{Arguments}
-use Rattle.action_values.specs.declared.yielding.Arguments.TheVariants as arguments
-use Rattle.action_values.specs.declared.yielding.Job.{Job}
-use Rattle.action_values.specs.declared.yielding.Job.TheVariants as job
+use Rattle.action_terms.specs.Numbering.{ListedYielder}
+use Rattle.action_terms.specs.Forms.{HasArguments}
+use Rattle.action_terms.specs.declared.view.YielderView.{YielderView}
+use Rattle.action_terms.specs.declared.view.YielderView.TheVariants as yielder
+use Rattle.action_values.specs.Evaluation.{is_operation, opened, job_turns}
+use Rattle.action_values.specs.declared.walk.Job.{Job}
+use Rattle.action_values.specs.declared.walk.Job.TheVariants as job
 
-power_from : (count n x : ℕ) → 4 ^ (count - max x (suc n)) ≤ 4 ^ (count - suc n)
-power_from count n x = pow-le-pow_right {n = 4} (lit< tt) (omega arith)
+power_from : (count n x : ℕ) → n < x → 4 ^ (count - x) ≤ 4 ^ (count - suc n)
+power_from count n x less = pow-le-pow_right {n = 4} (lit< tt) (omega arith)
 
 power_here : (count n : ℕ) → n < count → 4 ^ (count - n) ≡ 4 ^ (count - suc n) * 4
 power_here count n h =
@@ -22,34 +23,31 @@ power_here count n h =
 pub power_one : (k : ℕ) → 1 ≤ 4 ^ k
 power_one k = one-le-pow k 4 (lit< tt)
 
--- the turns of the jobs of one argument, and of two
-one_fewer : (count n x : ℕ) → n < count → 4 ^ (count - max x (suc n)) + 1 < 4 ^ (count - n)
-one_fewer count n x h = omega (arith, power_from count n x, power_here count n h, power_one (count - suc n))
+module _ (count n : ℕ) (within : n < count) where
+  -- the turns of the jobs of one argument, and of two
+  one_fewer : (x : ℕ) (j : Job) (js : List Job) → n < x → job_turns count j ≡ 1
+      → sum_by (job_turns count) (job.Visit x ∷ j ∷ js) < 4 ^ (count - n) + sum_by (job_turns count) js
+  one_fewer x j js less one =
+      omega (arith, sum_by-cons (job_turns count) (job.Visit x) (j ∷ js), sum_by-cons (job_turns count) j js, power_from count n x less, power_here count n within, power_one (count - suc n))
 
-two_fewer : (count n x y : ℕ) → n < count → 4 ^ (count - max x (suc n)) + (4 ^ (count - max y (suc n)) + 1) < 4 ^ (count - n)
-two_fewer count n x y h = omega (arith, power_from count n x, power_from count n y, power_here count n h, power_one (count - suc n))
-
-module _ (count n : ℕ) (h : n < count) (k : YKind) where
-  one_sum : (x : ℕ) → sum_by (job_turns count) (job.Visit (max x (suc n)) ∷ job.One k ∷ []) < 4 ^ (count - n)
-  one_sum x = omega (arith, sum_by-cons (job_turns count) (job.Visit (max x (suc n))) (job.One k ∷ []), one_fewer count n x h)
-
-  two_sum : (x y : ℕ) → sum_by (job_turns count) (job.Visit (max x (suc n)) ∷ job.Visit (max y (suc n)) ∷ job.Two k ∷ []) < 4 ^ (count - n)
-  two_sum x y = omega (arith, sum_by-cons (job_turns count) (job.Visit (max x (suc n))) (job.Visit (max y (suc n)) ∷ job.Two k ∷ []), sum_by-cons (job_turns count) (job.Visit (max y (suc n))) (job.Two k ∷ []), two_fewer count n x y h)
+  two_fewer : (x y : ℕ) (j : Job) (js : List Job) → n < x → n < y → job_turns count j ≡ 1
+      → sum_by (job_turns count) (job.Visit x ∷ job.Visit y ∷ j ∷ js) < 4 ^ (count - n) + sum_by (job_turns count) js
+  two_fewer x y j js less less2 one =
+      omega (
+        arith,
+        sum_by-cons (job_turns count) (job.Visit x) (job.Visit y ∷ j ∷ js),
+        sum_by-cons (job_turns count) (job.Visit y) (j ∷ js),
+        sum_by-cons (job_turns count) j js,
+        power_from count n x less,
+        power_from count n y less2,
+        power_here count n within,
+        power_one (count - suc n),
+      )
 
   -- the jobs of a yielder that is opened, and those that were there
-  opened_sum : (a : Arguments) (xs : List ℕ) (js left : List Job) → Some left ≡ option_map (λ os. os ++ js) (opened_by a n k xs) →
-      sum_by (job_turns count) left < 4 ^ (count - n) + sum_by (job_turns count) js
-  opened_sum arguments.One (x ∷ []) js left e =
-      let l : left ≡ job.Visit (max x (suc n)) ∷ job.One k ∷ js = cc in
-      omega (arith, ap (sum_by (job_turns count)) l, sum_by-append (job_turns count) (job.Visit (max x (suc n)) ∷ job.One k ∷ []) js, one_sum x)
-  opened_sum arguments.Two (x ∷ y ∷ []) js left e =
-      let l : left ≡ job.Visit (max x (suc n)) ∷ job.Visit (max y (suc n)) ∷ job.Two k ∷ js = cc in
-      omega (arith, ap (sum_by (job_turns count)) l, sum_by-append (job_turns count) (job.Visit (max x (suc n)) ∷ job.Visit (max y (suc n)) ∷ job.Two k ∷ []) js, two_sum x y)
-  opened_sum a xs js left e = cc
-
-  pub opened-turns : (xs : List ℕ) (js left : List Job) (going : Bool) → cond going (Some left) None ≡ option_map (λ os. os ++ js) (opened n k xs) → IsTrue going →
-      sum_by (job_turns count) left < 4 ^ (count - n) + sum_by (job_turns count) js
-  opened-turns xs js left true e t = opened_sum (arguments_of k) xs js left e
-  opened-turns xs js left false e t = cc
-
-pub ruleset turns_taken = (power_one)
+  pub opened-turns : (ls : List ListedYielder) (v : YielderView) → HasArguments ls n v → is_operation v ≡ true → (js : List Job)
+      → sum_by (job_turns count) (opened v ++ js) < 4 ^ (count - n) + sum_by (job_turns count) js
+  opened-turns ls (yielder.StoredIn s x) h operation js = one_fewer x (job.Stored s) js h.0 refl
+  opened-turns ls (yielder.OnOne f x) h operation js = one_fewer x (job.One f) js h.0 refl
+  opened-turns ls (yielder.OnTwo f x y) h operation js = two_fewer x y (job.Two f) js h.0.0 h.1.0 refl
+  opened-turns ls _ h operation js = cc

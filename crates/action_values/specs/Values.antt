@@ -1,9 +1,6 @@
 -- What data and bindings in memory stand for.
-use Rattle.std.specs.Prelude.{ℕ, List, [], ◌∷◌, map, Option, option_map, slice_get}
+use Rattle.std.specs.Prelude.{List, [], ◌∷◌, map, Option, option_map}
 use Rattle.action_terms.specs.Information.{Datum as Meant, Number, Truth, CellOf, Closure, Binds, NoBinds, Bound, Token, Data, Storage}
-use Rattle.action_terms.specs.Actions.{Item}
-use Rattle.action_terms.specs.Numbering.{ListedYielder}
-use Rattle.action_terms.specs.Meaning.{item_or_them, items_from, picked}
 use Rattle.action_values.specs.declared.datum.Datum.{Datum, Datum-F, fold-Datum}
 use Rattle.action_values.specs.declared.datum.Datum.TheOpen as open_data
 use Rattle.action_values.specs.declared.datum.Binding.{Binding, Binding-F, fold-Binding}
@@ -44,11 +41,3 @@ bindings_of b = binds_of (map pair_of b)
 -- the storage of cells in memory
 abbrev pub storage_of : List (Option Datum) → Storage
 storage_of cells = map (option_map meant) cells
-
--- the item of number y, of these yielders
-abbrev pub item_at : List ListedYielder → ℕ → Item
-item_at ls y = item_or_them (slice_get (items_from 0 ls) y)
-
--- the items of these numbers
-abbrev pub items_at : List ListedYielder → List ℕ → List Item
-items_at ls numbers = picked 0 (items_from 0 ls) numbers

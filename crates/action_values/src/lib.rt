@@ -2,9 +2,12 @@
 #![tactic(auto)]
 
 pub mod bindings;
+mod context;
 pub mod data;
 pub mod datum;
+mod leaves;
 mod operations;
+mod walk;
 pub mod yielding;
 
 pub use datum::{Binding, Datum};

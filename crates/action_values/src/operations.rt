@@ -1,12 +1,12 @@
 //! The operations of yielders on data. Integers are of 64 bits, signed.
 ghost use Rattle.std.specs.Prelude.{◌≡◌, ◌+ℤ◌, ◌-ℤ◌, ◌*ℤ◌, neg_ℤ, int_rem, int_div, option_map};
 ghost use Rattle.action_terms.specs.Information.{Number, Truth, CellOf};
-ghost use Rattle.action_terms.specs.Yielding.{within_64, divided, of_sort};
+ghost use Rattle.action_terms.specs.Yielding.{within_64, divided, of_sort, on_two, on_one};
+ghost use Rattle.action_terms.specs.Forms.{two_viewed, one_viewed};
 ghost use Rattle.action_values.specs.Values.{meant};
-ghost use Rattle.action_values.specs.Operations.{two_of, one_of, value_of_two, value_of_one};
 
 use crate::datum::Datum;
-use action_terms::{Sort, YKind};
+use action_terms::{One, Sort, Two};
 
 /// The datum, where it is of the sort.
 pub fn of_sort<'a>(sort: Sort, datum: Datum<'a>) -> Option<Datum<'a>>
@@ -72,60 +72,60 @@ fn number<'a>(value: Option<i64>) -> Option<Datum<'a>>
     }
 }
 
-fn on_numbers<'a>(kind: YKind, x: i64, y: i64) -> Option<Datum<'a>>
-    ensures { option_map meant result ≡ value_of_two (two_of kind) (Number x) (Number y) }
+fn on_numbers<'a>(operation: Two, x: i64, y: i64) -> Option<Datum<'a>>
+    ensures { option_map meant result ≡ on_two (two_viewed operation) (Number x) (Number y) }
 {
-    match kind {
-        YKind::Sum => number(sum(x, y)),
-        YKind::Difference => number(difference(x, y)),
-        YKind::Product => number(product(x, y)),
-        YKind::Quotient => number(quotient(x, y)),
-        YKind::Remainder => number(remainder(x, y)),
-        YKind::Is => Some(Datum::Truth(x == y)),
-        YKind::Less => Some(Datum::Truth(x < y)),
+    match operation {
+        Two::Sum => number(sum(x, y)),
+        Two::Difference => number(difference(x, y)),
+        Two::Product => number(product(x, y)),
+        Two::Quotient => number(quotient(x, y)),
+        Two::Remainder => number(remainder(x, y)),
+        Two::Is => Some(Datum::Truth(x == y)),
+        Two::Less => Some(Datum::Truth(x < y)),
         _ => None,
     }
 }
 
-fn on_truths<'a>(kind: YKind, x: bool, y: bool) -> Option<Datum<'a>>
-    ensures { option_map meant result ≡ value_of_two (two_of kind) (Truth x) (Truth y) }
+fn on_truths<'a>(operation: Two, x: bool, y: bool) -> Option<Datum<'a>>
+    ensures { option_map meant result ≡ on_two (two_viewed operation) (Truth x) (Truth y) }
 {
-    match kind {
-        YKind::Is => Some(Datum::Truth(x == y)),
-        YKind::Both => Some(Datum::Truth(x && y)),
-        YKind::Either => Some(Datum::Truth(x || y)),
+    match operation {
+        Two::Is => Some(Datum::Truth(x == y)),
+        Two::BothOf => Some(Datum::Truth(x && y)),
+        Two::EitherOf => Some(Datum::Truth(x || y)),
         _ => None,
     }
 }
 
-fn on_cells<'a>(kind: YKind, x: usize, y: usize) -> Option<Datum<'a>>
-    ensures { option_map meant result ≡ value_of_two (two_of kind) (CellOf x) (CellOf y) }
+fn on_cells<'a>(operation: Two, x: usize, y: usize) -> Option<Datum<'a>>
+    ensures { option_map meant result ≡ on_two (two_viewed operation) (CellOf x) (CellOf y) }
 {
-    match kind {
-        YKind::Is => Some(Datum::Truth(x == y)),
+    match operation {
+        Two::Is => Some(Datum::Truth(x == y)),
         _ => None,
     }
 }
 
 /// What an operation on two data gives.
-pub fn on_two<'a>(kind: YKind, first: Datum<'a>, second: Datum<'a>) -> Option<Datum<'a>>
-    ensures { option_map meant result ≡ value_of_two (two_of kind) (meant first.entry) (meant second.entry) }
+pub fn on_two<'a>(operation: Two, first: Datum<'a>, second: Datum<'a>) -> Option<Datum<'a>>
+    ensures { option_map meant result ≡ on_two (two_viewed operation) (meant first.entry) (meant second.entry) }
 {
     match (first, second) {
-        (Datum::Number(x), Datum::Number(y)) => on_numbers(kind, x, y),
-        (Datum::Truth(x), Datum::Truth(y)) => on_truths(kind, x, y),
-        (Datum::Cell(x), Datum::Cell(y)) => on_cells(kind, x, y),
+        (Datum::Number(x), Datum::Number(y)) => on_numbers(operation, x, y),
+        (Datum::Truth(x), Datum::Truth(y)) => on_truths(operation, x, y),
+        (Datum::Cell(x), Datum::Cell(y)) => on_cells(operation, x, y),
         _ => None,
     }
 }
 
 /// What an operation on one datum gives.
-pub fn on_one<'a>(kind: YKind, datum: Datum<'a>) -> Option<Datum<'a>>
-    ensures { option_map meant result ≡ value_of_one (one_of kind) (meant datum.entry) }
+pub fn on_one<'a>(operation: One, datum: Datum<'a>) -> Option<Datum<'a>>
+    ensures { option_map meant result ≡ on_one (one_viewed operation) (meant datum.entry) }
 {
-    match (kind, datum) {
-        (YKind::Negation, Datum::Number(x)) => number(negation(x)),
-        (YKind::Not, Datum::Truth(x)) => Some(Datum::Truth(!x)),
+    match (operation, datum) {
+        (One::Negation, Datum::Number(x)) => number(negation(x)),
+        (One::Not, Datum::Truth(x)) => Some(Datum::Truth(!x)),
         _ => None,
     }
 }
