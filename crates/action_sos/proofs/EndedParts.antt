@@ -3,20 +3,21 @@ use Rattle.std.proofs.Common.{◌≡◌, ℕ, zero, suc, ◌<◌, List, [], ◌�
 use Rattle.std.specs.Prelude.{Some, slice_get, option_map}
 use Rattle.std.proofs.lemmas.Option.{slice_get-map}
 use Rattle.std.proofs.lemmas.List.{length-map}
+use Rattle.action_terms.specs.Meaning.{action_of}
 use Rattle.action_terms.specs.Information.{World}
 use Rattle.action_terms.specs.Actions.{Node, Action, node_at}
 use Rattle.action_terms.specs.Acting.{End, Tree, Ended}
 use Rattle.action_terms.specs.Steps.{Letter, Joins, TakesLeft, TakesRight, Silent, Step, silent, at_letter, after_any, after_both, after_broken, open_steps}
 use Rattle.action_terms.specs.Frames.{Frame as FrameMeant, InCalled, InParLeft, InParRight, InFirst, InSecond, InOr, InCut, InTrap, InOver, wrap}
 use Rattle.action_sos.specs.declared.ends.End.{End as EndAt}
-use Rattle.action_sos.specs.declared.moves.Lists.{Lists}
+use Rattle.action_terms.specs.Numbering.{Listed}
 use Rattle.action_sos.specs.declared.part.Frame.{Frame}
 use Rattle.action_sos.specs.declared.part.Frame.TheVariants as frame
 use Rattle.action_sos.specs.declared.part.Side.{Side}
 use Rattle.action_sos.specs.declared.part.Side.TheVariants as side
 use Rattle.action_sos.specs.Parts.{IsKeptFrame}
 use Rattle.action_sos.specs.Views.{frame_of, end_of}
-use Rattle.action_sos.specs.Moves.{action_in, IsStepAt, ended_steps}
+use Rattle.action_sos.specs.Moves.{IsStepAt, ended_steps}
 use Rattle.action_sos.specs.Ends.{both_trees, ended_trees}
 
 -- ---- the trees of these steps
@@ -90,22 +91,22 @@ right_ended f k s z e h = ap frame_of e ∙ ap (λ (x : Side). frame_of (frame.B
 first_place : (j : ℕ) → j < 1 → j ≡ 0
 first_place j less = omega arith
 
-module _ (g : Lists) (f : Frame) (z : EndAt) (j : ℕ) where
+module _ (g : Listed) (f : Frame) (z : EndAt) (j : ℕ) where
   -- one of several trees
-  pub one_of_trees : (f' : FrameMeant) → frame_of f ≡ f' → (t : Tree) → slice_get (ended_trees (action_in g) f' (Ended (end_of z))) j ≡ Some t → (w : World) → IsStepAt (ended_steps g f z w) j Silent t
+  pub one_of_trees : (f' : FrameMeant) → frame_of f ≡ f' → (t : Tree) → slice_get (ended_trees (action_of g) f' (Ended (end_of z))) j ≡ Some t → (w : World) → IsStepAt (ended_steps g f z w) j Silent t
   one_of_trees f' e t at w =
-      let there = subst (λ (h : FrameMeant). slice_get (ended_trees (action_in g) h (Ended (end_of z))) j ≡ Some t) (sym e) at in
-      ended_at (action_in g) w (frame_of f) (end_of z) (kept-frame_of f) j t there
+      let there = subst (λ (h : FrameMeant). slice_get (ended_trees (action_of g) h (Ended (end_of z))) j ≡ Some t) (sym e) at in
+      ended_at (action_of g) w (frame_of f) (end_of z) (kept-frame_of f) j t there
 
   -- the place is among the trees
-  pub among_trees : (f' : FrameMeant) → frame_of f ≡ f' → ((w : World) → j < length (ended_steps g f z w)) → j < length (ended_trees (action_in g) f' (Ended (end_of z)))
+  pub among_trees : (f' : FrameMeant) → frame_of f ≡ f' → ((w : World) → j < length (ended_steps g f z w)) → j < length (ended_trees (action_of g) f' (Ended (end_of z)))
   among_trees f' e among =
       let w : World = record { cells = []; output = []; input = [] } in
-      let same = length-ended (action_in g) w (frame_of f) (end_of z) (kept-frame_of f) ∙ ap (λ h. length (ended_trees (action_in g) h (Ended (end_of z)))) e in
+      let same = length-ended (action_of g) w (frame_of f) (end_of z) (kept-frame_of f) ∙ ap (λ h. length (ended_trees (action_of g) h (Ended (end_of z)))) e in
       subst (λ n. j < n) same (among w)
 
   -- the only tree
-  pub only_tree : (f' : FrameMeant) → frame_of f ≡ f' → ((w : World) → j < length (ended_steps g f z w)) → (t : Tree) → ended_trees (action_in g) f' (Ended (end_of z)) ≡ t ∷ [] → (w : World) → IsStepAt (ended_steps g f z w) j Silent t
+  pub only_tree : (f' : FrameMeant) → frame_of f ≡ f' → ((w : World) → j < length (ended_steps g f z w)) → (t : Tree) → ended_trees (action_of g) f' (Ended (end_of z)) ≡ t ∷ [] → (w : World) → IsStepAt (ended_steps g f z w) j Silent t
   only_tree f' e among t only =
       let less : j < length (t ∷ []) = subst (λ (ts : List Tree). j < length ts) only (among_trees f' e among) in
       one_of_trees f' e t (ap (λ ts. slice_get ts j) only ∙ ap (slice_get (t ∷ [])) (first_place j less))

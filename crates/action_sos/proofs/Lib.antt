@@ -12,11 +12,8 @@ pub mod Joining
 pub mod Taking
 pub mod Placing
 pub mod TakenSteps
-pub mod OperandItems
-pub mod NodeForms
 pub mod NodeMoves
 pub mod NodeSteps
-pub mod NodesOfKind
 pub mod EndedParts
 pub mod Worlds
 pub mod OpenLengths

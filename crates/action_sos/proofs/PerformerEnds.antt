@@ -1,17 +1,17 @@
 -- Whether a branch has ended; a performer at an end has no open step, and else it has one.
 use Rattle.std.proofs.Common.{◌≡◌, ◌≢◌, ◌<◌, ◌↔◌, ◌∙◌, ℕ, zero, suc, List, [], ◌∷◌, length, Option, Some, None, Box, Global, refl, sym, subst, ap, arith}
+use Rattle.action_terms.specs.Meaning.{action_of}
 use Rattle.action_terms.specs.Acting.{Tree}
 use Rattle.action_terms.specs.Steps.{Step, open_steps}
 use Rattle.action_terms.proofs.NeverStuck.{never-stuck}
 use Rattle.action_sos.specs.Parts.{inside}
 use Rattle.action_sos.specs.Views.{part_of, focus_of}
 use Rattle.action_sos.specs.Kept.{IsCounted}
-use Rattle.action_sos.specs.Moves.{action_in}
 use Rattle.action_sos.specs.Performers.{steps_of, IsEnd}
 use Rattle.action_sos.specs.Performed.{world_of, performing_of, IsPerformer}
 use Rattle.action_sos.specs.Branches.{counted, whole, grown, grown_of, IsGoingTree}
 use Rattle.action_sos.specs.declared.ends.End.{End as EndAt}
-use Rattle.action_sos.specs.declared.moves.Lists.{Lists}
+use Rattle.action_terms.specs.Numbering.{Listed}
 use Rattle.action_sos.specs.declared.part.Part.{Part}
 use Rattle.action_sos.specs.declared.part.Focus.{Focus as FocusAt}
 use Rattle.action_sos.specs.declared.part.Focus.TheVariants as focus
@@ -27,15 +27,15 @@ none-open : (xs : List Step) → length xs ≡ 0 → xs ≡ []
 none-open [] e = refl
 none-open (x ∷ xs) e = absurd (omega (arith, e))
 
-pub root-count : (g : Lists) (root : Option (Box Branch Global)) (w : World) → IsPerformer g root w → counted root ≡ length (steps_of (performing_of g root w))
+pub root-count : (g : Listed) (root : Option (Box Branch Global)) (w : World) → IsPerformer g root w → counted root ≡ length (steps_of (performing_of g root w))
 root-count g None w kept = absurd kept.grows
-root-count g (Some x) w kept = open-count (action_in g) (world_of w) x.value kept.grows
+root-count g (Some x) w kept = open-count (action_of g) (world_of w) x.value kept.grows
 
-pub at-end : (g : Lists) (root : Option (Box Branch Global)) (w : World) (count : ℕ) → IsPerformer g root w
+pub at-end : (g : Listed) (root : Option (Box Branch Global)) (w : World) (count : ℕ) → IsPerformer g root w
     → count ≡ length (steps_of (performing_of g root w)) → count ≡ 0 ↔ IsEnd (performing_of g root w).state.tree
 at-end g root w count kept many = (
-  λ e. never-stuck (action_in g) (performing_of g root w).state kept.proper kept.sound (none-open (steps_of (performing_of g root w)) (sym many ∙ e)),
-  λ end. many ∙ ap (λ t. length (open_steps (action_in g) (world_of w) t)) end.1,
+  λ e. never-stuck (action_of g) (performing_of g root w).state kept.proper kept.sound (none-open (steps_of (performing_of g root w)) (sym many ∙ e)),
+  λ end. many ∙ ap (λ t. length (open_steps (action_of g) (world_of w) t)) end.1,
 )
 
 -- ---- a branch that goes on

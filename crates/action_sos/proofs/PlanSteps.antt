@@ -2,6 +2,7 @@
 use Rattle.std.proofs.Common.{◌≡◌, ℕ, ◌+◌, ◌-◌, ◌≤◌, List, [], ◌∷◌, ◌++◌, map, length, refl, sym, ap, ap₂, subst, ◌∙◌, arith}
 use Rattle.std.specs.Prelude.{slice_get}
 use Rattle.std.proofs.lemmas.List.{length-map}
+use Rattle.action_terms.specs.Meaning.{action_of}
 use Rattle.action_terms.specs.Information.{World}
 use Rattle.action_terms.specs.Acting.{Tree, Ended}
 use Rattle.action_terms.specs.Steps.{Effect, Silent, Made, Step, commits}
@@ -9,10 +10,10 @@ use Rattle.action_terms.specs.Frames.{Frame as FrameMeant, shut_if}
 use Rattle.action_sos.specs.Parts.{inside, lifted, frames_steps, part_steps}
 use Rattle.action_sos.specs.Views.{end_of, frame_of, part_of}
 use Rattle.action_sos.specs.Kept.{IsBrokenOff}
-use Rattle.action_sos.specs.Moves.{action_in, next_tree, effect_of, IsStepAt, node_steps, ended_steps}
+use Rattle.action_sos.specs.Moves.{next_tree, effect_of, IsStepAt, node_steps, ended_steps}
 use Rattle.action_sos.specs.Plans.{IsPlan}
 use Rattle.action_sos.specs.declared.ends.End.{End}
-use Rattle.action_sos.specs.declared.moves.Lists.{Lists}
+use Rattle.action_terms.specs.Numbering.{Listed}
 use Rattle.action_sos.specs.declared.moves.Received.{Received}
 use Rattle.action_sos.specs.declared.moves.Change.{Change}
 use Rattle.action_sos.specs.declared.moves.Change.TheVariants as change
@@ -67,34 +68,34 @@ plan-broken fs index p z off =
 
 -- ---- a part whose node runs
 
-module _ (g : Lists) (p : Part) (k : ℕ) (r : Received) (is : p.focus ≡ focus.Run k r.given r.bound) (w : World) (index : ℕ) where
+module _ (g : Listed) (p : Part) (k : ℕ) (r : Received) (is : p.focus ≡ focus.Run k r.given r.bound) (w : World) (index : ℕ) where
   pub run-plan : (c : Change) (n : Next) → IsStepAt (node_steps g k r w) index (effect_of c) (next_tree n)
-      → IsPlan (part_steps (action_in g) w (part_of p)) index (record { part = p; change = c; next = n })
+      → IsPlan (part_steps (action_of g) w (part_of p)) index (record { part = p; change = c; next = n })
   run-plan c n step =
       let fs = (part_of p).frames in
       let at = lifted-at fs (node_steps g k r w) (frames_steps fs) index (effect_of c) (next_tree n) step in
       record { step = (at.0, ap (λ l. slice_get l index) (run-steps g p k r is w) ∙ at.1, at.2, at.3) }
 
   pub run-break : (count : ℕ) (q : Plan) → count ≡ length (node_steps g k r w) → count ≤ index → IsPlan (frames_steps (part_of p).frames) (index - count) q
-      → IsPlan (part_steps (action_in g) w (part_of p)) index q
+      → IsPlan (part_steps (action_of g) w (part_of p)) index q
   run-break count q all past plan =
       let fs = (part_of p).frames in
       let before = map (lifted fs) (node_steps g k r w) in
-      plan-behind (part_steps (action_in g) w (part_of p)) before (frames_steps fs) count index q (run-steps g p k r is w) (length-map (node_steps g k r w) (lifted fs) ∙ sym all) past plan
+      plan-behind (part_steps (action_of g) w (part_of p)) before (frames_steps fs) count index q (run-steps g p k r is w) (length-map (node_steps g k r w) (lifted fs) ∙ sym all) past plan
 
 -- ---- a part in which everything has ended
 
-module _ (g : Lists) (p outer : Part) (f : Frame) (z : End) (is : p.focus ≡ focus.Ended z) (stands : (part_of p).frames ≡ (part_of outer).frames ++ frame_of f ∷ []) (w : World) (index : ℕ) where
+module _ (g : Listed) (p outer : Part) (f : Frame) (z : End) (is : p.focus ≡ focus.Ended z) (stands : (part_of p).frames ≡ (part_of outer).frames ++ frame_of f ∷ []) (w : World) (index : ℕ) where
   pub ended-plan : (n : Next) → IsStepAt (ended_steps g f z w) index Silent (next_tree n)
-      → IsPlan (part_steps (action_in g) w (part_of p)) index (record { part = outer; change = change.Silent; next = n })
+      → IsPlan (part_steps (action_of g) w (part_of p)) index (record { part = outer; change = change.Silent; next = n })
   ended-plan n step =
       let fs = (part_of outer).frames in
       let at = lifted-at fs (ended_steps g f z w) (frames_steps fs) index Silent (next_tree n) step in
       record { step = (at.0, ap (λ l. slice_get l index) (ended-steps g p outer f z is stands w) ∙ at.1, at.2, at.3) }
 
   pub ended-break : (count : ℕ) (q : Plan) → count ≡ length (ended_steps g f z w) → count ≤ index → IsPlan (frames_steps (part_of outer).frames) (index - count) q
-      → IsPlan (part_steps (action_in g) w (part_of p)) index q
+      → IsPlan (part_steps (action_of g) w (part_of p)) index q
   ended-break count q all past plan =
       let fs = (part_of outer).frames in
       let before = map (lifted fs) (ended_steps g f z w) in
-      plan-behind (part_steps (action_in g) w (part_of p)) before (frames_steps fs) count index q (ended-steps g p outer f z is stands w) (length-map (ended_steps g f z w) (lifted fs) ∙ sym all) past plan
+      plan-behind (part_steps (action_of g) w (part_of p)) before (frames_steps fs) count index q (ended-steps g p outer f z is stands w) (length-map (ended_steps g f z w) (lifted fs) ∙ sym all) past plan

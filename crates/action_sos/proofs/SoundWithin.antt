@@ -1,16 +1,14 @@
 -- What stands within frames of a sound tree is sound.
-use Rattle.std.proofs.Common.{◌≡◌, ℕ, ◌<◌, List, [], ◌∷◌, ◌++◌, map, length, subst, ◌∙◌}
+use Rattle.std.proofs.Common.{◌≡◌, ℕ, ◌<◌, List, [], ◌∷◌, ◌++◌, length, subst}
 use Rattle.std.proofs.lemmas.List.{length-map}
 use Rattle.action_terms.specs.Actions.{Action}
 use Rattle.action_terms.specs.Acting.{Tree, Run}
 use Rattle.action_terms.specs.Information.{Data, Binds}
-use Rattle.action_terms.specs.Nodes.{listed_node}
-use Rattle.action_terms.specs.Meaning.{node_with, items_from}
+use Rattle.action_terms.specs.Meaning.{node_with, items_from, action_of}
 use Rattle.action_terms.specs.Sound.{Known, any_node, IsKnownTree, IsSoundTree}
 use Rattle.action_terms.specs.Frames.{Frame, InCalled, InParLeft, InParRight, InFirst, InSecond, InOr, InCut, InTrap, InOver, InTail, wrap}
 use Rattle.action_sos.specs.Parts.{inside}
-use Rattle.action_sos.specs.Moves.{listed_of, action_in}
-use Rattle.action_sos.specs.declared.moves.Lists.{Lists}
+use Rattle.action_terms.specs.Numbering.{Listed}
 use Rattle.action_sos.proofs.FramesOpen.{inside-behind}
 
 wrapped-known : (known : Known) (a : Action) (f : Frame) (t : Tree) → IsKnownTree known a (wrap f t) → IsKnownTree known a t
@@ -36,9 +34,9 @@ inside-sound a fs t s = inside-known (any_node a) a fs t s
 pub inmost-sound : (a : Action) (fs : List Frame) (f : Frame) (t : Tree) → IsSoundTree a (inside (fs ++ f ∷ []) t) → IsSoundTree a (wrap f t)
 inmost-sound a fs f t s = inside-sound a fs (wrap f t) (subst (IsSoundTree a) (inside-behind fs (f ∷ []) t) s)
 
-length-action_in : (g : Lists) → length (action_in g) ≡ length g.nodes.now
-length-action_in g = length-map (map listed_node g.nodes.now) (node_with (items_from 0 (listed_of g).yielders)) ∙ length-map g.nodes.now listed_node
+length-action_of : (g : Listed) → length (action_of g) ≡ length g.nodes
+length-action_of g = length-map g.nodes (node_with (items_from 0 g.yielders))
 
 -- a node that is to be performed is one of the graph
-pub run-there : (g : Lists) (fs : List Frame) (k : ℕ) (d : Data) (b : Binds) → IsSoundTree (action_in g) (inside fs (Run k d b)) → k < length g.nodes.now
-run-there g fs k d b s = subst (λ n. k < n) (length-action_in g) (inside-sound (action_in g) fs (Run k d b) s).0
+pub run-there : (g : Listed) (fs : List Frame) (k : ℕ) (d : Data) (b : Binds) → IsSoundTree (action_of g) (inside fs (Run k d b)) → k < length g.nodes
+run-there g fs k d b s = subst (λ n. k < n) (length-action_of g) (inside-sound (action_of g) fs (Run k d b) s).0

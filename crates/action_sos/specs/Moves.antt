@@ -1,9 +1,8 @@
 -- What steps in memory stand for.
-use Rattle.std.specs.Prelude.{◌≡◌, ℕ, List, map, Some, slice_get}
+use Rattle.std.specs.Prelude.{◌≡◌, ℕ, List, Some, slice_get}
 use Rattle.action_terms.specs.Information.{Data, Binds, World}
-use Rattle.action_terms.specs.Actions.{Action, node_at}
+use Rattle.action_terms.specs.Actions.{node_at}
 use Rattle.action_terms.specs.Numbering.{Listed}
-use Rattle.action_terms.specs.Nodes.{listed_node, listed_yielder}
 use Rattle.action_terms.specs.Meaning.{action_of}
 use Rattle.action_terms.specs.Acting.{Tree, Run, Ended, Par}
 use Rattle.action_terms.specs.Steps.{Effect, Silent, Commits, Allocates, Takes, Misses, Puts, Sends, Step, run_steps, open_steps}
@@ -12,20 +11,12 @@ use Rattle.action_values.specs.Values.{data_of, bindings_of, storage_of, meant}
 use Rattle.action_sos.specs.Views.{end_of, frame_of}
 use Rattle.action_sos.specs.declared.ends.End.{End}
 use Rattle.action_sos.specs.declared.part.Frame.{Frame}
-use Rattle.action_sos.specs.declared.moves.Lists.{Lists}
 use Rattle.action_sos.specs.declared.moves.Received.{Received}
 use Rattle.action_sos.specs.declared.moves.Outside.{Outside}
 use Rattle.action_sos.specs.declared.moves.Next.{Next}
 use Rattle.action_sos.specs.declared.moves.Next.TheVariants as next
 use Rattle.action_sos.specs.declared.moves.Change.{Change}
 use Rattle.action_sos.specs.declared.moves.Change.TheVariants as change
-
--- the graph of these lists, and its action
-abbrev pub listed_of : Lists → Listed
-listed_of g = record { nodes = map listed_node g.nodes.now; yielders = map listed_yielder g.yielders.now }
-
-abbrev pub action_in : Lists → Action
-action_in g = action_of (listed_of g)
 
 abbrev pub given_of : Received → Data
 given_of r = data_of r.given.now
@@ -63,9 +54,9 @@ abbrev pub IsStepAt : List Step → ℕ → Effect → Tree → Type 0
 IsStepAt steps j e t = (n : Step) × (slice_get steps j ≡ Some n) × (n.effect ≡ e) × (n.tree ≡ t)
 
 -- the steps of node k of a graph that runs
-abbrev pub node_steps : Lists → ℕ → Received → World → List Step
-node_steps g k r w = run_steps (node_at (action_in g) k) k (given_of r) (bound_of r) w
+abbrev pub node_steps : Listed → ℕ → Received → World → List Step
+node_steps g k r w = run_steps (node_at (action_of g) k) k (given_of r) (bound_of r) w
 
 -- the steps where a part within a frame has ended
-abbrev pub ended_steps : Lists → Frame → End → World → List Step
-ended_steps g f z w = open_steps (action_in g) w (wrap (frame_of f) (Ended (end_of z)))
+abbrev pub ended_steps : Listed → Frame → End → World → List Step
+ended_steps g f z w = open_steps (action_of g) w (wrap (frame_of f) (Ended (end_of z)))

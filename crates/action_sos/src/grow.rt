@@ -5,21 +5,23 @@ ghost use Rattle.action_sos.specs.declared.branch.Branch.{Branch, out-Branch};
 ghost use Rattle.action_terms.specs.Actions.{Action};
 ghost use Rattle.action_terms.specs.Acting.{Tree, Par};
 ghost use Rattle.action_terms.specs.Steps.{commits};
+ghost use Rattle.action_terms.specs.Meaning.{action_of};
 ghost use Rattle.action_terms.specs.Proper.{IsProper};
 ghost use Rattle.action_terms.specs.Sound.{IsSoundTree};
 ghost use Rattle.action_sos.specs.Parts.{Leaf, inside, closes};
 ghost use Rattle.action_sos.specs.Views.{part_of, end_of};
 ghost use Rattle.action_sos.specs.Kept.{IsCounted};
-ghost use Rattle.action_sos.specs.Moves.{action_in, effect_of, next_tree, running};
+ghost use Rattle.action_sos.specs.Moves.{effect_of, next_tree, running};
 ghost use Rattle.action_sos.specs.Plans.{kept_frames};
 ghost use Rattle.action_sos.specs.Branches.{grown, count_in, other_of, joined_of, IsGrown, IsGoingTree, IsOuter};
 
 use crate::branch::Branch;
 use crate::ends::End;
-use crate::moves::{Change, Lists, Next, Received};
+use crate::moves::{Change, Next, Received};
 use crate::part::{Focus, Frame, Part, Side};
 use crate::plan::{Plan, count_of_part};
 use acg_base::Memory;
+use action_terms::Graph;
 use bumpalo::Bump;
 use std::alloc::Global;
 
@@ -45,13 +47,13 @@ fn committed<'a>(part: Part<'a>, change: Change<'a>) -> Part<'a>
 }
 
 // a branch without parts
-fn leaf<'a>(graph: Lists<'a>, part: Part<'a>) -> Branch<'a>
-    requires proper { IsProper (action_in graph) }
+fn leaf<'a>(graph: &Graph<'a>, part: Part<'a>) -> Branch<'a>
+    requires proper { IsProper (action_of graph.now) }
     requires counted { IsCounted part }
     requires leaf { (t : Tree) × ((part_of part).focus ≡ Leaf t)
-        × IsSoundTree (action_in graph) (inside (part_of part).frames t) }
+        × IsSoundTree (action_of graph.now) (inside (part_of part).frames t) }
     requires small { part.broken + 2 < 2 ^ 64 }
-    ensures grows { IsGrown (action_in graph.entry) result }
+    ensures grows { IsGrown (action_of graph.now) result }
     ensures tree { (t : Tree) → (part_of part.entry).focus ≡ Leaf t →
         grown result ≡ inside (part_of part.entry).frames t }
     ensures few { count_in result ≤ part.entry.broken + 2 }
@@ -66,10 +68,10 @@ fn leaf<'a>(graph: Lists<'a>, part: Part<'a>) -> Branch<'a>
 }
 
 /// A branch whose node is to be performed, with nothing around.
-pub fn started<'a>(graph: Lists<'a>, node: u32, received: Received<'a>) -> Branch<'a>
-    requires proper { IsProper (action_in graph) }
-    requires sound { IsSoundTree (action_in graph) (running node received) }
-    ensures grows { IsGrown (action_in graph.entry) result }
+pub fn started<'a>(graph: &Graph<'a>, node: u32, received: Received<'a>) -> Branch<'a>
+    requires proper { IsProper (action_of graph.now) }
+    requires sound { IsSoundTree (action_of graph.now) (running node received) }
+    ensures grows { IsGrown (action_of graph.now) result }
     ensures tree { grown result ≡ running node received.entry }
     ensures few { count_in result ≤ 2 }
 {
@@ -80,15 +82,15 @@ pub fn started<'a>(graph: Lists<'a>, node: u32, received: Received<'a>) -> Branc
 pub fn after_step<'a>(
     alloc: Global,
     arena: &'a Bump,
-    graph: Lists<'a>,
+    graph: &Graph<'a>,
     plan: Plan<'a>,
 ) -> Result<Branch<'a>, Memory>
-    requires proper { IsProper (action_in graph) }
+    requires proper { IsProper (action_of graph.now) }
     requires counted { IsCounted plan.part }
-    requires sound { IsSoundTree (action_in graph)
+    requires sound { IsSoundTree (action_of graph.now)
         (inside (kept_frames plan) (next_tree plan.next)) }
     requires small { plan.part.broken + 8 < 2 ^ 64 }
-    ensures grows { IfOk result (λ b. IsGrown (action_in graph.entry) b) }
+    ensures grows { IfOk result (λ b. IsGrown (action_of graph.now) b) }
     ensures tree { IfOk result (λ b.
         grown b ≡ inside (kept_frames plan.entry) (next_tree plan.entry.next)) }
     ensures few { IfOk result (λ b. count_in b ≤ plan.entry.part.broken + 4) }

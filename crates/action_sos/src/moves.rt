@@ -2,17 +2,7 @@
 
 use crate::ends::End;
 use crate::part::Frame;
-use action_terms::{Node, YNode};
 use action_values::{Binding, Datum};
-
-/// The action nodes and the yielders of a graph.
-#[derive(Clone, Copy)]
-pub struct Lists<'a> {
-    /// The action nodes, in preorder.
-    pub nodes: &'a [Node<'a>],
-    /// The yielders, in preorder.
-    pub yielders: &'a [YNode<'a>],
-}
 
 /// What a node receives.
 #[derive(Clone, Copy)]

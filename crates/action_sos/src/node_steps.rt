@@ -1,280 +1,263 @@
 //! The steps of a node that runs.
-ghost use Rattle.std.specs.Prelude.{◌≡◌, ◌<◌, length, IfOk, true};
+ghost use Rattle.std.specs.Prelude.{◌≡◌, ◌<◌, length, IfOk};
 ghost use Rattle.action_terms.specs.Information.{World};
+ghost use Rattle.action_terms.specs.Actions.{Give, EscapeWith, Check, Bind, BindRec, Store, Send, Enact, Apply, Branch};
+ghost use Rattle.action_terms.specs.Meaning.{action_of};
+ghost use Rattle.action_terms.specs.Forms.{yielder_at, items_at, IsDatum, primitive_viewed, node_viewed, HasPrimitiveOperands, HasOperands};
 ghost use Rattle.action_terms.specs.Proper.{IsProper};
-ghost use Rattle.action_sos.specs.Moves.{action_in, effect_of, next_tree, IsOutside, IsStepAt, node_steps};
-ghost use Rattle.action_sos.specs.Running.{count_of, is_plain, is_call, is_join, is_chain, IsOfText, IsMove};
+ghost use Rattle.action_sos.specs.Moves.{effect_of, next_tree, IsOutside, IsStepAt, node_steps};
+ghost use Rattle.action_sos.specs.Running.{IsPerformed, IsMove, step_count};
 
 use crate::compounds::{
     begins, branches, calls, chooses, enacts, forks, lays_over, own_closure, traps,
 };
-use crate::moves::{Lists, Move, Outside, Received};
+use crate::moves::{Move, Outside, Received};
 use crate::primitives::{
     allocates, binds, checks, commits, completes, escapes, escapes_with, fails, gives, receives,
     sends, silent, stores,
 };
 use crate::running::Running;
 use acg_base::Memory;
-use action_terms::Kind;
+use action_terms::{Graph, NodeView, PrimitiveView};
 use bumpalo::Bump;
 use std::alloc::Global;
 
-// the primitives without operands
-fn plain_step<'a>(running: &Running<'_, 'a>) -> Result<Move<'a>, Memory>
-    requires kind { is_plain running.now.node.kind ≡ true }
-    ensures { IfOk result (IsMove running.now 0) }
+fn give<'a>(alloc: Global, running: &Running<'_, 'a>, items: &[u32]) -> Result<Move<'a>, Memory>
+    ensures { IfOk result (IsPerformed running.now
+        (Give (items_at running.now.graph.now.yielders items.now))) }
 {
-    let received = running.received;
-    match running.node.kind {
-        Kind::Complete => Ok(silent(completes(&[], &[]))),
-        Kind::Escape => Ok(silent(escapes(received.given))),
-        Kind::Commit => Ok(commits()),
-        Kind::Regive => Ok(silent(completes(received.given, &[]))),
-        Kind::Rebind => Ok(silent(completes(&[], received.bound))),
-        Kind::Allocate => allocates(running.arena, running.outside.cells.len()),
-        Kind::Receive => receives(running.arena, running.outside.input),
-        // only `fail` is left
-        _ => Ok(silent(fails())),
-    }
+    Ok(silent(gives(running.yielded_items(alloc, items)?)))
 }
 
-fn give<'a>(alloc: Global, running: &Running<'_, 'a>) -> Result<Move<'a>, Memory>
-    requires kind { running.now.node.kind ≡ Kind.Give }
-    requires of_text { IsOfText running.now }
-    ensures { IfOk result (IsMove running.now 0) }
+fn escape_with<'a>(
+    alloc: Global,
+    running: &Running<'_, 'a>,
+    items: &[u32],
+) -> Result<Move<'a>, Memory>
+    ensures { IfOk result (IsPerformed running.now
+        (EscapeWith (items_at running.now.graph.now.yielders items.now))) }
 {
-    Ok(silent(gives(running.yielded_items(alloc, 0)?)))
+    Ok(silent(escapes_with(running.yielded_items(alloc, items)?)))
 }
 
-fn escape_with<'a>(alloc: Global, running: &Running<'_, 'a>) -> Result<Move<'a>, Memory>
-    requires kind { running.now.node.kind ≡ Kind.EscapeWith }
-    requires of_text { IsOfText running.now }
-    ensures { IfOk result (IsMove running.now 0) }
+fn check<'a>(alloc: Global, running: &Running<'_, 'a>, yielder: u32) -> Result<Move<'a>, Memory>
+    requires { IsDatum running.now.graph.now.yielders yielder }
+    ensures { IfOk result (IsPerformed running.now
+        (Check (yielder_at running.now.graph.now.yielders yielder))) }
 {
-    Ok(silent(escapes_with(running.yielded_items(alloc, 0)?)))
+    Ok(silent(checks(running.yielded(alloc, yielder)?)))
 }
 
-fn check<'a>(alloc: Global, running: &Running<'_, 'a>) -> Result<Move<'a>, Memory>
-    requires kind { running.now.node.kind ≡ Kind.Check }
-    requires of_text { IsOfText running.now }
-    ensures { IfOk result (IsMove running.now 0) }
+fn bind<'a>(
+    alloc: Global,
+    running: &Running<'_, 'a>,
+    token: &'a [u8],
+    yielder: u32,
+) -> Result<Move<'a>, Memory>
+    requires { IsDatum running.now.graph.now.yielders yielder }
+    ensures { IfOk result (IsPerformed running.now
+        (Bind token.now (yielder_at running.now.graph.now.yielders yielder))) }
 {
-    Ok(silent(checks(running.yielded(alloc, 0)?)))
+    let datum = running.yielded(alloc, yielder)?;
+    Ok(silent(binds(running.arena, token, datum)?))
 }
 
-fn bind<'a>(alloc: Global, running: &Running<'_, 'a>) -> Result<Move<'a>, Memory>
-    requires kind { running.now.node.kind ≡ Kind.Bind }
-    requires of_text { IsOfText running.now }
-    ensures { IfOk result (IsMove running.now 0) }
+fn bind_recursively<'a>(
+    running: &Running<'_, 'a>,
+    token: &'a [u8],
+    body: u32,
+) -> Result<Move<'a>, Memory>
+    ensures { IfOk result (IsPerformed running.now (BindRec token.now body)) }
 {
-    let datum = running.yielded(alloc, 0)?;
-    Ok(silent(binds(running.arena, running.node.token, datum)?))
-}
-
-fn bind_recursively<'a>(running: &Running<'_, 'a>) -> Result<Move<'a>, Memory>
-    requires kind { running.now.node.kind ≡ Kind.BindRec }
-    requires of_text { IsOfText running.now }
-    ensures { IfOk result (IsMove running.now 0) }
-{
-    let token = running.node.token;
-    let closure = own_closure(running.closure_body(), running.received.bound, token);
+    let closure = own_closure(body, running.received.bound, token);
     Ok(silent(binds(running.arena, token, Some(closure))?))
 }
 
-#[tactic(auto, using(crate::proofs::NodeMoves::store_move))]
-fn store<'a>(alloc: Global, running: &Running<'_, 'a>) -> Result<Move<'a>, Memory>
-    requires kind { running.now.node.kind ≡ Kind.Store }
-    requires of_text { IsOfText running.now }
-    ensures { IfOk result (IsMove running.now 0) }
+fn store<'a>(
+    alloc: Global,
+    running: &Running<'_, 'a>,
+    datum: u32,
+    cell: u32,
+) -> Result<Move<'a>, Memory>
+    requires datum { IsDatum running.now.graph.now.yielders datum }
+    requires cell { IsDatum running.now.graph.now.yielders cell }
+    ensures { IfOk result (IsPerformed running.now (Store
+        (yielder_at running.now.graph.now.yielders datum)
+        (yielder_at running.now.graph.now.yielders cell))) }
 {
-    let datum = running.yielded(alloc, 0)?;
-    let cell = running.yielded(alloc, 1)?;
-    Ok(stores(datum, cell))
+    let stored = running.yielded(alloc, datum)?;
+    let place = running.yielded(alloc, cell)?;
+    Ok(stores(stored, place))
 }
 
-#[tactic(auto, using(crate::proofs::NodeMoves::send_move))]
-fn send<'a>(alloc: Global, running: &Running<'_, 'a>) -> Result<Move<'a>, Memory>
-    requires kind { running.now.node.kind ≡ Kind.Send }
-    requires of_text { IsOfText running.now }
-    ensures { IfOk result (IsMove running.now 0) }
+fn send<'a>(alloc: Global, running: &Running<'_, 'a>, yielder: u32) -> Result<Move<'a>, Memory>
+    requires { IsDatum running.now.graph.now.yielders yielder }
+    ensures { IfOk result (IsPerformed running.now
+        (Send (yielder_at running.now.graph.now.yielders yielder))) }
 {
-    Ok(sends(running.yielded(alloc, 0)?))
+    Ok(sends(running.yielded(alloc, yielder)?))
 }
 
-fn enact<'a>(alloc: Global, running: &Running<'_, 'a>) -> Result<Move<'a>, Memory>
-    requires kind { running.now.node.kind ≡ Kind.Enact }
-    requires of_text { IsOfText running.now }
-    ensures { IfOk result (IsMove running.now 0) }
+// the step of a node that is done in one step
+fn primitive_step<'a>(
+    alloc: Global,
+    running: &Running<'_, 'a>,
+    primitive: PrimitiveView<'a>,
+) -> Result<Move<'a>, Memory>
+    requires { HasPrimitiveOperands running.now.graph.now.yielders primitive }
+    ensures { IfOk result (IsPerformed running.now
+        (primitive_viewed running.now.graph.now.yielders primitive.entry)) }
 {
-    let closure = running.yielded(alloc, 0)?;
+    let received = running.received;
+    match primitive {
+        PrimitiveView::Complete => Ok(silent(completes(&[], &[]))),
+        PrimitiveView::Failing => Ok(silent(fails())),
+        PrimitiveView::Escape => Ok(silent(escapes(received.given))),
+        PrimitiveView::Commit => Ok(commits()),
+        PrimitiveView::Regive => Ok(silent(completes(received.given, &[]))),
+        PrimitiveView::Rebind => Ok(silent(completes(&[], received.bound))),
+        PrimitiveView::Give { items } => give(alloc, running, items),
+        PrimitiveView::EscapeWith { items } => escape_with(alloc, running, items),
+        PrimitiveView::Check { yielder } => check(alloc, running, yielder),
+        PrimitiveView::Bind { token, yielder } => bind(alloc, running, token, yielder),
+        PrimitiveView::BindRec { token, body } => bind_recursively(running, token, body),
+        PrimitiveView::Store { datum, cell } => store(alloc, running, datum, cell),
+        PrimitiveView::Allocate => allocates(running.arena, running.outside.cells.len()),
+        PrimitiveView::Receive => receives(running.arena, running.outside.input),
+        PrimitiveView::Send { yielder } => send(alloc, running, yielder),
+    }
+}
+
+fn enact<'a>(alloc: Global, running: &Running<'_, 'a>, yielder: u32) -> Result<Move<'a>, Memory>
+    requires { IsDatum running.now.graph.now.yielders yielder }
+    ensures { IfOk result (λ m. IsMove running.now
+        (Enact (yielder_at running.now.graph.now.yielders yielder)) 0 m) }
+{
+    let closure = running.yielded(alloc, yielder)?;
     Ok(silent(enacts(running.arena, Some(&[]), closure)?))
 }
 
-fn enact_application<'a>(alloc: Global, running: &Running<'_, 'a>) -> Result<Move<'a>, Memory>
-    requires kind { running.now.node.kind ≡ Kind.Apply }
-    requires of_text { IsOfText running.now }
-    ensures { IfOk result (IsMove running.now 0) }
+fn enact_application<'a>(
+    alloc: Global,
+    running: &Running<'_, 'a>,
+    yielder: u32,
+    items: &[u32],
+) -> Result<Move<'a>, Memory>
+    requires { IsDatum running.now.graph.now.yielders yielder }
+    ensures { IfOk result (λ m. IsMove running.now (Apply
+        (yielder_at running.now.graph.now.yielders yielder)
+        (items_at running.now.graph.now.yielders items.now)) 0 m) }
 {
-    let closure = running.yielded(alloc, 0)?;
-    let given = running.yielded_items(alloc, 1)?;
+    let closure = running.yielded(alloc, yielder)?;
+    let given = running.yielded_items(alloc, items)?;
     Ok(silent(enacts(running.arena, given, closure)?))
 }
 
-// `unfolding` and `unfold`
-#[tactic(auto, using(crate::proofs::NodeMoves::call_move))]
-fn call<'a>(running: &Running<'_, 'a>) -> Move<'a>
-    requires { is_call running.now.node.kind ≡ true }
-    ensures { IsMove running.now 0 result }
+fn branch<'a>(
+    alloc: Global,
+    running: &Running<'_, 'a>,
+    yielder: u32,
+    left: u32,
+    right: u32,
+) -> Result<Move<'a>, Memory>
+    requires { IsDatum running.now.graph.now.yielders yielder }
+    ensures { IfOk result (λ m. IsMove running.now
+        (Branch (yielder_at running.now.graph.now.yielders yielder) left right) 0 m) }
 {
-    silent(calls(running.node.body, running.received))
-}
-
-#[tactic(auto, using(crate::proofs::NodeMoves::furthermore_move))]
-fn furthermore<'a>(running: &Running<'_, 'a>) -> Move<'a>
-    requires kind { running.now.node.kind ≡ Kind.Furthermore }
-    requires of_text { IsOfText running.now }
-    ensures { IsMove running.now 0 result }
-{
-    silent(lays_over(running.part(0), running.received))
-}
-
-#[tactic(auto, using(crate::proofs::NodeMoves::first_arm_move))]
-fn first_arm<'a>(running: &Running<'_, 'a>) -> Move<'a>
-    requires kind { running.now.node.kind ≡ Kind.Or }
-    requires of_text { IsOfText running.now }
-    ensures { IsMove running.now 0 result }
-{
-    silent(chooses(running.part(0), running.part(1), running.received))
-}
-
-// `and` and `moreover`
-#[tactic(auto, using(crate::proofs::NodeMoves::fork_move))]
-fn fork<'a>(running: &Running<'_, 'a>) -> Move<'a>
-    requires kind { is_join running.now.node.kind ≡ true }
-    requires of_text { IsOfText running.now }
-    ensures { IsMove running.now 0 result }
-{
-    let left = running.part(0);
-    let right = running.part(1);
-    silent(forks(running.number, left, right, running.received))
-}
-
-// `and then`, `then`, `hence` and `before`
-#[tactic(auto, using(crate::proofs::NodeMoves::begin_move))]
-fn begin<'a>(running: &Running<'_, 'a>) -> Move<'a>
-    requires kind { is_chain running.now.node.kind ≡ true }
-    requires of_text { IsOfText running.now }
-    ensures { IsMove running.now 0 result }
-{
-    silent(begins(running.number, running.part(0), running.received))
-}
-
-#[tactic(auto, using(crate::proofs::NodeMoves::trap_move))]
-fn trap<'a>(running: &Running<'_, 'a>) -> Move<'a>
-    requires kind { running.now.node.kind ≡ Kind.Trap }
-    requires of_text { IsOfText running.now }
-    ensures { IsMove running.now 0 result }
-{
-    silent(traps(running.number, running.part(0), running.received))
-}
-
-fn branch<'a>(alloc: Global, running: &Running<'_, 'a>) -> Result<Move<'a>, Memory>
-    requires kind { running.now.node.kind ≡ Kind.Branch }
-    requires of_text { IsOfText running.now }
-    ensures { IfOk result (IsMove running.now 0) }
-{
-    let datum = running.yielded(alloc, 0)?;
-    Ok(silent(branches(datum, running.part(0), running.part(1), running.received)))
+    let datum = running.yielded(alloc, yielder)?;
+    Ok(silent(branches(datum, left, right, running.received)))
 }
 
 // the first of the steps of a node
-fn first_step<'a>(alloc: Global, running: &Running<'_, 'a>) -> Result<Move<'a>, Memory>
-    requires { IsOfText running.now }
-    ensures { IfOk result (IsMove running.now 0) }
+fn first_step<'a>(
+    alloc: Global,
+    running: &Running<'_, 'a>,
+    node: NodeView<'a>,
+) -> Result<Move<'a>, Memory>
+    requires { HasOperands running.now.graph.now.yielders node }
+    ensures { IfOk result (λ m. IsMove running.now
+        (node_viewed running.now.graph.now.yielders node.entry) 0 m) }
 {
-    match running.node.kind {
-        Kind::Complete
-        | Kind::Fail
-        | Kind::Escape
-        | Kind::Commit
-        | Kind::Regive
-        | Kind::Rebind
-        | Kind::Allocate
-        | Kind::Receive => plain_step(running),
-        Kind::Give => give(alloc, running),
-        Kind::EscapeWith => escape_with(alloc, running),
-        Kind::Check => check(alloc, running),
-        Kind::Bind => bind(alloc, running),
-        Kind::BindRec => bind_recursively(running),
-        Kind::Store => store(alloc, running),
-        Kind::Send => send(alloc, running),
-        Kind::Enact => enact(alloc, running),
-        Kind::Apply => enact_application(alloc, running),
-        Kind::Unfold | Kind::Unfolding => Ok(call(running)),
-        Kind::Furthermore => Ok(furthermore(running)),
-        Kind::Or => Ok(first_arm(running)),
-        Kind::And | Kind::Moreover => Ok(fork(running)),
-        Kind::AndThen | Kind::Then | Kind::Hence | Kind::Before => Ok(begin(running)),
-        Kind::Trap => Ok(trap(running)),
-        Kind::Branch => branch(alloc, running),
+    let number = running.number;
+    let received = running.received;
+    match node {
+        NodeView::Simple(primitive) => primitive_step(alloc, running, primitive),
+        NodeView::Enact { yielder } => enact(alloc, running, yielder),
+        NodeView::Apply { yielder, items } => enact_application(alloc, running, yielder, items),
+        NodeView::Unfolding { body } => Ok(silent(calls(body, received))),
+        NodeView::Unfold { body } => Ok(silent(calls(body, received))),
+        NodeView::Furthermore { part } => Ok(silent(lays_over(part, received))),
+        NodeView::Both { left, right, .. } => Ok(silent(forks(number, left, right, received))),
+        NodeView::Phases { left, .. } => Ok(silent(begins(number, left, received))),
+        NodeView::Either { left, right } => Ok(silent(chooses(left, right, received))),
+        NodeView::Trapping { left, .. } => Ok(silent(traps(number, left, received))),
+        NodeView::Branch {
+            yielder,
+            left,
+            right,
+        } => branch(alloc, running, yielder, left, right),
     }
 }
 
 // the second step of `or`, which alone has two
-#[tactic(auto, using(crate::proofs::NodeMoves::second_arm_move))]
-fn second_arm<'a>(running: &Running<'_, 'a>) -> Move<'a>
-    requires kind { running.now.node.kind ≡ Kind.Or }
-    requires of_text { IsOfText running.now }
-    ensures { IsMove running.now 1 result }
+fn second_arm<'a>(running: &Running<'_, 'a>, node: NodeView<'a>) -> Move<'a>
+    requires { 1 < step_count node }
+    ensures { IsMove running.now
+        (node_viewed running.now.graph.now.yielders node.entry) 1 result }
 {
-    silent(chooses(running.part(1), running.part(0), running.received))
+    match node {
+        NodeView::Either { left, right } => silent(chooses(right, left, running.received)),
+        _ => unreachable!(),
+    }
 }
 
-fn count_of_kind(kind: Kind) -> u64
-    ensures { result ≡ count_of kind }
+fn count_of_view(node: NodeView<'_>) -> u64
+    ensures { result ≡ step_count node.entry }
 {
-    match kind {
-        Kind::Or => 2,
+    match node {
+        NodeView::Either { .. } => 2,
         _ => 1,
     }
 }
 
 /// How many steps of a node that runs stand open: two for `or`, one for all others.
-pub fn count_of_node(graph: Lists<'_>, node: u32) -> u64
-    requires proper { IsProper (action_in graph) }
-    requires there { node < length graph.nodes.now }
-    ensures { (r : _) (w : World) → result ≡ length (node_steps graph.entry node r w) }
+pub fn count_of_node(graph: &Graph<'_>, node: u32) -> u64
+    requires proper { IsProper (action_of graph.now) }
+    requires there { node < length graph.now.nodes }
+    ensures { (r : _) (w : World) → result ≡ length (node_steps graph.now node r w) }
 {
-    count_of_kind(graph.nodes[node as usize].kind)
+    count_of_view(graph.view(node as usize))
 }
 
 /// The step of a node that runs, of this index among its open steps.
 pub fn step_of_node<'a>(
     alloc: Global,
     arena: &'a Bump,
-    graph: Lists<'a>,
+    graph: &Graph<'a>,
     node: u32,
     received: Received<'a>,
     outside: Outside<'_, 'a>,
     choice: u64,
 ) -> Result<Move<'a>, Memory>
-    requires proper { IsProper (action_in graph) }
-    requires there { node < length graph.nodes.now }
-    requires open { (w : World) → IsOutside outside w → choice < length (node_steps graph node received w) }
+    requires proper { IsProper (action_of graph.now) }
+    requires there { node < length graph.now.nodes }
+    requires open { (w : World) → IsOutside outside w
+        → choice < length (node_steps graph.now node received w) }
     ensures { IfOk result (λ m. (w : World) → IsOutside outside.entry w →
-        IsStepAt (node_steps graph.entry node received.entry w) choice (effect_of m.change) (next_tree m.next)) }
+        IsStepAt (node_steps graph.now node received.entry w) choice
+        (effect_of m.change) (next_tree m.next)) }
 {
     let running = Running {
         arena,
-        yielders: graph.yielders,
+        graph,
         number: node,
-        node: graph.nodes[node as usize],
         received,
         outside,
     };
+    let view = graph.view(node as usize);
     if choice == 0 {
-        first_step(alloc, &running)
+        first_step(alloc, &running, view)
     } else {
-        Ok(second_arm(&running))
+        Ok(second_arm(&running, view))
     }
 }

@@ -11,7 +11,7 @@ use crate::answers::{Moved, Outcome};
 use crate::branch::{Branch, count_of};
 use crate::ends::End;
 use crate::grow::started;
-use crate::moves::{Lists, Received};
+use crate::moves::Received;
 use crate::take::{ended, take_step};
 use crate::world::World;
 use acg_base::Memory;
@@ -31,7 +31,7 @@ const MOST: u64 = u64::MAX - 15;
 pub struct Performer<'a> {
     alloc: Global,
     arena: &'a Bump,
-    graph: Lists<'a>,
+    graph: Graph<'a>,
     // there is one, but while a step is taken
     root: Option<Box<Branch<'a>>>,
     world: World<'a>,
@@ -84,19 +84,16 @@ impl<'a> Performer<'a> {
     ) -> Result<Performer<'a>, Memory>
         ensures starts { IfOk result (λ p. p ≡ record { graph = graph.now; state = start input.now }) }
     {
-        let lists = Lists {
-            nodes: graph.nodes(),
-            yielders: graph.yielders(),
-        };
+        let graph = graph.share();
         let received = Received {
             given: &[],
             bound: &[],
         };
-        let root = Box::new(alloc, started(lists, 0, received))?;
+        let root = Box::new(alloc, started(&graph, 0, received))?;
         Ok(Performer {
             alloc,
             arena,
-            graph: lists,
+            graph,
             root: Some(root),
             world: World::new(alloc, input)?,
         })
@@ -128,7 +125,7 @@ impl<'a> Performer<'a> {
         let (root, taken) = take_step(
             self.alloc,
             self.arena,
-            self.graph,
+            &self.graph,
             &mut self.world,
             root,
             choice,

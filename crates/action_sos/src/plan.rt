@@ -1,19 +1,22 @@
 //! Which step of which part is taken, and what it makes of the part.
 ghost use Rattle.std.specs.Prelude.{◌≡◌, ◌+◌, ◌^◌, ◌<◌, ◌≤◌, length, IfOk};
 ghost use Rattle.action_terms.specs.Information.{World};
+ghost use Rattle.action_terms.specs.Meaning.{action_of};
+ghost use Rattle.action_terms.specs.Numbering.{Listed};
 ghost use Rattle.action_terms.specs.Proper.{IsProper};
 ghost use Rattle.action_sos.specs.Parts.{frames_steps, part_steps};
 ghost use Rattle.action_sos.specs.Views.{part_of};
 ghost use Rattle.action_sos.specs.Kept.{IsCounted};
-ghost use Rattle.action_sos.specs.Moves.{action_in, IsOutside};
+ghost use Rattle.action_sos.specs.Moves.{IsOutside};
 ghost use Rattle.action_sos.specs.Plans.{IsSoundPart, IsPlan, IsKeptPart};
 
 use crate::end_steps::{count_of_end, step_of_end};
 use crate::ends::End;
-use crate::moves::{Change, Lists, Next, Outside, Received};
+use crate::moves::{Change, Next, Outside, Received};
 use crate::node_steps::{count_of_node, step_of_node};
 use crate::part::{Focus, Part};
 use acg_base::Memory;
+use action_terms::Graph;
 use bumpalo::Bump;
 use std::alloc::Global;
 
@@ -33,7 +36,7 @@ fn count_of_ended(part: Part<'_>, end: End<'_>) -> u64
     requires counted { IsCounted part }
     requires focus { part.focus ≡ Focus.Ended end }
     requires small { part.broken + 2 < 2 ^ 64 }
-    ensures count { (g : Lists) (w : World) → IsSoundPart (action_in g) (part_of part.entry) → result ≡ length (part_steps (action_in g) w (part_of part.entry)) }
+    ensures count { (g : Listed) (w : World) → IsSoundPart (action_of g) (part_of part.entry) → result ≡ length (part_steps (action_of g) w (part_of part.entry)) }
     ensures bound { result ≤ part.entry.broken + 2 }
 {
     match part.split_inmost() {
@@ -43,12 +46,12 @@ fn count_of_ended(part: Part<'_>, end: End<'_>) -> u64
 }
 
 /// How many steps of its own a part has.
-pub fn count_of_part(graph: Lists<'_>, part: Part<'_>) -> u64
-    requires proper { IsProper (action_in graph) }
+pub fn count_of_part(graph: &Graph<'_>, part: Part<'_>) -> u64
+    requires proper { IsProper (action_of graph.now) }
     requires counted { IsCounted part }
-    requires sound { IsSoundPart (action_in graph) (part_of part) }
+    requires sound { IsSoundPart (action_of graph.now) (part_of part) }
     requires small { part.broken + 2 < 2 ^ 64 }
-    ensures count { (w : World) → result ≡ length (part_steps (action_in graph.entry) w (part_of part.entry)) }
+    ensures count { (w : World) → result ≡ length (part_steps (action_of graph.now) w (part_of part.entry)) }
     ensures bound { result ≤ part.entry.broken + 2 }
 {
     match part.focus {
@@ -77,20 +80,20 @@ fn plan_of_break(part: Part<'_>, index: u64) -> Plan<'_>
 fn plan_of_run<'a>(
     alloc: Global,
     arena: &'a Bump,
-    graph: Lists<'a>,
+    graph: &Graph<'a>,
     part: Part<'a>,
     node: u32,
     received: Received<'a>,
     outside: Outside<'_, 'a>,
     index: u64,
 ) -> Result<Plan<'a>, Memory>
-    requires proper { IsProper (action_in graph) }
+    requires proper { IsProper (action_of graph.now) }
     requires counted { IsCounted part }
-    requires sound { IsSoundPart (action_in graph) (part_of part) }
+    requires sound { IsSoundPart (action_of graph.now) (part_of part) }
     requires focus { part.focus ≡ Focus.Run node received.given received.bound }
-    requires open { (w : World) → IsOutside outside w → index < length (part_steps (action_in graph) w (part_of part)) }
+    requires open { (w : World) → IsOutside outside w → index < length (part_steps (action_of graph.now) w (part_of part)) }
     ensures plan { IfOk result (λ plan. (w : World) → IsOutside outside.entry w →
-        IsPlan (part_steps (action_in graph.entry) w (part_of part.entry)) index plan) }
+        IsPlan (part_steps (action_of graph.now) w (part_of part.entry)) index plan) }
     ensures kept { IfOk result (λ plan. IsKeptPart part.entry plan.part) }
 {
     let count = count_of_node(graph, node);
@@ -108,18 +111,18 @@ fn plan_of_run<'a>(
 // The step of this index, of a part in which everything has ended.
 fn plan_of_ended<'a>(
     arena: &'a Bump,
-    graph: Lists<'a>,
+    graph: &Graph<'a>,
     part: Part<'a>,
     end: End<'a>,
     index: u64,
 ) -> Result<Plan<'a>, Memory>
-    requires proper { IsProper (action_in graph) }
+    requires proper { IsProper (action_of graph.now) }
     requires counted { IsCounted part }
-    requires sound { IsSoundPart (action_in graph) (part_of part) }
+    requires sound { IsSoundPart (action_of graph.now) (part_of part) }
     requires focus { part.focus ≡ Focus.Ended end }
-    requires open { (w : World) → index < length (part_steps (action_in graph) w (part_of part)) }
+    requires open { (w : World) → index < length (part_steps (action_of graph.now) w (part_of part)) }
     ensures plan { IfOk result (λ plan. (w : World) →
-        IsPlan (part_steps (action_in graph.entry) w (part_of part.entry)) index plan) }
+        IsPlan (part_steps (action_of graph.now) w (part_of part.entry)) index plan) }
     ensures kept { IfOk result (λ plan. IsKeptPart part.entry plan.part) }
 {
     let Some((frame, around)) = part.split_inmost() else {
@@ -140,17 +143,17 @@ fn plan_of_ended<'a>(
 pub fn plan_of_part<'a>(
     alloc: Global,
     arena: &'a Bump,
-    graph: Lists<'a>,
+    graph: &Graph<'a>,
     part: Part<'a>,
     outside: Outside<'_, 'a>,
     index: u64,
 ) -> Result<Plan<'a>, Memory>
-    requires proper { IsProper (action_in graph) }
+    requires proper { IsProper (action_of graph.now) }
     requires counted { IsCounted part }
-    requires sound { IsSoundPart (action_in graph) (part_of part) }
-    requires open { (w : World) → IsOutside outside w → index < length (part_steps (action_in graph) w (part_of part)) }
+    requires sound { IsSoundPart (action_of graph.now) (part_of part) }
+    requires open { (w : World) → IsOutside outside w → index < length (part_steps (action_of graph.now) w (part_of part)) }
     ensures plan { IfOk result (λ plan. (w : World) → IsOutside outside.entry w →
-        IsPlan (part_steps (action_in graph.entry) w (part_of part.entry)) index plan) }
+        IsPlan (part_steps (action_of graph.now) w (part_of part.entry)) index plan) }
     ensures kept { IfOk result (λ plan. IsKeptPart part.entry plan.part) }
 {
     match part.focus {

@@ -4,12 +4,13 @@ ghost use Rattle.std.specs.Global.{Global};
 ghost use Rattle.action_terms.specs.Actions.{Action};
 ghost use Rattle.action_terms.specs.Acting.{Ended};
 ghost use Rattle.action_terms.specs.Steps.{commits, open_steps};
+ghost use Rattle.action_terms.specs.Meaning.{action_of};
 ghost use Rattle.action_terms.specs.Proper.{IsProper};
 ghost use Rattle.action_terms.specs.Sound.{IsSound};
 ghost use Rattle.action_sos.specs.declared.branch.Branch.{Branch, out-Branch};
 ghost use Rattle.action_sos.specs.Views.{end_of};
 ghost use Rattle.action_sos.specs.Kept.{IsCounted};
-ghost use Rattle.action_sos.specs.Moves.{listed_of, action_in, effect_of};
+ghost use Rattle.action_sos.specs.Moves.{effect_of};
 ghost use Rattle.action_sos.specs.Performers.{Takes};
 ghost use Rattle.action_sos.specs.Performed.{world_of};
 ghost use Rattle.action_sos.specs.Branches.{way, most, count_in, grown, regrown, IsGoingTree, IsGrown, AreGrown, IsOuter, IsReached};
@@ -18,11 +19,12 @@ ghost use Rattle.action_sos.specs.Taking.{state_of, below, AreJoined, IsFitting,
 use crate::branch::{Branch, Way, climb, count_of, descend, join};
 use crate::ends::End;
 use crate::grow::{after_step, does_commit, joined_part};
-use crate::moves::{Change, Lists};
+use crate::moves::Change;
 use crate::part::{Focus, Part};
 use crate::plan::plan_of_part;
 use crate::world::World;
 use acg_base::Memory;
+use action_terms::Graph;
 use bumpalo::Bump;
 use std::alloc::Global;
 use std::mem;
@@ -87,18 +89,18 @@ fn joined<'a>(
 fn make<'a>(
     alloc: Global,
     arena: &'a Bump,
-    graph: Lists<'a>,
+    graph: &Graph<'a>,
     world: &mut World<'a>,
     path: &Way<'a>,
 ) -> Result<Made<'a>, Memory>
-    requires proper { IsProper (action_in graph) }
-    requires reached { IsReached (action_in graph) most path.now.branch.value path.now.around }
+    requires proper { IsProper (action_of graph.now) }
+    requires reached { IsReached (action_of graph.now) most path.now.branch.value path.now.around }
     requires ends { way path.now.branch.value path.now.index ≡ None }
     requires open { path.now.index
-        < length (open_steps (action_in graph) (world_of world.old) (grown path.now.branch.value)) }
-    requires sound { IsSound (action_in graph) (state_of path.now.branch.value world.old) }
+        < length (open_steps (action_of graph.now) (world_of world.old) (grown path.now.branch.value)) }
+    requires sound { IsSound (action_of graph.now) (state_of path.now.branch.value world.old) }
     ensures made { IfOk result (λ m.
-        IsMade (action_in graph.entry) (world_of world.old) (world_of world.new) path.now m) }
+        IsMade (action_of graph.now) (world_of world.old) (world_of world.new) path.now m) }
     ensures fits { IfOk result (λ m. IsFitting path.now m) }
     ensures kept { OnErr result (world_of world.new ≡ world_of world.old) }
 {
@@ -149,23 +151,23 @@ fn placed<'a>(way: Way<'a>, made: Made<'a>) -> Box<Branch<'a>>
 pub fn take_step<'a>(
     alloc: Global,
     arena: &'a Bump,
-    graph: Lists<'a>,
+    graph: &Graph<'a>,
     world: &mut World<'a>,
     root: Box<Branch<'a>>,
     choice: u64,
 ) -> (Box<Branch<'a>>, Result<(), Memory>)
-    requires proper { IsProper (action_in graph) }
-    requires grows { IsGrown (action_in graph) root.value }
-    requires sound { IsSound (action_in graph) (state_of root.value world.old) }
+    requires proper { IsProper (action_of graph.now) }
+    requires grows { IsGrown (action_of graph.now) root.value }
+    requires sound { IsSound (action_of graph.now) (state_of root.value world.old) }
     requires open { choice
-        < length (open_steps (action_in graph) (world_of world.old) (grown root.value)) }
+        < length (open_steps (action_of graph.now) (world_of world.old) (grown root.value)) }
     requires few { count_in root.value ≤ most }
-    ensures grows { IsGrown (action_in graph.entry) result.0.value }
+    ensures grows { IsGrown (action_of graph.now) result.0.value }
     ensures sound { OnOk result.1
-        (IsSound (action_in graph.entry) (state_of result.0.value world.new)) }
+        (IsSound (action_of graph.now) (state_of result.0.value world.new)) }
     ensures takes { OnOk result.1 (Takes choice
-        (record { graph = listed_of graph.entry; state = state_of root.entry.value world.old })
-        (record { graph = listed_of graph.entry; state = state_of result.0.value world.new })) }
+        (record { graph = graph.now; state = state_of root.entry.value world.old })
+        (record { graph = graph.now; state = state_of result.0.value world.new })) }
     ensures kept { OnErr result.1
         (state_of result.0.value world.new ≡ state_of root.entry.value world.old) }
 {

@@ -1,8 +1,9 @@
 use Rattle.std.proofs.Common.{◌≡◌, ◌∙◌, [], ◌∷◌, ◌++◌, ap, sym, subst}
+use Rattle.action_terms.specs.Meaning.{action_of}
 use Rattle.action_terms.specs.Sound.{IsSoundTree}
 use Rattle.action_sos.specs.Parts.{inside}
 use Rattle.action_sos.specs.Views.{frame_of, focus_of, part_of}
-use Rattle.action_sos.specs.Moves.{action_in, running, next_tree}
+use Rattle.action_sos.specs.Moves.{running, next_tree}
 use Rattle.action_sos.specs.Plans.{kept_frames}
 use Rattle.action_sos.proofs.Leaves.{running-going, within-tree, parts-sound}
 use Rattle.action_sos.proofs.grow.after_step.Goals as goal
@@ -15,18 +16,18 @@ leaf-requires-in-Within-clause-leaf c =
     ap (λ r. r.frames) c.in_ok-part-in-Within.ensures.part ∙ ap (λ r. r.frames ++ frame_of c.in-Within.frame ∷ []) c.committed-part.ensures.part in (
       t,
       ap focus_of c.run.ensures,
-      subst (IsSoundTree (action_in c.args.graph)) (ap (λ n. inside (kept_frames c.args.plan) (next_tree n)) i ∙ sym (within-tree (kept_frames c.args.plan) (part_of c.in_ok-part-in-Within.part).frames (frame_of c.in-Within.frame) t stands)) c.requires.sound,
+      subst (IsSoundTree (action_of c.args.graph.now)) (ap (λ n. inside (kept_frames c.args.plan) (next_tree n)) i ∙ sym (within-tree (kept_frames c.args.plan) (part_of c.in_ok-part-in-Within.part).frames (frame_of c.in-Within.frame) t stands)) c.requires.sound,
     )
 
 pub started-left-requires-clause-sound : goal.started-left-requires-clause-sound
 started-left-requires-clause-sound c =
     let i = c.in-Fork.is in
-    (parts-sound (action_in c.args.graph) (kept_frames c.args.plan) c.in-Fork.node _ _ (subst (λ n. IsSoundTree (action_in c.args.graph) (inside (kept_frames c.args.plan) (next_tree n))) i c.requires.sound)).0
+    (parts-sound (action_of c.args.graph.now) (kept_frames c.args.plan) c.in-Fork.node _ _ (subst (λ n. IsSoundTree (action_of c.args.graph.now) (inside (kept_frames c.args.plan) (next_tree n))) i c.requires.sound)).0
 
 pub started-right-requires-clause-sound : goal.started-right-requires-clause-sound
 started-right-requires-clause-sound c =
     let i = c.in-Fork.is in
-    (parts-sound (action_in c.args.graph) (kept_frames c.args.plan) c.in-Fork.node _ _ (subst (λ n. IsSoundTree (action_in c.args.graph) (inside (kept_frames c.args.plan) (next_tree n))) i c.requires.sound)).1
+    (parts-sound (action_of c.args.graph.now) (kept_frames c.args.plan) c.in-Fork.node _ _ (subst (λ n. IsSoundTree (action_of c.args.graph.now) (inside (kept_frames c.args.plan) (next_tree n))) i c.requires.sound)).1
 
 pub fork-requires-clause-left_going : goal.fork-requires-clause-left_going
 fork-requires-clause-left_going c = running-going c.in-Fork.left c.in-Fork.received _ c.started-left.ensures.tree

@@ -5,5 +5,5 @@ use Rattle.action_sos.proofs.node_steps.bind_recursively.Goals as goal
 
 pub returns : goal.returns
 returns c =
-    bind_recursively_move c.args.running.now c.silent.result _ c.requires.kind c.requires.of_text
-    (c.in_ok-binds.ensures ∙ ap (λ x. bound c.args.running.now.node.token.now (Some x)) (rw c.closure_body.ensures at c.own_closure-closure.ensures)) c.silent.ensures
+    bind_recursively_move c.args.running.now c.silent.result _ _ _
+    (c.in_ok-binds.ensures ∙ ap (λ x. bound c.args.token.now (Some x)) c.own_closure-closure.ensures) c.silent.ensures

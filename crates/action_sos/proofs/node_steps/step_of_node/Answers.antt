@@ -1,22 +1,19 @@
-use Rattle.std.proofs.Common.{refl}
-use Rattle.action_sos.proofs.NodeSteps.{not_stray, first_there, second_there, choice_within, second_kind}
+use Rattle.std.proofs.Common.{◌≡◌, ◌<◌, refl, arith}
+use Rattle.action_sos.specs.Running.{step_count}
+use Rattle.action_sos.proofs.NodeSteps.{at_most_two, choice_within, first_there, second_there}
 use Rattle.action_sos.proofs.node_steps.step_of_node.Goals as goal
 
-pub first_step-requires : goal.first_step-requires
-first_step-requires c = record { there = not_stray c.args.graph c.args.node _ c.requires.proper c.requires.there }
-
-pub second_arm-requires-clause-kind : goal.second_arm-requires-clause-kind
-second_arm-requires-clause-kind c =
-    (second_kind _ c.args.choice
-    (choice_within c.args.graph c.args.node _ c.requires.proper c.requires.there c.args.received c.args.outside c.args.choice c.requires.open)
-    c.if-choice-eq0.false).0
-
-pub second_arm-requires-clause-of_text : goal.second_arm-requires-clause-of_text
-second_arm-requires-clause-of_text c = record { there = not_stray c.args.graph c.args.node _ c.requires.proper c.requires.there }
+pub second_arm-requires : goal.second_arm-requires
+second_arm-requires c =
+    let less : c.args.choice < step_count c.view-view.result = choice_within c.args.graph.now c.args.node c.view-view.result c.view-view.ensures c.args.received c.args.outside c.args.choice c.requires.open in
+    omega (arith, c.if-choice-eq0.false)
 
 pub returns-then-choice-eq0 : goal.returns-then-choice-eq0
-returns-then-choice-eq0 c = first_there c.first_step.result _ c.args.graph _ c.args.choice c.first_step.ensures c.requires.there refl refl c.if-choice-eq0.true
+returns-then-choice-eq0 c =
+    first_there c.args.graph.now c.args.node c.view-view.result c.view-view.ensures c.first_step.result _ c.args.choice refl c.if-choice-eq0.true c.first_step.ensures
 
 pub returns-else-choice-eq0 : goal.returns-else-choice-eq0
 returns-else-choice-eq0 c =
-    second_there c.second_arm.result _ c.args.graph _ c.args.choice c.second_arm.ensures c.requires.proper c.requires.there refl refl c.requires.open c.if-choice-eq0.false
+    let less : c.args.choice < step_count c.view-view.result = choice_within c.args.graph.now c.args.node c.view-view.result c.view-view.ensures c.args.received c.args.outside c.args.choice c.requires.open in
+    let second : c.args.choice ≡ 1 = omega (arith, at_most_two c.view-view.result, c.if-choice-eq0.false) in
+    second_there c.args.graph.now c.args.node c.view-view.result c.view-view.ensures c.second_arm.result _ c.args.choice refl second c.second_arm.ensures
