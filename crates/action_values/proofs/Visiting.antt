@@ -1,5 +1,5 @@
 -- To visit a yielder is to keep its value, or to evaluate its arguments and to apply its operation.
-use Rattle.std.proofs.Common.{◌≡◌, ℕ, ◌≤◌, Bool, true, false, cond, List, [], ◌∷◌, ◌++◌, Option, Some, None, length, refl, sym, ap, ◌∙◌}
+use Rattle.std.proofs.Common.{◌≡◌, ℕ, ◌≤◌, Bool, true, false, cond, List, ◌∷◌, ◌++◌, Option, Some, None, length, refl, sym, ap, ◌∙◌}
 use Rattle.std.specs.Prelude.{option_map, option_and_then}
 use Rattle.action_terms.specs.Information.{Datum}
 use Rattle.action_terms.specs.Actions.{Item, Single}
@@ -7,7 +7,7 @@ use Rattle.action_terms.specs.Forms.{item_at, yielder_at, item_viewed, HasArgume
 use Rattle.action_terms.specs.declared.view.YielderView.{YielderView}
 use Rattle.action_terms.specs.declared.view.YielderView.TheVariants as yielder
 use Rattle.action_terms.proofs.ItemsAt.{item_at-past}
-use Rattle.action_values.specs.Evaluation.{value_in, value_at, value_meant, is_operation, opened, finished}
+use Rattle.action_values.specs.Evaluation.{value_in, value_meant, is_operation, opened, finished}
 use Rattle.action_values.specs.declared.context.Context.{Context}
 use Rattle.action_values.specs.declared.context.ItemValue.{ItemValue}
 use Rattle.action_values.specs.declared.walk.Job.{Job}

@@ -1,5 +1,5 @@
-use Rattle.std.proofs.Common.{◌≡◌, ◌<◌, ◌+◌, ◌-◌, ◌^◌, length, sym, ap, subst, reverse, arith}
-use Rattle.std.specs.Prelude.{IsTrue, IfOk, sum_by}
+use Rattle.std.proofs.Common.{◌<◌, ◌+◌, ◌-◌, ◌^◌, length, sym, ap, subst, reverse, arith}
+use Rattle.std.specs.Prelude.{sum_by}
 use Rattle.action_values.specs.Evaluation.{jobs_of, values_of, job_turns, turns}
 use Rattle.action_values.proofs.Answered.{by_ok}
 use Rattle.action_values.proofs.Visiting.{visit-past}
