@@ -1,19 +1,12 @@
 //! Worked values of yielders.
 
-use action_terms::{Sort, YKind, YNode};
+use action_terms::{Graph, GraphBuilder, Kind, NewAction, NewYielder, Sort, YKind};
 use action_values::yielding::{Context, yielded, yielded_items};
 use action_values::{Binding, Datum};
 use bumpalo::Bump;
+use std::alloc::Global;
+use std::process::Abort;
 use std::test::Fail;
-
-fn node<'a>(kind: YKind, token: &'a [u8], children: &'a [u32]) -> YNode<'a> {
-    YNode {
-        kind,
-        token,
-        children,
-        body: 0,
-    }
-}
 
 fn number_of(datum: Option<Datum<'_>>) -> Option<i64> {
     match datum {
@@ -22,56 +15,58 @@ fn number_of(datum: Option<Datum<'_>>) -> Option<i64> {
     }
 }
 
+fn yielder(kind: YKind) -> NewYielder<'static> {
+    NewYielder { kind, token: b"" }
+}
+
+fn given(sort: Sort, place: u32) -> NewYielder<'static> {
+    yielder(YKind::Given { sort, place })
+}
+
 // sum(the given integer # 2, product(the integer bound to x, the integer stored in the given cell # 1)), and `them`
-fn yielders() -> [YNode<'static>; 7] {
+fn yielders() -> [NewYielder<'static>; 7] {
+    let sort = Sort::Integer;
     [
-        node(YKind::Sum, b"", &[1, 2]),
-        node(
-            YKind::Given {
-                sort: Sort::Integer,
-                place: 2,
-            },
-            b"",
-            &[],
-        ),
-        node(YKind::Product, b"", &[3, 4]),
-        node(
-            YKind::Bound {
-                sort: Sort::Integer,
-            },
-            b"x",
-            &[],
-        ),
-        node(
-            YKind::Stored {
-                sort: Sort::Integer,
-            },
-            b"",
-            &[5],
-        ),
-        node(
-            YKind::Given {
-                sort: Sort::Cell,
-                place: 1,
-            },
-            b"",
-            &[],
-        ),
-        node(YKind::Them, b"", &[]),
+        yielder(YKind::Sum),
+        given(sort, 2),
+        yielder(YKind::Product),
+        NewYielder {
+            kind: YKind::Bound { sort },
+            token: b"x",
+        },
+        yielder(YKind::Stored { sort }),
+        given(Sort::Cell, 1),
+        yielder(YKind::Them),
     ]
+}
+
+// The graph of `give` of these yielders.
+fn graph<'a>(rt: &impl Abort, alloc: Global, arena: &'a Bump) -> Result<Graph<'a>, Fail> {
+    let mut builder = GraphBuilder::new(alloc, arena)?;
+    let _node = builder.push_action(NewAction {
+        kind: Kind::Give,
+        items: 2,
+        token: b"",
+    })?;
+    for new in yielders() {
+        let _number = builder.push_yielder(new)?;
+    }
+    assert!(rt; builder.is_whole());
+    Ok(builder.seal()?)
 }
 
 #[test]
 fn operations_are_applied_to_their_arguments(rt: HostRuntime) -> Result<(), Fail> {
+    let arena = Bump::new(rt.alloc());
+    let graph = graph(&rt, rt.alloc(), &arena)?;
     let given = [Datum::Cell(1), Datum::Number(3)];
     let bound = [Binding {
         token: b"x",
         datum: Datum::Number(-4),
     }];
     let cells = [None, Some(Datum::Number(5))];
-    let yielders = yielders();
     let context = Context {
-        yielders: &yielders,
+        graph: &graph,
         given: &given,
         bound: &bound,
         cells: &cells,
@@ -90,10 +85,10 @@ fn operations_are_applied_to_their_arguments(rt: HostRuntime) -> Result<(), Fail
 #[test]
 fn them_is_all_that_is_given(rt: HostRuntime) -> Result<(), Fail> {
     let arena = Bump::new(rt.alloc());
+    let graph = graph(&rt, rt.alloc(), &arena)?;
     let given = [Datum::Cell(1), Datum::Number(3)];
-    let yielders = yielders();
     let context = Context {
-        yielders: &yielders,
+        graph: &graph,
         given: &given,
         bound: &[],
         cells: &[],
