@@ -173,24 +173,31 @@ kinds_append of append ps ds es =
 abbrev pub sorted : List PlainItem → List PlainItem
 sorted items = in_order (productions_of items) (declarations_of items) (equations_of items)
 
+-- items have these productions, declarations and equations
+pub record AreOf (items : List PlainItem) (ps : List PlainProduction) (ds : List PlainDeclaration) (es : List PlainEquation) : Type 0 where
+  pub productions : productions_of items ≡ ps
+  pub declarations : declarations_of items ≡ ds
+  pub equations : equations_of items ≡ es
+
+pub kinds_kept : (ps : List PlainProduction) (ds : List PlainDeclaration) (es : List PlainEquation) → AreOf (in_order ps ds es) ps ds es
+kinds_kept ps ds es = record {
+  productions = kinds_append productions_of productions_append ps ds es
+      ∙ ap₂ (λ a b. a ++ b) (all_own AProduction productions_of production_kind ps)
+      (ap₂ (λ a b. a ++ b) (no_other ADeclaration productions_of refl (λ a xs. refl) ds) (no_other AnEquation productions_of refl (λ a xs. refl) es))
+      ∙ append-nil ps;
+  declarations = kinds_append declarations_of declarations_append ps ds es
+      ∙ ap₂ (λ a b. a ++ b) (no_other AProduction declarations_of refl (λ a xs. refl) ps)
+      (ap₂ (λ a b. a ++ b) (all_own ADeclaration declarations_of declaration_kind ds) (no_other AnEquation declarations_of refl (λ a xs. refl) es))
+      ∙ append-nil ds;
+  equations = kinds_append equations_of equations_append ps ds es
+      ∙ ap₂ (λ a b. a ++ b) (no_other AProduction equations_of refl (λ a xs. refl) ps)
+      (ap₂ (λ a b. a ++ b) (no_other ADeclaration equations_of refl (λ a xs. refl) ds) (all_own AnEquation equations_of equation_kind es));
+}
+
 order_kept : (items : List PlainItem) → AreSame (sorted items) items
 order_kept items =
-    let ps = productions_of items in
-    let ds = declarations_of items in
-    let es = equations_of items in
-    record {
-      productions = kinds_append productions_of productions_append ps ds es
-          ∙ ap₂ (λ a b. a ++ b) (all_own AProduction productions_of production_kind ps)
-          (ap₂ (λ a b. a ++ b) (no_other ADeclaration productions_of refl (λ a xs. refl) ds) (no_other AnEquation productions_of refl (λ a xs. refl) es))
-          ∙ append-nil ps;
-      declarations = kinds_append declarations_of declarations_append ps ds es
-          ∙ ap₂ (λ a b. a ++ b) (no_other AProduction declarations_of refl (λ a xs. refl) ps)
-          (ap₂ (λ a b. a ++ b) (all_own ADeclaration declarations_of declaration_kind ds) (no_other AnEquation declarations_of refl (λ a xs. refl) es))
-          ∙ append-nil ds;
-      equations = kinds_append equations_of equations_append ps ds es
-          ∙ ap₂ (λ a b. a ++ b) (no_other AProduction equations_of refl (λ a xs. refl) ps)
-          (ap₂ (λ a b. a ++ b) (no_other ADeclaration equations_of refl (λ a xs. refl) ds) (all_own AnEquation equations_of equation_kind es));
-    }
+    let kept = kinds_kept (productions_of items) (declarations_of items) (equations_of items) in
+    record { productions = kept.productions; declarations = kept.declarations; equations = kept.equations }
 
 -- what holds of items, holds of them in that order
 pub sorted_holds : (rule : Rule) → IsOfKinds rule → (items : List PlainItem) → Holds rule items → Holds rule (sorted items)

@@ -16,3 +16,4 @@ pub mod KindRules
 pub mod Starts
 pub mod Filling
 pub mod Keys
+pub mod EquationLaws
