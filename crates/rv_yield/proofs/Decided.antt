@@ -30,7 +30,7 @@ module _ (base : ℕ) (code : List Inst) (at : ℕ → ℕ) where
 pub decides :
     (given : List ℕ) (o l : ℕ) (y : Yielder) (old : Listing) → All (λ o. o < 33554432) given → is_built y ≡ true → HasWords y → registers_needed y ≤ 16 →
     Decides given o l y old (extended old (condition_items given true o l y))
-decides given o l y old near_given built words few behind c base f heap d b cells near before finds suited sorted =
+decides given o l y old near_given built words few behind c base f heap d b cells can sorted =
     let piece = condition_items given true o l y in
     let new = extended old piece in
     let items = new.items ++ behind in
@@ -41,5 +41,5 @@ decides given o l y old near_given built words few behind c base f heap d b cell
     let next : address_of (total old.items + total piece) ≡ end_of new = omega (arith, total-append old.items piece) in
     let stands = piece-stands items old.items piece behind parts in
     chosen-decided base code (spot items) limit c (address_of (total old.items + total piece)) (end_of new) (label_address new behind o) (label_address new behind l) (yields y d b cells) next
-    (condition-comes base code (spot items) o l (omega (arith, spot_le-total items o, near)) (omega (arith, spot_le-total items l, near)) heap given near_given f d b cells y true built words suited few sorted (total old.items) c
-    (omega (arith, near, sizes)) before stands finds)
+    (condition-comes base code (spot items) o l (omega (arith, spot_le-total items o, can.near)) (omega (arith, spot_le-total items l, can.near)) heap given near_given f d b cells y true built words can.suited few sorted (total old.items) c
+    (omega (arith, can.near, sizes)) can.before stands can.finds)

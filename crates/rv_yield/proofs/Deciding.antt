@@ -26,9 +26,10 @@ use Rattle.rv_yield.specs.Evaluates.{Finds}
 use Rattle.rv_yield.specs.Registers.{is_built, registers_needed, HasWords}
 use Rattle.rv_yield.specs.YielderCode.{value_items}
 use Rattle.rv_yield.proofs.ConditionLaws.{compared-later, compared-in_turn}
-use Rattle.rv_yield.proofs.Evaluation.{Stands, stands-front, stands-back, some-count, BothKnown, OneMissing, exchanged, operands-known, value-comes}
+use Rattle.rv_yield.proofs.Evaluation.{BothKnown, OneMissing, exchanged, operands-known, value-comes}
 use Rattle.rv_yield.proofs.Sorted.{same-is, less-is}
 use Rattle.rv_yield.proofs.Steps.{Arrives, arrives-then, arrives-weaker, ran-none, ran-passed, ran-leaves, ran-arrives}
+use Rattle.rv_yield.proofs.Targets.{Stands, stands-front, stands-back, some-count}
 use Rattle.rv_yield.proofs.Valued.{Valued, Known, valued-cases}
 
 -- ---- branches

@@ -42,7 +42,7 @@ pub evaluates :
     (given : List ℕ) (r l : ℕ) (y : Yielder) (old : Listing) → All (λ o. o < 33554432) given → is_built y ≡ true → HasWords y → 10 ≤ r → r + registers_needed y ≤ 26 →
     Evaluates given r l y old (extended old (value_items given r r l y))
 unfolding comes-at
-evaluates given r l y old near_given built words low room behind c base f heap d b cells near before finds suited =
+evaluates given r l y old near_given built words low room behind c base f heap d b cells can =
     let piece = value_items given r r l y in
     let new = extended old piece in
     let items = new.items ++ behind in
@@ -54,7 +54,7 @@ evaluates given r l y old near_given built words low room behind c base f heap d
     let next : address_of (total old.items + total piece) ≡ end_of new = omega (arith, total-append old.items piece) in
     let stands = piece-stands items old.items piece behind parts in
     let outcome =
-    value-comes base code (spot items) l (omega (arith, spot_le-total items l, near)) heap given near_given f d b cells y built words suited r r low room (inl refl) (total old.items) c (omega (arith, near, sizes)) before stands finds in
+    value-comes base code (spot items) l (omega (arith, spot_le-total items l, can.near)) heap given near_given f d b cells y built words can.suited r r low room (inl refl) (total old.items) c (omega (arith, can.near, sizes)) can.before stands can.finds in
     ⊎_elim
     (λ (p : Known base code heap limit r r c (address_of (total old.items + total piece)) (yields y d b cells)).
     subst (Evaluated base heap code limit r c (end_of new) nothing) (sym p.is) (comes-at base code limit r c _ _ next p.arrives, p.stands))

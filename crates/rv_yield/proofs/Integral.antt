@@ -16,9 +16,10 @@ use Rattle.rv_yield.specs.Evaluates.{HasFrame, Finds}
 use Rattle.rv_yield.specs.Registers.{is_arithmetic, is_integral, is_built, registers_needed, HasWords}
 use Rattle.rv_yield.specs.Tasks.{IsTarget}
 use Rattle.rv_yield.specs.YielderCode.{value_items}
-use Rattle.rv_yield.proofs.Evaluation.{Stands, value-comes}
+use Rattle.rv_yield.proofs.Evaluation.{value-comes}
 use Rattle.rv_yield.proofs.Numbers.{within-cases}
 use Rattle.rv_yield.proofs.Steps.{Outcome, Yielded, NotYielded}
+use Rattle.rv_yield.proofs.Targets.{Stands}
 use Rattle.rv_yield.proofs.Valued.{Valued, HasValue, NoValue}
 
 pub integral-built : (y : Yielder) → is_integral y ≡ true → is_built y ≡ true

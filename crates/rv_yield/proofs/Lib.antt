@@ -7,6 +7,7 @@ mod Checks
 mod Sums
 mod Divisions
 mod Additions
+pub mod Targets
 pub mod Valued
 pub mod Given
 mod Comparisons

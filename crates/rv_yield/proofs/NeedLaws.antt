@@ -5,7 +5,7 @@ use Rattle.rv_code.proofs.Bools.{true-or-false}
 use Rattle.action_terms.specs.Actions.{Two, Yielder, NumberLiteral, TruthLiteral, Given, GivenAt, BoundTo, StoredIn, OnTwo, OnOne, ClosureOf}
 use Rattle.action_terms.specs.Need.{yielder_count}
 use Rattle.rv_yield.specs.Registers.{registers_needed, need_of, both_needed, is_built}
-use Rattle.rv_yield.proofs.Evaluation.{some-need}
+use Rattle.rv_yield.proofs.Targets.{some-need}
 
 -- what an operation needs
 pub need-both : (f : Two) (y1 y2 : Yielder) → both_needed (need_of y1) (need_of y2) ≡ need_of (OnTwo f y1 y2)

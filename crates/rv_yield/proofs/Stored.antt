@@ -8,7 +8,7 @@ use Rattle.rv_code.specs.declared.instruction.OpOp.TheVariants.{Add}
 use Rattle.rv_code.specs.declared.instruction.StoreOp.TheVariants.{Sd}
 use Rattle.rv_asm.specs.Assembly.{Listing, total, spot, address_of, code_of}
 use Rattle.rv_asm.specs.DataWords.{Heap}
-use Rattle.rv_asm.specs.PieceRuns.{end_of, IsBefore}
+use Rattle.rv_asm.specs.PieceRuns.{end_of}
 use Rattle.rv_asm.specs.Pieces.{load_constant}
 use Rattle.rv_asm.specs.WordMachine.{WordState, Goes, put, run_words, Has}
 use Rattle.rv_asm.specs.declared.item.Item.{Item}
@@ -24,14 +24,13 @@ use Rattle.rv_asm.proofs.Words.{IsReachable, store-runs}
 use Rattle.action_terms.specs.Information.{Datum, Binds, Data, Storage}
 use Rattle.action_terms.specs.Actions.{Yielder}
 use Rattle.action_terms.specs.Need.{yielder_count}
-use Rattle.action_terms.specs.Suited.{IsSuited}
 use Rattle.action_terms.specs.Yielding.{yields}
-use Rattle.rv_yield.specs.Evaluates.{Evaluated, Evaluates, HasFrame, Finds, Left, Stores}
+use Rattle.rv_yield.specs.Evaluates.{CanEvaluate, Evaluated, Evaluates, HasFrame, Left, Stores}
 use Rattle.rv_yield.specs.Fronts.{extended}
 use Rattle.rv_yield.specs.YielderCode.{store_items}
 use Rattle.rv_yield.proofs.Evaluated.{leads-at}
-use Rattle.rv_yield.proofs.Evaluation.{some-count}
 use Rattle.rv_yield.proofs.Steps.{written, op-runs}
+use Rattle.rv_yield.proofs.Targets.{some-count}
 
 pub length-store : (offset : ℕ) → length (store_items offset) ≤ 10
 length-store offset =
@@ -108,8 +107,7 @@ module _ (base : ℕ) (code : List Inst) where
 
 module _
     (given : List ℕ) (offset l : ℕ) (y : Yielder) (old mid : Listing) (small : offset < 33554432) (evaluates : Evaluates given 10 l y old mid) (behind : List Item) (c : WordState) (base f : ℕ) (heap : Heap)
-    (d : Data) (b : Binds) (cells : Storage) (near : total ((mid.items ++ map Plain (store_items offset)) ++ behind) < 2 ^ 28) (before : IsBefore old c) (finds : Finds base heap given f c d)
-    (suited : IsSuited y d b cells) (inside : f + offset < length c.words)
+    (d : Data) (b : Binds) (cells : Storage) (can : CanEvaluate given y old (extended mid (map Plain (store_items offset))) behind base f heap d b cells c) (inside : f + offset < length c.words)
   where
     abbrev piece : List Inst
     piece = store_items offset
@@ -123,7 +121,7 @@ module _
     evaluated : Evaluated base heap (code_of items) (12 * yielder_count y) 10 c (end_of mid) (address_of (spot items l)) (yields y d b cells)
     evaluated =
         subst (λ i. Evaluated base heap (code_of i) (12 * yielder_count y) 10 c (end_of mid) (address_of (spot i l)) (yields y d b cells)) (sym same)
-        (evaluates (map Plain piece ++ behind) c base f heap d b cells (subst (λ i. total i < 2 ^ 28) same near) before finds suited)
+        (evaluates (map Plain piece ++ behind) c base f heap d b cells (record { near = subst (λ i. total i < 2 ^ 28) same can.near; before = can.before; finds = can.finds; suited = can.suited }))
 
     stands : Has (code_of items) (end_of mid) piece
     stands = subst (Has (code_of items) (end_of mid)) (code_from-plain (spot items) (total mid.items) piece) (piece-stands items mid.items (map Plain piece) behind same)
@@ -145,7 +143,7 @@ module _
         let code = code_of items in
         let word = g.end.registers 10 in
         let size = ap length g.words in
-        let frame = finds.frame in
+        let frame = can.finds.frame in
         let there : HasFrame base f g.end = record {
           aligned = frame.aligned;
           below = omega (arith, frame.below, size);
@@ -169,6 +167,6 @@ module _
 
 pub stores :
     (given : List ℕ) (offset l : ℕ) (y : Yielder) (old mid : Listing) → offset < 33554432 → Evaluates given 10 l y old mid → Stores given offset l y old (extended mid (map Plain (store_items offset)))
-stores given offset l y old mid small ev behind c base f heap d b cells near before finds suited inside =
-    left given offset l y old mid small ev behind c base f heap d b cells near before finds suited inside (yields y d b cells)
-    (evaluated given offset l y old mid small ev behind c base f heap d b cells near before finds suited inside)
+stores given offset l y old mid small ev behind c base f heap d b cells can inside =
+    left given offset l y old mid small ev behind c base f heap d b cells can inside (yields y d b cells)
+    (evaluated given offset l y old mid small ev behind c base f heap d b cells can inside)

@@ -19,8 +19,8 @@ use Rattle.rv_yield.specs.declared.tasks.Task.{Task}
 use Rattle.rv_yield.specs.declared.tasks.Task.TheVariants as task
 use Rattle.rv_asm.proofs.Places.{and-true}
 use Rattle.rv_yield.proofs.Additions.{second-added, first-added}
-use Rattle.rv_yield.proofs.Evaluation.{addend-target, some-count, option-cases}
 use Rattle.rv_yield.proofs.Fronts.{appended-none, appended-then, front-first, front-behind}
+use Rattle.rv_yield.proofs.Targets.{addend-target, some-count, option-cases}
 
 is-true : (b : Bool) → b ≡ true → IsTrue b
 is-true true e = refl

@@ -40,6 +40,16 @@ pub record Finds (base : ℕ) (heap : Heap) (given : List ℕ) (f : ℕ) (c : Wo
   pub holds : Holds base heap c.words f given d
   pub cells : HasCells heap (length c.words)
 
+-- the code of a yielder, with what is emitted behind it, is ready to run: what it finds is of the sorts that it wants
+pub record CanEvaluate
+    (given : List ℕ) (y : Yielder) (old new : Listing) (behind : List Item) (base f : ℕ) (heap : Heap) (d : Data) (b : Binds)
+    (cells : Storage) (c : WordState) : Type 0
+  where
+    pub near : total (new.items ++ behind) < 2 ^ 28
+    pub before : IsBefore old c
+    pub finds : Finds base heap given f c d
+    pub suited : IsSuited y d b cells
+
 -- ---- a value in a register
 
 -- at most so many instructions lead from a state to an address. The registers below `first` are as before, and so are all
@@ -65,7 +75,7 @@ Evaluated base heap code limit register c next nothing None = Comes base code li
 abbrev pub Evaluates : (given : List ℕ) → (register nothing : ℕ) → Yielder → (old new : Listing) → Type 0
 Evaluates given register nothing y old new =
     (behind : List Item) (c : WordState) (base f : ℕ) (heap : Heap) (d : Data) (b : Binds) (cells : Storage) →
-    total (new.items ++ behind) < 2 ^ 28 → IsBefore old c → Finds base heap given f c d → IsSuited y d b cells →
+    CanEvaluate given y old new behind base f heap d b cells c →
     Evaluated base heap (code_with new behind) (12 * yielder_count y) register c (end_of new) (label_address new behind nothing) (yields y d b cells)
 
 -- ---- a word of the frame in place of a register
@@ -94,7 +104,7 @@ Left base heap code limit f offset c next nothing None = Comes base code limit 5
 abbrev pub Stores : (given : List ℕ) → (offset nothing : ℕ) → Yielder → (old new : Listing) → Type 0
 Stores given offset nothing y old new =
     (behind : List Item) (c : WordState) (base f : ℕ) (heap : Heap) (d : Data) (b : Binds) (cells : Storage) →
-    total (new.items ++ behind) < 2 ^ 28 → IsBefore old c → Finds base heap given f c d → IsSuited y d b cells → f + offset < length c.words →
+    CanEvaluate given y old new behind base f heap d b cells c → f + offset < length c.words →
     Left base heap (code_with new behind) (24 * yielder_count y) f offset c (end_of new) (label_address new behind nothing) (yields y d b cells)
 
 -- ---- a truth-value that decides where the code goes on
@@ -110,5 +120,5 @@ Decided base code limit c next otherwise nothing None = Comes base code limit fi
 abbrev pub Decides : (given : List ℕ) → (otherwise nothing : ℕ) → Yielder → (old new : Listing) → Type 0
 Decides given otherwise nothing y old new =
     (behind : List Item) (c : WordState) (base f : ℕ) (heap : Heap) (d : Data) (b : Binds) (cells : Storage) →
-    total (new.items ++ behind) < 2 ^ 28 → IsBefore old c → Finds base heap given f c d → IsSuited y d b cells → IsOfSort sort.Truth (yields y d b cells) →
+    CanEvaluate given y old new behind base f heap d b cells c → IsOfSort sort.Truth (yields y d b cells) →
     Decided base (code_with new behind) (24 * yielder_count y) c (end_of new) (label_address new behind otherwise) (label_address new behind nothing) (yields y d b cells)

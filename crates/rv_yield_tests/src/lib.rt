@@ -3,3 +3,7 @@
 
 #[cfg(test)]
 mod evaluation;
+#[cfg(test)]
+mod programs;
+#[cfg(test)]
+mod truths;

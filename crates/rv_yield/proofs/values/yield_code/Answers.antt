@@ -8,11 +8,11 @@ use Rattle.rv_asm.proofs.Sending.{total-plain}
 use Rattle.action_terms.specs.Forms.{yielder_at}
 use Rattle.rv_yield.specs.Evaluates.{Stores}
 use Rattle.rv_yield.specs.YielderCode.{value_items, store_items}
-use Rattle.rv_yield.proofs.Evaluation.{some-count}
 use Rattle.rv_yield.proofs.Fronts.{front-first, front-second}
 use Rattle.rv_yield.proofs.ItemLaws.{placed-unmarked, unmarked-plain}
 use Rattle.rv_yield.proofs.NeedLaws.{registers-enough}
 use Rattle.rv_yield.proofs.Stored.{length-store, stores}
+use Rattle.rv_yield.proofs.Targets.{some-count}
 use Rattle.rv_yield.proofs.values.yield_code.Goals as goal
 
 pub value_code-requires-clause-room : goal.value_code-requires-clause-room

@@ -2,7 +2,7 @@
 use Rattle.std.proofs.Common.{arith}
 use Rattle.std.proofs.lemmas.Result.{on_ok_weaker}
 use Rattle.rv_yield_tests.proofs.Totals.{total-constant}
-use Rattle.rv_yield_tests.proofs.evaluation.append_start.Goals as goal
+use Rattle.rv_yield_tests.proofs.programs.append_start.Goals as goal
 
 pub returns-clause-short : goal.returns-clause-short
 returns-clause-short c =

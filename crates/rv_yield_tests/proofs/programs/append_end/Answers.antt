@@ -8,7 +8,7 @@ use Rattle.rv_code.specs.declared.instruction.Inst.TheVariants.{Load}
 use Rattle.rv_code.specs.declared.instruction.LoadOp.TheVariants.{Ld}
 use Rattle.rv_asm.proofs.Labels.{total-append}
 use Rattle.rv_yield_tests.proofs.Totals.{total-appended, total-constant}
-use Rattle.rv_yield_tests.proofs.evaluation.append_end.Goals as goal
+use Rattle.rv_yield_tests.proofs.programs.append_end.Goals as goal
 
 pub returns-clause-short : goal.returns-clause-short
 returns-clause-short c =
