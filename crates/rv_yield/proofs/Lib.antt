@@ -10,8 +10,8 @@ mod Additions
 pub mod Targets
 pub mod Valued
 pub mod Given
-mod Comparisons
-mod Sorted
+pub mod Comparisons
+pub mod Sorted
 pub mod Evaluation
 mod TaskLaws
 pub mod NeedLaws
@@ -20,5 +20,5 @@ pub mod Deciding
 mod ConditionLaws
 mod Evaluated
 mod Decided
-mod Stored
+pub mod Stored
 pub mod Integral
