@@ -17,7 +17,7 @@ front_of_first first second old new gains =
     ]
 
 -- behind the first piece, a front of the second is a front of both
-front_of_second : (first second old middle new : List ℕ) → middle ≡ old ++ first → GainsFrontOf second middle new → GainsFrontOf (first ++ second) old new
+pub front_of_second : (first second old middle new : List ℕ) → middle ≡ old ++ first → GainsFrontOf second middle new → GainsFrontOf (first ++ second) old new
 front_of_second first second old middle new behind gains =
     (length first + gains.0, gains.1 ∙ ap (λ bytes. bytes ++ take gains.0 second) behind ∙ append_assoc old first (take gains.0 second) ∙ ap (λ front. old ++ front) (sym (take-append-add first second gains.0)))
 

@@ -70,10 +70,10 @@ pub fn slots(alloc: Global, graph: &Graph<'_>, table: &Table<'_>) -> Result<Vec<
     Ok(slots)
 }
 
-/// The factor: how many instructions a compiled action takes at most for a step, where the table is
-/// one of the action. An `Err` says want of memory.
+/// The factor: how many instructions a compiled action takes at most for a step, where the table has
+/// a row for each of its nodes. An `Err` says want of memory.
 pub fn factor(alloc: Global, graph: &Graph<'_>, table: &Table<'_>) -> Result<u64, Memory>
-    requires { IsTableOf (action_of graph.now) table.now }
+    requires rows { length table.now.rows ≡ length (action_of graph.now) }
     ensures { IfOk result (λ instructions. instructions
         ≡ factor (width (length (action_of graph.now)) (unmarked table.now))
         (most_yielders (action_of graph.now))) }

@@ -121,7 +121,7 @@ impl<'a> Table<'a> {
 
     /// What the cells of an `allocate` node may hold; the empty set for every other node.
     pub fn contents(&self, node: u32) -> Set<'a>
-        requires there { node < length self.now.contents }
+        requires there { node < length self.now.rows }
         ensures contents { slice_get self.now.contents node ≡ Some (set_of result) }
     {
         self.contents[node as usize]

@@ -1,0 +1,2 @@
+pub mod SeparatedLaws
+pub mod ReportLaws
