@@ -62,7 +62,7 @@ module _ (g : Listed) (graph : IsGraph g) (numbers : NumbersFit (action_of g)) (
   }
 
   -- the image of the words is right, whatever table measures it
-  pub generated-right : (words : List ℕ) → LabelsStand (action_items (action_of g)) → total (action_items (action_of g)) ≤ 25 + 12 * node_count (action_of g) → map Some words ≡ map encode (code_of (action_items (action_of g))) → (t : MarkedTable) (stack units : ℕ) → 1 ≤ stack → stack ≤ 16777216 → 1 ≤ units → units ≤ 4194304 → IsRight (compiled_image (instruction_bytes words) stack units) (record { action = action_of g; table = t; stack = stack; units = units })
+  pub generated-right : (words : List ℕ) → LabelsStand (action_items (action_of g)) → total (action_items (action_of g)) ≤ 25 + 15 * node_count (action_of g) → map Some words ≡ map encode (code_of (action_items (action_of g))) → (t : MarkedTable) (stack units : ℕ) → 1 ≤ stack → stack ≤ 16777216 → 1 ≤ units → units ≤ 4194304 → IsRight (compiled_image (instruction_bytes words) stack units) (record { action = action_of g; table = t; stack = stack; units = units })
   generated-right words labels short encoded t stack units s_low s u_low u =
       let a = action_of g in
       let items = action_items a in

@@ -34,6 +34,9 @@ pub mod Phases
 pub mod Joins
 pub mod Ending
 pub mod Escaping
+pub mod Nothing
+pub mod TruthYielders
+pub mod Checking
 pub mod SendEntry
 pub mod Sending
 pub mod NumberWords

@@ -33,6 +33,7 @@ use Rattle.rv_codegen.proofs.Ending.{LeavesNone, binds-none, leaves-stand}
 use Rattle.rv_codegen.proofs.Holding.{Holds, grows-same}
 use Rattle.rv_codegen.proofs.InputLeft.{left-same}
 use Rattle.rv_codegen.proofs.Jumps.{jumped, jump-runs, addressed, address-runs}
+use Rattle.rv_codegen.proofs.Nothing.{no-closures, has-words, nothing-did}
 use Rattle.rv_codegen.proofs.Messages.{bytes_of-message, messages_bytes-append}
 use Rattle.rv_codegen.proofs.Performing.{Did, step-done, step-failed}
 use Rattle.rv_codegen.proofs.RestPoints.{Laid, Starting, StartGoesOn, near, open-run}
@@ -41,33 +42,6 @@ use Rattle.rv_codegen.proofs.Settings.{Way, way-runs, Setting, code, point, star
 use Rattle.rv_codegen.proofs.Standing.{NodeStands}
 use Rattle.rv_codegen.proofs.Units.{units-kept, units-more}
 use Rattle.rv_codegen.proofs.Walk.{Cursor, stands, over, over-mark, mark-at, jump-stands, over-jump, address-stands, over-address}
-
--- ---- yielders whose code can be made
-
--- they make no closure
-no-closures : (y : Yielder) → is_integral y ≡ true → closures_in y ≡ []
-no-closures (NumberLiteral z) built = refl
-no-closures (OnTwo f y1 y2) built =
-    let p = and-true (is_arithmetic f) (is_integral y1 && is_integral y2) built in
-    let q = and-true (is_integral y1) (is_integral y2) p.1 in
-    rw (no-closures y1 q.0, no-closures y2 q.1) refl
-no-closures (OnOne Negation y) built = no-closures y built
-no-closures _ built = absurd (cc)
-
--- the numbers in a yielder are those of 64 bits
-has-words : (y : Yielder) → YielderFits y → HasWords y
-has-words (NumberLiteral z) fits = fits
-has-words (OnTwo f y1 y2) fits = (has-words y1 fits.0, has-words y2 fits.1)
-has-words (OnOne f y) fits = has-words y fits
-has-words _ fits = tt
-
--- a run from one place to another, further on, has an instruction
-moves-on : (base : ℕ) (code : List Inst) (n : ℕ) (c e : WordState) (p q : ℕ) → run_words base code n c ≡ Goes e → c.pc ≡ address_of p → e.pc ≡ address_of q → p < q → 0 < n
-moves-on base code zero c e p q runs at there less =
-    let stays : Goes c ≡ Goes e = runs in
-    let same : c.pc ≡ e.pc = cc in
-    absurd (omega (arith, at, there, same, less))
-moves-on base code (suc n) c e p q runs at there less = omega arith
 
 -- what the code of a node needs of the yielder that it sends
 pub record IsSendable (y : Yielder) : Type 0 where
@@ -212,29 +186,6 @@ module _ (s : Setting) where
             high : 512 ≤ x.runs.here.f
             high = frames-high s x.runs.here.heap x.runs.here.words x.frames x.runs.here.f x.k x.runs.here.chains x.runs.here.around
 
-        -- there is nothing to send
-        none-did : (start s x.k).place < (failure s).place → Comes (address_of (failure s).place) → Did s laid x (silent failed) (failure s)
-        none-did less a =
-            let h = x.runs.here in
-            record {
-              end = a.end;
-              count = a.count;
-              some = inl (moves-on s.base (code s) a.count x.state a.end (start s x.k).place (failure s).place a.runs x.runs.at a.at less);
-              few = omega (arith, a.few, paid);
-              runs = a.runs;
-              between = quiet-between s.base (code s) a.count x.state a.end a.runs a.output;
-              at = a.at;
-              heap = h.heap;
-              grows = grows-same h.heap;
-              words = h.words;
-              stands = record { region = a.others 3 (omega arith) (omega arith) ∙ h.stands.region; frame_at = a.others 2 (omega arith) (omega arith) ∙ h.stands.frame_at; words_are = a.words ∙ h.stands.words_are };
-              region = h.region;
-              agrees = record { here = λ o no. refl; below = λ j l lt. refl };
-              units_are = units-more s h.heap h.words (plugged x.frames (silent failed)) x.steps x.world.cells h.units_are;
-              left = left-same {ys = a.end.input} a.input x.left;
-              output = a.output ∙ x.shown;
-            }
-
         module _ (ok : IsSendable y) where
           -- the node's one step is to send what the yielder yields
           open-sent : (n : Step) → sent (yields y x.d x.b x.world.cells) ≡ n → n.made ≡ [] → OneOf n (open_steps s.action x.world (Run x.k x.d x.b))
@@ -261,6 +212,6 @@ module _ (s : Setting) where
               (subst (λ os. Holds s.base did.heap did.words h.f os []) (sym none.out) tt)
               (binds-none s k none did.heap did.words h.f))
               (λ (p : (v ≡ None) × Comes (address_of (failure s).place)).
-              step-failed s laid x (silent failed) (open-sent (silent failed) (ap sent p.0) refl) refl (none-did less p.1))
+              step-failed s laid x (silent failed) (open-sent (silent failed) (ap sent p.0) refl) refl (nothing-did s laid x (12 * yielder_count y) (omega (arith, paid)) less p.1))
               (outcome-cases s.base (code s) (12 * yielder_count y) 10 10 x.state (address_of calls.call) (address_of (failure s).place) v
               (subst (λ p. Outcome s.base (code s) (12 * yielder_count y) 10 10 x.state p (address_of (failure s).place) v) next outcome))

@@ -24,7 +24,7 @@ pub record NodeStands (items : List Item) (exits : List ℕ) (k : ℕ) (node : N
   pub place : ℕ
   pub behind : List Item
   pub opened : Opened items k place (body k (get_or exits k 0) node ++ (opening (suc k) ++ behind))
-  pub before_failure : place + total (body k (get_or exits k 0) node) ≤ spot items fail_label
+  pub before_failure : place + total (body k (get_or exits k 0) node) < spot items fail_label
 
 module _ (items : List Item) (labels : LabelsStand items) where
   pub opens : (k n : ℕ) (rest : List Item) → Cursor items n (opening k ++ rest) → Opened items k n rest
@@ -52,7 +52,7 @@ module _ (items : List Item) (labels : LabelsStand items) where
     abbrev AllStand : ℕ → Action → Type 0
     AllStand k a = (j : ℕ) (x : Node) → slice_get a j ≡ Some x → NodeStands items exits (k + j) x
 
-    all-stand : (a : Action) (k n : ℕ) → Cursor items n (blocks_from k exits a ++ entries (k + length a)) → n + total (blocks_from k exits a) ≤ spot items fail_label → AllStand k a
+    all-stand : (a : Action) (k n : ℕ) → Cursor items n (blocks_from k exits a ++ entries (k + length a)) → n + total (blocks_from k exits a) < spot items fail_label → AllStand k a
     all-stand [] k n c within = λ j x e. absurd (cc)
     all-stand (x ∷ a) k n c within =
         let b = block k (get_or exits k 0) x in

@@ -9,7 +9,7 @@ use Rattle.rv_asm.specs.WordMachine.{WordState, Has}
 use Rattle.rv_asm.proofs.Calls.{before_exit, before_exit-runs, exit-stops}
 use Rattle.rv_asm.proofs.Moments.{quiet-stop}
 use Rattle.action_terms.specs.Information.{Binds, Data, World}
-use Rattle.action_terms.specs.Actions.{Primitive, Complete, Failing, Escape, Commit, Regive, Send, Node, Simple, Furthermore, Both, Phases, node_at}
+use Rattle.action_terms.specs.Actions.{Primitive, Complete, Failing, Escape, Commit, Regive, Check, Send, Node, Simple, Furthermore, Both, Phases, node_at}
 use Rattle.action_terms.specs.Literals.{NodeFits, NumbersFit}
 use Rattle.action_terms.specs.Acting.{Done, End, Esc, Fail, Tree, Run, Ended}
 use Rattle.action_terms.specs.Need.{node_yielder_count}
@@ -20,6 +20,7 @@ use Rattle.action_terms.proofs.Parts.{Reaches, EachPasses, reaches-rise}
 use Rattle.rv_codegen.specs.Blocks.{send_label, stop_of, send_entry}
 use Rattle.rv_codegen.specs.Built.{is_built_node}
 use Rattle.rv_codegen.proofs.Around.{Chains, Around}
+use Rattle.rv_codegen.proofs.Checking.{IsCheckable, check-goes}
 use Rattle.rv_codegen.proofs.Completions.{tail-done}
 use Rattle.rv_codegen.proofs.Configurations.{Configuration, EndCode, depth, performances}
 use Rattle.rv_codegen.proofs.Ending.{LeavesNone, complete-goes, commit-goes, regive-goes, fail-goes}
@@ -69,6 +70,9 @@ module _ (s : Setting) where
     run-goes x (Simple Regive) e stands b = regive-goes s it.laid x (it.unfed x.k) e it.labels (omega (arith, it.within x.k x.runs.here.node)) (it.none x.k Regive e) stands
     run-goes x (Simple Escape) e stands b = escape-goes s it.laid x (it.unfed x.k) e stands
     run-goes x (Simple Failing) e stands b = fail-goes s it.laid x e stands
+    run-goes x (Simple (Check y)) e stands b =
+        let ok : IsCheckable y = record { built = b; few = subst (λ n. node_yielder_count n < 65536) e (it.few x.k); fits = subst NodeFits e (node-fits s.action x.k it.numbers) } in
+        check-goes s it.laid x y e ok (it.unfed x.k) it.labels (it.within x.k x.runs.here.node) (it.none x.k (Check y) e) stands
     run-goes x (Simple (Send y)) e stands b =
         let ok : IsSendable y = record { built = b; few = subst (λ n. node_yielder_count n < 65536) e (it.few x.k); fits = subst NodeFits e (node-fits s.action x.k it.numbers) } in
         send-goes s it.laid it.send x y e ok it.closed it.labels (it.within x.k x.runs.here.node) (it.none x.k (Send y) e) stands

@@ -1,5 +1,5 @@
 -- The items that the code of an action is assembled from.
-use Rattle.std.specs.Prelude.{ℕ, suc, ◌+◌, ◌*◌, nat_eq, if◌then◌else◌, List, [], ◌∷◌, ◌++◌, map, pos, slice_index, slice_set, replicate, length}
+use Rattle.std.specs.Prelude.{ℕ, suc, ◌+◌, ◌*◌, nat_eq, if◌then◌else◌, true, List, [], ◌∷◌, ◌++◌, map, pos, slice_index, slice_set, replicate, length}
 use Rattle.rv_code.specs.declared.instruction.Inst.{Inst}
 use Rattle.rv_code.specs.declared.instruction.Inst.TheVariants.{Op, OpImm, Shift, Upper, Jalr}
 use Rattle.rv_code.specs.declared.instruction.OpOp.TheVariants.{Add}
@@ -9,7 +9,8 @@ use Rattle.rv_code.specs.declared.instruction.UpperOp.TheVariants.{Lui}
 use Rattle.rv_asm.specs.Pieces.{send_word, exit_with}
 use Rattle.rv_asm.specs.declared.item.Item.{Item}
 use Rattle.rv_asm.specs.declared.item.Item.TheVariants.{Plain, Mark, Jump, Address}
-use Rattle.action_terms.specs.Actions.{Yielder, Complete, Failing, Escape, Commit, Regive, Send, Node, Simple, Both, Phases, Action}
+use Rattle.action_terms.specs.Actions.{Yielder, Complete, Failing, Escape, Commit, Regive, Check, Send, Node, Simple, Both, Phases, Action}
+use Rattle.rv_yield.specs.Conditions.{condition_items}
 use Rattle.rv_yield.specs.YielderCode.{value_items}
 
 -- ---- labels
@@ -100,6 +101,10 @@ leaves k exit = goes (front_of (suc k)) exit
 abbrev pub sends : (k : ℕ) → Yielder → List Item
 sends k y = value_items [] 10 10 fail_label y ++ (Address 1 (stop_of k) ∷ Jump send_label ∷ Mark (stop_of k) ∷ [])
 
+-- goes on where a yielder yields `true`, and else to the entry for failures
+abbrev pub checks : (k : ℕ) → Yielder → List Item
+checks k y = condition_items [] true fail_label fail_label y ++ Mark (stop_of k) ∷ []
+
 -- escapes by the entry for escapes, which finds the address of the data in register 10. None are given, so it is that of the frame
 abbrev pub escapes : List Item
 escapes = Plain (OpImm Addi 10 2 (pos 0)) ∷ Jump escape_label ∷ []
@@ -111,6 +116,7 @@ body k exit (Simple Commit) = leaves k exit
 body k exit (Simple Regive) = leaves k exit
 body k exit (Simple Failing) = Jump fail_label ∷ []
 body k exit (Simple Escape) = escapes
+body k exit (Simple (Check y)) = checks k y ++ leaves k exit
 body k exit (Simple (Send y)) = sends k y ++ leaves k exit
 body k exit (Both j l r) = goes (start_of (suc k)) (start_of l)
 body k exit (Phases q l r) = goes (start_of (suc k)) (start_of l)

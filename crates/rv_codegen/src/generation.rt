@@ -36,7 +36,7 @@ fn append_nodes(asm: &mut Asm, plan: Plan<'_, '_>) -> Result<(), Memory>
     ensures fresh { OnOk result (AreFresh (length plan.entry.graph.now.nodes) asm.new.items) }
     ensures short { OnOk result
         (total asm.new.items ≤ total asm.old.items + 6 * length plan.entry.graph.now.nodes
-        + 12 * sum_by node_yielder_count (action_of plan.entry.graph.now)) }
+        + 15 * sum_by node_yielder_count (action_of plan.entry.graph.now)) }
 {
     let count = plan.graph.nodes().len();
     for k in 0..count {
@@ -51,7 +51,7 @@ fn append_action(asm: &mut Asm, plan: Plan<'_, '_>) -> Result<(), Memory>
     requires made { first_label + length plan.labels.row.now ≤ asm.old.labels }
     ensures items { OnOk result (asm.new.items ≡ action_items (action_of plan.entry.graph.now)) }
     ensures short { OnOk result
-        (total asm.new.items ≤ 25 + 12 * node_count (action_of plan.entry.graph.now)) }
+        (total asm.new.items ≤ 25 + 15 * node_count (action_of plan.entry.graph.now)) }
 {
     append_prelude(asm, plan.entries)?;
     append_nodes(asm, plan)?;
@@ -65,7 +65,7 @@ fn assemble(alloc: Global, graph: &Graph<'_>) -> Result<Code, Memory>
         ≡ map encode (code_of (action_items (action_of graph.now)))) }
     ensures labels { OnOk result (LabelsStand (action_items (action_of graph.now))) }
     ensures short { OnOk result
-        (total (action_items (action_of graph.now)) ≤ 25 + 12 * node_count (action_of graph.now)) }
+        (total (action_items (action_of graph.now)) ≤ 25 + 15 * node_count (action_of graph.now)) }
     ensures graph { OnOk result (IsGraph graph.now) }
     ensures numbers { OnOk result (NumbersFit (action_of graph.now)) }
 {

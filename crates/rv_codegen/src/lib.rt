@@ -3,6 +3,7 @@
 #![tactic(auto)]
 
 mod built;
+mod conditions;
 mod entries;
 mod exits;
 mod factor;

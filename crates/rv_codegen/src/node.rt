@@ -8,9 +8,9 @@ ghost use Rattle.action_terms.specs.Meaning.{action_of};
 ghost use Rattle.action_terms.specs.Need.{node_yielder_count, yielder_count};
 ghost use Rattle.action_terms.specs.Numbering.{node_limit};
 ghost use Rattle.rv_yield.specs.Registers.{is_integral};
-ghost use Rattle.rv_codegen.specs.Blocks.{first_label, start_of, stop_of, goes, leaves, escapes, sends, body, block};
+ghost use Rattle.rv_codegen.specs.Blocks.{first_label, start_of, stop_of, goes, leaves, escapes, checks, sends, body, block};
 ghost use Rattle.rv_codegen.specs.Marks.{extended, AreFresh, PlacesStop};
-ghost use Rattle.rv_codegen.specs.Built.{is_built_node};
+ghost use Rattle.rv_codegen.specs.Built.{is_condition, is_built_node};
 
 use crate::entries::{ARGUMENT, FRAME, RETURN, append_opening};
 use crate::plan::Plan;
@@ -18,7 +18,7 @@ use acg_base::Memory;
 use action_terms::{NodeView, PrimitiveView};
 use rv_asm::{Asm, Label};
 use rv_code::{Inst, OpImmOp};
-use rv_yield::{Source, value_code};
+use rv_yield::{Source, condition_code, value_code};
 
 /// Appends the way to a label from before another: nothing where that is the one.
 #[tactic(auto, using(crate::proofs::Fresh::freshness))]
@@ -107,6 +107,59 @@ fn append_sending(
     append_way(asm, next, exit)
 }
 
+/// Appends what goes on where a yielder yields `true`, and else to the entry for failures.
+#[tactic(auto, using(crate::proofs::Fresh::freshness))]
+fn append_checks(asm: &mut Asm, plan: Plan<'_, '_>, k: usize, yielder: u32) -> Result<(), Memory>
+    requires node { k < length plan.graph.now.nodes }
+    requires made { first_label + length plan.labels.row.now ≤ asm.old.labels }
+    requires datum { IsDatum plan.graph.now.yielders yielder }
+    requires built { is_condition (yielder_at plan.graph.now.yielders yielder) ≡ true }
+    requires few { yielder_count (yielder_at plan.graph.now.yielders yielder) < node_limit }
+    requires stop { is_placed asm.old.items (stop_of k) ≡ false }
+    ensures items { OnOk result (asm.new
+        ≡ extended asm.old (checks k (yielder_at plan.entry.graph.now.yielders yielder))) }
+    ensures marks { OnOk result (PlacesStop k asm.old.items asm.new.items) }
+    ensures short { OnOk result (total asm.new.items ≤ total asm.old.items
+        + 15 * yielder_count (yielder_at plan.entry.graph.now.yielders yielder)) }
+{
+    let fail = plan.entries.fail;
+    let source = Source {
+        graph: plan.graph,
+        needs: plan.needs,
+        given: &[],
+        nothing: fail,
+    };
+    condition_code(plan.alloc, asm, &source, yielder, fail)?;
+    asm.place(plan.labels.stop(k));
+    Ok(())
+}
+
+/// Appends the code of node k where it checks a yielder and goes on at a label.
+fn append_checking(
+    asm: &mut Asm,
+    plan: Plan<'_, '_>,
+    k: usize,
+    exit: Label,
+    yielder: u32,
+) -> Result<(), Memory>
+    requires node { k < length plan.graph.now.nodes }
+    requires made { first_label + length plan.labels.row.now ≤ asm.old.labels }
+    requires exit { exit < asm.old.labels }
+    requires datum { IsDatum plan.graph.now.yielders yielder }
+    requires built { is_condition (yielder_at plan.graph.now.yielders yielder) ≡ true }
+    requires few { yielder_count (yielder_at plan.graph.now.yielders yielder) < node_limit }
+    requires stop { is_placed asm.old.items (stop_of k) ≡ false }
+    ensures items { OnOk result (asm.new ≡ extended asm.old
+        (checks k (yielder_at plan.entry.graph.now.yielders yielder) ++ leaves k exit)) }
+    ensures marks { OnOk result (PlacesStop k asm.old.items asm.new.items) }
+    ensures short { OnOk result (total asm.new.items ≤ total asm.old.items + 6
+        + 15 * yielder_count (yielder_at plan.entry.graph.now.yielders yielder)) }
+{
+    let next = plan.labels.front(k + 1);
+    append_checks(asm, plan, k, yielder)?;
+    append_way(asm, next, exit)
+}
+
 /// Appends the code of node k behind its start where it is done in one step and goes on at a
 /// label.
 #[tactic(auto, using(crate::proofs::Fresh::freshness))]
@@ -130,7 +183,7 @@ fn append_primitive(
         (body k exit (Simple (primitive_viewed plan.entry.graph.now.yielders primitive.entry)))) }
     ensures marks { OnOk result (PlacesStop k asm.old.items asm.new.items) }
     ensures short { OnOk result (total asm.new.items ≤ total asm.old.items + 6
-        + 12 * node_yielder_count
+        + 15 * node_yielder_count
         (Simple (primitive_viewed plan.entry.graph.now.yielders primitive.entry))) }
 {
     match primitive {
@@ -139,6 +192,7 @@ fn append_primitive(
         }
         PrimitiveView::Failing => asm.jump(plan.entries.fail),
         PrimitiveView::Escape => append_escape(asm, plan),
+        PrimitiveView::Check { yielder } => append_checking(asm, plan, k, exit, yielder),
         PrimitiveView::Send { yielder } => append_sending(asm, plan, k, exit, yielder),
         _ => Ok(()),
     }
@@ -169,7 +223,7 @@ fn append_body(asm: &mut Asm, plan: Plan<'_, '_>, k: usize, exit: Label) -> Resu
         ≡ extended asm.old (body k exit (node_at (action_of plan.entry.graph.now) k))) }
     ensures marks { OnOk result (PlacesStop k asm.old.items asm.new.items) }
     ensures short { OnOk result (total asm.new.items ≤ total asm.old.items + 6
-        + 12 * node_yielder_count (node_at (action_of plan.entry.graph.now) k)) }
+        + 15 * node_yielder_count (node_at (action_of plan.entry.graph.now) k)) }
 {
     match plan.graph.view(k) {
         NodeView::Simple(primitive) => append_primitive(asm, plan, k, exit, primitive),
@@ -202,7 +256,7 @@ pub(crate) fn append_node(
         ≡ extended asm.old (block k exit (node_at (action_of plan.entry.graph.now) k))) }
     ensures fresh { OnOk result (AreFresh (k + 1) asm.new.items) }
     ensures short { OnOk result (total asm.new.items ≤ total asm.old.items + 6
-        + 12 * node_yielder_count (node_at (action_of plan.entry.graph.now) k)) }
+        + 15 * node_yielder_count (node_at (action_of plan.entry.graph.now) k)) }
 {
     append_opening(asm, plan.labels, k);
     append_body(asm, plan, k, exit)

@@ -12,5 +12,5 @@ invariant-loop-k l = record {
   items : l.asm.items ++ blocks_from l.k l.plan.exits.now (drop l.k (action_of l.plan.graph.now)) ≡ l.fn.asm.items ++ blocks_from 0 l.plan.exits.now (action_of l.plan.graph.now);
   labels : l.asm.labels ≡ l.fn.asm.labels;
   fresh : AreFresh l.k l.asm.items;
-  short : total l.asm.items ≤ total l.fn.asm.items + 6 * l.k + 12 * sum_by node_yielder_count (take l.k (action_of l.plan.graph.now));
+  short : total l.asm.items ≤ total l.fn.asm.items + 6 * l.k + 15 * sum_by node_yielder_count (take l.k (action_of l.plan.graph.now));
 }

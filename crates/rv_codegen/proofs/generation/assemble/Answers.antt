@@ -22,7 +22,7 @@ returns-clause-labels c = subst (λ items. OnOk c.finish.result (LabelsStand ite
 
 pub returns-clause-short : goal.returns-clause-short
 returns-clause-short c =
-    OnOk-always _ c.finish.result (subst (λ items. total items ≤ 25 + 12 * node_count (action_of c.args.graph.now)) c.in_ok-append_action.ensures.items c.in_ok-append_action.ensures.short)
+    OnOk-always _ c.finish.result (subst (λ items. total items ≤ 25 + 15 * node_count (action_of c.args.graph.now)) c.in_ok-append_action.ensures.items c.in_ok-append_action.ensures.short)
 
 pub invariant_of-plan-clause-made : goal.invariant_of-plan-clause-made
 invariant_of-plan-clause-made c =
