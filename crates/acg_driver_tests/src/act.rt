@@ -64,6 +64,45 @@ fn performances(rt: HostRuntime) -> Result<(), Fail> {
     Ok(())
 }
 
+// A check goes on or fails, by its condition.
+#[test]
+fn checks(rt: HostRuntime) -> Result<(), Fail> {
+    let alloc = rt.alloc();
+    assert!(rt;
+        acts(
+            alloc,
+            b"check is less than(1, 2) and then send 1",
+            b"stack 1048576 units 262144 factor 496\n1\ncompleted\n",
+            Status::Done,
+        )?
+    );
+    assert!(rt;
+        acts(
+            alloc,
+            b"check is(1, 2)",
+            b"stack 1048576 units 262144 factor 496\nfailed\n",
+            Status::Failed,
+        )?
+    );
+    assert!(rt;
+        acts(
+            alloc,
+            b"check both(not(is(true, false)), either(is less than(3, 3), is(sum(1, 2), 3)))",
+            b"stack 1048576 units 262144 factor 760\ncompleted\n",
+            Status::Done,
+        )?
+    );
+    assert!(rt;
+        acts(
+            alloc,
+            b"check true and then (send 1 and then (check is(1, quotient(1, 0)) and then send 2))",
+            b"stack 1048576 units 262144 factor 544\n1\nfailed\n",
+            Status::Failed,
+        )?
+    );
+    Ok(())
+}
+
 #[test]
 fn refusals(rt: HostRuntime) -> Result<(), Fail> {
     let alloc = rt.alloc();

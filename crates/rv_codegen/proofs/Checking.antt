@@ -7,19 +7,18 @@ use Rattle.rv_asm.specs.DataWords.{Heap}
 use Rattle.rv_asm.specs.WordMachine.{Has}
 use Rattle.rv_asm.specs.declared.item.Item.{Item}
 use Rattle.rv_asm.specs.declared.item.Item.TheVariants.{Mark}
-use Rattle.rv_asm.proofs.Labels.{total-append}
 use Rattle.rv_asm.proofs.Stretches.{quiet-between, then-runs}
-use Rattle.action_terms.specs.Information.{Datum, Number, Truth, CellOf, Closure, NoBinds}
+use Rattle.action_terms.specs.Information.{Datum, Truth, NoBinds}
 use Rattle.action_terms.specs.Actions.{Yielder, Check, Simple, node_at}
 use Rattle.action_terms.specs.Acting.{Run}
 use Rattle.action_terms.specs.Frames.{plugged}
 use Rattle.action_terms.specs.Literals.{YielderFits}
 use Rattle.action_terms.specs.Need.{yielder_count, node_yielder_count}
 use Rattle.action_terms.specs.Performances.{OneOf, Here}
-use Rattle.action_terms.specs.Steps.{Step, silent, done, failed, checked, making, closures_in, open_steps}
+use Rattle.action_terms.specs.Steps.{silent, done, failed, checked, making, closures_in, open_steps}
 use Rattle.action_terms.specs.Yielding.{yields}
 use Rattle.rv_yield.specs.Conditions.{condition_items}
-use Rattle.rv_yield.specs.Evaluates.{HasFrame, Finds}
+use Rattle.rv_yield.specs.Evaluates.{Finds}
 use Rattle.rv_yield.proofs.Deciding.{Chosen, condition-comes}
 use Rattle.rv_yield.proofs.NeedLaws.{registers-enough}
 use Rattle.rv_yield.proofs.Steps.{Arrives}

@@ -74,6 +74,10 @@ call-short s s1 s2 s3 l m e1 e2 e3 =
     let c : total s3.items ≡ total s2.items + 0 = ap (λ z. total z.items) e3 ∙ total-append s2.items (Mark l ∷ []) in
     omega (arith, a, b, c)
 
+-- a mark
+pub mark-short : (s s1 : Listing) (l : ℕ) → s1 ≡ marked s l → total s1.items ≡ total s.items
+mark-short s s1 l e = ap (λ z. total z.items) e ∙ total-append s.items (Mark l ∷ []) ∙ omega arith
+
 -- an instruction and a jump
 module _ (s s1 s2 : Listing) (i : Inst) (m : ℕ) (first : s1 ≡ appended s (i ∷ [])) (second : s2 ≡ record s1 { items = s1.items ++ Jump m ∷ [] }) where
   pub jumping-keeps : (k : ℕ) → PlacesStop k s.items s2.items

@@ -1,14 +1,12 @@
 -- Nodes that escape: the address of the data goes to register 10, and the code to the entry for escapes.
-use Rattle.std.proofs.Common.{◌≡◌, ℕ, suc, ◌+◌, ◌*◌, ◌^◌, ◌<◌, ◌≤◌, List, [], ◌∷◌, ◌++◌, length, pos, refl, sym, ap, ◌∙◌, subst, arith, inl}
+use Rattle.std.proofs.Common.{◌≡◌, ℕ, suc, ◌+◌, ◌*◌, ◌^◌, ◌<◌, List, [], ◌∷◌, ◌++◌, length, pos, refl, sym, subst, arith, inl}
 use Rattle.rv_code.specs.Arithmetic.{wrap}
 use Rattle.rv_code.specs.declared.instruction.Inst.{Inst}
 use Rattle.rv_code.specs.declared.instruction.Inst.TheVariants.{OpImm}
 use Rattle.rv_code.specs.declared.instruction.OpImmOp.TheVariants.{Addi}
 use Rattle.rv_asm.specs.Assembly.{address_of, far_jump, spot}
 use Rattle.rv_asm.specs.WordMachine.{WordState, Goes, put, run_words, Has}
-use Rattle.rv_asm.specs.declared.item.Item.{Item}
 use Rattle.rv_asm.specs.declared.item.Item.TheVariants.{Jump}
-use Rattle.rv_asm.proofs.Registers.{put-other}
 use Rattle.rv_asm.proofs.Stretches.{quiet-between, then-runs}
 use Rattle.action_terms.specs.Actions.{Escape, Simple, node_at}
 use Rattle.action_terms.specs.Acting.{Esc, Ended}

@@ -1,19 +1,16 @@
 -- Nodes that send: the value of their yielder is put into register 10, and the entry that sends is called. Where there is no
 -- value, the code has gone to the entry for failures.
-use Rattle.std.proofs.Common.{◌≡◌, ⊎_elim, ℕ, zero, suc, ◌+◌, ◌*◌, ◌^◌, ◌<◌, ◌≤◌, true, ◌&&◌, List, [], ◌∷◌, ◌++◌, length, get_or, set, None, refl, sym, ap, ap₂, ◌∙◌, subst, arith, inl, length-set, get_or-set_other, append_assoc}
+use Rattle.std.proofs.Common.{◌≡◌, ⊎_elim, ℕ, suc, ◌+◌, ◌*◌, ◌^◌, ◌<◌, ◌≤◌, true, List, [], ◌∷◌, ◌++◌, length, get_or, set, None, refl, sym, ap, ap₂, ◌∙◌, subst, arith, inl, length-set, get_or-set_other, append_assoc}
 use Rattle.rv_code.specs.Bytes.{bytes_of}
-use Rattle.rv_code.specs.declared.instruction.Inst.{Inst}
 use Rattle.rv_asm.specs.Arrivals.{LabelsStand}
 use Rattle.rv_asm.specs.Assembly.{address_of, far_address, far_jump, spot, total, code_from}
 use Rattle.rv_asm.specs.WordMachine.{WordState, Goes, run_words, Has}
 use Rattle.rv_asm.specs.declared.item.Item.{Item}
 use Rattle.rv_asm.specs.declared.item.Item.TheVariants.{Mark, Jump, Address}
 use Rattle.rv_asm.specs.PieceRuns.{CanSend}
-use Rattle.rv_asm.proofs.Labels.{total-append}
-use Rattle.rv_asm.proofs.Places.{and-true}
-use Rattle.rv_asm.proofs.Stretches.{Between, then-runs, between-then-quiet, quiet-between, quiet-then-between}
+use Rattle.rv_asm.proofs.Stretches.{Between, then-runs, between-then-quiet, quiet-then-between}
 use Rattle.action_terms.specs.Information.{NoBinds}
-use Rattle.action_terms.specs.Actions.{Negation, Yielder, NumberLiteral, OnTwo, OnOne, Send, Simple, node_at}
+use Rattle.action_terms.specs.Actions.{Yielder, Send, Simple, node_at}
 use Rattle.action_terms.specs.Literals.{YielderFits}
 use Rattle.action_terms.specs.Need.{yielder_count, node_yielder_count}
 use Rattle.action_terms.specs.Performances.{OneOf, Here}
@@ -21,7 +18,7 @@ use Rattle.action_terms.specs.Steps.{Step, Sends as SendsEffect, with_effect, si
 use Rattle.action_terms.specs.Acting.{Run}
 use Rattle.action_terms.specs.Frames.{plugged}
 use Rattle.action_terms.specs.Yielding.{yields}
-use Rattle.rv_yield.specs.Registers.{is_arithmetic, is_integral, HasWords}
+use Rattle.rv_yield.specs.Registers.{is_integral}
 use Rattle.rv_yield.specs.Evaluates.{HasFrame}
 use Rattle.rv_yield.specs.YielderCode.{value_items}
 use Rattle.rv_yield.proofs.Integral.{integral-comes}
@@ -40,7 +37,7 @@ use Rattle.rv_codegen.proofs.RestPoints.{Laid, Starting, StartGoesOn, near, open
 use Rattle.rv_codegen.proofs.SendEntry.{send_entry-runs}
 use Rattle.rv_codegen.proofs.Settings.{Way, way-runs, Setting, code, point, start, stop, exit, failure}
 use Rattle.rv_codegen.proofs.Standing.{NodeStands}
-use Rattle.rv_codegen.proofs.Units.{units-kept, units-more}
+use Rattle.rv_codegen.proofs.Units.{units-kept}
 use Rattle.rv_codegen.proofs.Walk.{Cursor, stands, over, over-mark, mark-at, jump-stands, over-jump, address-stands, over-address}
 
 -- what the code of a node needs of the yielder that it sends
@@ -83,12 +80,6 @@ module _ (s : Setting) where
         enter = jump-stands s.items (m + 2) send_label (Mark (stop_of k) ∷ rest) c3;
         leave = leaves-stand s labels k (m + 2 + 2) (stop_of k) behind stop_at (omega arith) within c5;
       }
-
-  -- the entry for failures stands behind a node that sends
-  failure-behind : (k : ℕ) (y : Yielder) → spot s.items (start_of k) + total (sends k y ++ leaves k (get_or s.exits k 0)) ≤ spot s.items fail_label → (start s k).place < (failure s).place
-  failure-behind k y le =
-      let call = Address 1 (stop_of k) ∷ Jump send_label ∷ Mark (stop_of k) ∷ [] in
-      omega (arith, le, total-append (sends k y) (leaves k (get_or s.exits k 0)), total-append (value_items [] 10 10 fail_label y) call)
 
   module _ (laid : Laid s) (entry : Has (code s) (address_of (point s send_label).place) send_entry) where
     -- the entry has been called from a state, and the node's exit has been reached
@@ -200,7 +191,7 @@ module _ (s : Setting) where
               let calls = calls-stand laid labels k y stands.place stands.behind stands.opened.start within stands.opened.cursor in
               let size = total (value_items [] 10 10 fail_label y) in
               let next : address_of ((start s k).place + size) ≡ address_of calls.call = ap address_of (sym calls.behind_value) in
-              let less = failure-behind k y (subst (λ n. n + total (sends k y ++ leaves k (get_or s.exits k 0)) ≤ spot s.items fail_label) (sym stands.opened.start) stands.before_failure) in
+              let less : (start s k).place < (failure s).place = omega (arith, stands.opened.start, stands.before_failure) in
               let v = yields y x.d x.b x.world.cells in
               let frame : HasFrame s.base h.f x.state = record { aligned = laid.aligned; below = omega (arith, laid.below, ap length h.stands.words_are, h.region.size); frame = h.stands.frame_at } in
               let outcome =

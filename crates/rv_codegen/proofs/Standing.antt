@@ -1,5 +1,5 @@
 -- The items of each node's code stand in the code, whatever its kind, and so do the first instructions and the entries.
-use Rattle.std.proofs.Common.{◌≡◌, ℕ, zero, suc, ◌+◌, ◌≤◌, List, [], ◌∷◌, ◌++◌, length, map, get_or, Some, refl, sym, ap, ◌∙◌, subst, arith, append_assoc, add-zero}
+use Rattle.std.proofs.Common.{◌≡◌, ℕ, zero, suc, ◌+◌, ◌<◌, List, [], ◌∷◌, ◌++◌, length, map, get_or, Some, refl, sym, ap, ◌∙◌, subst, arith, append_assoc, add-zero}
 use Rattle.std.specs.Prelude.{slice_get}
 use Rattle.rv_asm.specs.Arrivals.{LabelsStand}
 use Rattle.rv_asm.specs.Assembly.{address_of, total, spot, far_address, code_of}

@@ -1,5 +1,5 @@
 -- Yielders of truth-values alone: they are built, their arguments are of the sorts that are wanted, and they make no closure.
-use Rattle.std.proofs.Common.{◌≡◌, ◌⊎◌, ⊎_elim, Bool, true, false, ◌&&◌, ◌||◌, [], Option, Some, None, refl, inl, inr}
+use Rattle.std.proofs.Common.{◌≡◌, ◌⊎◌, ⊎_elim, Bool, true, false, ◌&&◌, [], Option, Some, None, refl, inl, inr}
 use Rattle.rv_asm.proofs.Places.{and-true}
 use Rattle.action_terms.specs.Information.{Datum, Number, Truth, CellOf, Closure, Binds, Data, Storage}
 use Rattle.action_terms.specs.Actions.{Two, Is, Less, BothOf, EitherOf, Not, Yielder, TruthLiteral, OnTwo, OnOne}

@@ -31,7 +31,8 @@ fn is_condition_at(graph: &Graph<'_>, integral: &[bool], known: &[bool], k: usiz
     ensures { result ≡ is_condition (yielder_at graph.now.yielders k) }
 {
     match graph.yielder_view(k) {
-        YielderView::Truth(_) => true,
+        // No operand is `them`: what is answered for it doesn't matter.
+        YielderView::Truth(_) | YielderView::Them => true,
         YielderView::OnTwo {
             operation,
             first,
@@ -42,9 +43,9 @@ fn is_condition_at(graph: &Graph<'_>, integral: &[bool], known: &[bool], k: usiz
             yields_truth(operation, integers, truths)
         }
         YielderView::OnOne {
-            operation: One::Not,
+            operation,
             argument,
-        } => known[argument as usize],
+        } => matches!(operation, One::Not) && known[argument as usize],
         _ => false,
     }
 }

@@ -21,9 +21,8 @@ fn yielder_count(graph: &Graph<'_>, counts: &[usize], k: usize) -> usize
     ensures { result ≡ capped (node_yielder_count (node_at (action_of graph.now) k)) }
 {
     match graph.view(k) {
-        NodeView::Simple(
-            PrimitiveView::Check { yielder } | PrimitiveView::Send { yielder },
-        ) => counts[yielder as usize],
+        NodeView::Simple(PrimitiveView::Check { yielder } | PrimitiveView::Send { yielder }) =>
+            counts[yielder as usize],
         _ => 0,
     }
 }
