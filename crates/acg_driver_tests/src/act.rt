@@ -32,7 +32,7 @@ fn performances(rt: HostRuntime) -> Result<(), Fail> {
     assert!(rt;
         acts(
             alloc,
-            b"(complete then send 1) moreover ((send 2 before complete) hence (send 3 and then fail))",
+            b"(complete then send 1) moreover ((send 2 before complete) hence (send 3 then fail))",
             b"stack 1048576 units 262144 factor 448\n1\n2\n3\nfailed\n",
             Status::Failed,
         )?
@@ -95,7 +95,7 @@ fn checks(rt: HostRuntime) -> Result<(), Fail> {
     assert!(rt;
         acts(
             alloc,
-            b"check true and then (send 1 and then (check is(1, quotient(1, 0)) and then send 2))",
+            b"check true then (send 1 then (check is(1, integer-quotient(1, 0)) then send 2))",
             b"stack 1048576 units 262144 factor 544\n1\nfailed\n",
             Status::Failed,
         )?
