@@ -21,4 +21,5 @@ mod ConditionLaws
 mod Evaluated
 mod Decided
 pub mod Stored
+pub mod Storing
 pub mod Integral

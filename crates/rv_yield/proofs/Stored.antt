@@ -1,36 +1,21 @@
 -- A value in register 10 is stored at an offset of the frame.
-use Rattle.std.proofs.Common.{◌≡◌, ⊎_elim, ℕ, ◌+◌, ◌*◌, ◌^◌, ◌<◌, ◌≤◌, true, false, List, [], ◌∷◌, ◌++◌, length, map, set, Option, Some, None, pos, refl, sym, ap, ◌∙◌, subst, arith, append_assoc, length-append, ltb, ltb-true}
+use Rattle.std.proofs.Common.{◌≡◌, ⊎_elim, ℕ, ◌+◌, ◌*◌, ◌<◌, ◌≤◌, true, false, List, [], ◌∷◌, ◌++◌, length, set, pos, refl, sym, ap, ◌∙◌, subst, arith, length-append, ltb, ltb-true}
 use Rattle.rv_code.proofs.Bools.{true-or-false}
 use Rattle.rv_code.specs.Arithmetic.{wrap}
 use Rattle.rv_code.specs.declared.instruction.Inst.{Inst}
 use Rattle.rv_code.specs.declared.instruction.Inst.TheVariants.{Op, Store}
 use Rattle.rv_code.specs.declared.instruction.OpOp.TheVariants.{Add}
 use Rattle.rv_code.specs.declared.instruction.StoreOp.TheVariants.{Sd}
-use Rattle.rv_asm.specs.Assembly.{Listing, total, spot, address_of, code_of}
-use Rattle.rv_asm.specs.DataWords.{Heap}
-use Rattle.rv_asm.specs.PieceRuns.{end_of}
 use Rattle.rv_asm.specs.Pieces.{load_constant}
 use Rattle.rv_asm.specs.WordMachine.{WordState, Goes, put, run_words, Has}
-use Rattle.rv_asm.specs.declared.item.Item.{Item}
-use Rattle.rv_asm.specs.declared.item.Item.TheVariants.{Plain}
 use Rattle.rv_asm.proofs.Constants.{length-load_constant, load_constant-runs}
-use Rattle.rv_asm.proofs.Labels.{total-append}
-use Rattle.rv_asm.proofs.LabelsArrive.{piece-stands}
 use Rattle.rv_asm.proofs.Places.{Has-front, Has-back}
 use Rattle.rv_asm.proofs.Registers.{put-other, put-same}
-use Rattle.rv_asm.proofs.Sending.{code_from-plain, total-plain}
 use Rattle.rv_asm.proofs.Stretches.{then-runs}
 use Rattle.rv_asm.proofs.Words.{IsReachable, store-runs}
-use Rattle.action_terms.specs.Information.{Datum, Binds, Data, Storage}
-use Rattle.action_terms.specs.Actions.{Yielder}
-use Rattle.action_terms.specs.Need.{yielder_count}
-use Rattle.action_terms.specs.Yielding.{yields}
-use Rattle.rv_yield.specs.Evaluates.{CanEvaluate, Evaluated, Evaluates, HasFrame, Left, Stores}
-use Rattle.rv_yield.specs.Fronts.{extended}
+use Rattle.rv_yield.specs.Evaluates.{HasFrame}
 use Rattle.rv_yield.specs.YielderCode.{store_items}
-use Rattle.rv_yield.proofs.Evaluated.{leads-at}
 use Rattle.rv_yield.proofs.Steps.{written, op-runs}
-use Rattle.rv_yield.proofs.Targets.{some-count}
 
 pub length-store : (offset : ℕ) → length (store_items offset) ≤ 10
 length-store offset =
@@ -102,71 +87,3 @@ module _ (base : ℕ) (code : List Inst) where
             input = refl;
             output = refl;
           }
-
--- ---- behind the code of a yielder
-
-module _
-    (given : List ℕ) (offset l : ℕ) (y : Yielder) (old mid : Listing) (small : offset < 33554432) (evaluates : Evaluates given 10 l y old mid) (behind : List Item) (c : WordState) (base f : ℕ) (heap : Heap)
-    (d : Data) (b : Binds) (cells : Storage) (can : CanEvaluate given y old (extended mid (map Plain (store_items offset))) behind base f heap d b cells c) (inside : f + offset < length c.words)
-  where
-    abbrev piece : List Inst
-    piece = store_items offset
-
-    abbrev items : List Item
-    items = (mid.items ++ map Plain piece) ++ behind
-
-    same : items ≡ mid.items ++ (map Plain piece ++ behind)
-    same = append_assoc mid.items (map Plain piece) behind
-
-    evaluated : Evaluated base heap (code_of items) (12 * yielder_count y) 10 c (end_of mid) (address_of (spot items l)) (yields y d b cells)
-    evaluated =
-        subst (λ i. Evaluated base heap (code_of i) (12 * yielder_count y) 10 c (end_of mid) (address_of (spot i l)) (yields y d b cells)) (sym same)
-        (evaluates (map Plain piece ++ behind) c base f heap d b cells (record { near = subst (λ i. total i < 2 ^ 28) same can.near; before = can.before; finds = can.finds; suited = can.suited }))
-
-    stands : Has (code_of items) (end_of mid) piece
-    stands = subst (Has (code_of items) (end_of mid)) (code_from-plain (spot items) (total mid.items) piece) (piece-stands items mid.items (map Plain piece) behind same)
-
-    left : (v : Option Datum) → Evaluated base heap (code_of items) (12 * yielder_count y) 10 c (end_of mid) (address_of (spot items l)) v →
-        Left base heap (code_of items) (24 * yielder_count y) f offset c (end_of (extended mid (map Plain piece))) (address_of (spot items l)) v
-    left None g = record {
-      instructions = g.instructions;
-      few = omega (arith, g.few);
-      end = g.end;
-      leads = g.leads;
-      at = g.at;
-      others = λ k lt. g.others k (omega arith);
-      words = g.words;
-      input = g.input;
-      output = g.output;
-    }
-    left (Some x) (g, s) =
-        let code = code_of items in
-        let word = g.end.registers 10 in
-        let size = ap length g.words in
-        let frame = can.finds.frame in
-        let there : HasFrame base f g.end = record {
-          aligned = frame.aligned;
-          below = omega (arith, frame.below, size);
-          frame = g.others 2 (omega arith) ∙ frame.frame;
-        } in
-        let stored = store-stores base code f offset g.end small there (omega (arith, inside, size)) (subst (λ p. Has code p piece) (sym g.at) stands) in (
-          word,
-          s,
-          record {
-            instructions = g.instructions + length piece;
-            few = omega (arith, g.few, length-store offset, some-count y);
-            end = stored.end;
-            leads = leads-at base code (g.instructions + length piece) c stored.end (then-runs base code g.instructions (length piece) c g.end stored.end g.leads.words stored.runs);
-            at = omega (arith, stored.pc, g.at, total-append mid.items (map Plain piece), total-plain piece);
-            others = λ k lt. stored.others k lt ∙ g.others k (omega arith);
-            words = stored.words ∙ ap (λ ws. set ws (f + offset) word) g.words;
-            input = stored.input ∙ g.input;
-            output = stored.output ∙ g.output;
-          },
-        )
-
-pub stores :
-    (given : List ℕ) (offset l : ℕ) (y : Yielder) (old mid : Listing) → offset < 33554432 → Evaluates given 10 l y old mid → Stores given offset l y old (extended mid (map Plain (store_items offset)))
-stores given offset l y old mid small ev behind c base f heap d b cells can inside =
-    left given offset l y old mid small ev behind c base f heap d b cells can inside (yields y d b cells)
-    (evaluated given offset l y old mid small ev behind c base f heap d b cells can inside)

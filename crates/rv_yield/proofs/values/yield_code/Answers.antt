@@ -7,11 +7,13 @@ use Rattle.rv_asm.proofs.Labels.{total-append}
 use Rattle.rv_asm.proofs.Sending.{total-plain}
 use Rattle.action_terms.specs.Forms.{yielder_at}
 use Rattle.rv_yield.specs.Evaluates.{Stores}
+use Rattle.rv_yield.specs.Fronts.{extended}
 use Rattle.rv_yield.specs.YielderCode.{value_items, store_items}
-use Rattle.rv_yield.proofs.Fronts.{front-first, front-second}
+use Rattle.rv_yield.proofs.Fronts.{extended-twice, front-first, front-second}
 use Rattle.rv_yield.proofs.ItemLaws.{placed-unmarked, unmarked-plain}
 use Rattle.rv_yield.proofs.NeedLaws.{registers-enough}
-use Rattle.rv_yield.proofs.Stored.{length-store, stores}
+use Rattle.rv_yield.proofs.Stored.{length-store}
+use Rattle.rv_yield.proofs.Storing.{stores}
 use Rattle.rv_yield.proofs.Targets.{some-count}
 use Rattle.rv_yield.proofs.values.yield_code.Goals as goal
 
@@ -29,8 +31,13 @@ pub returns-clause-stores : goal.returns-clause-stores
 returns-clause-stores c =
     let slots = c.args.slots.now in
     let y = yielder_at c.args.graph.now.yielders c.args.yielder in
+    let value = value_items slots.given.now 10 10 slots.nothing y in
+    let store = map Plain (store_items slots.target) in
     on_ok_weaker c.append_store.result
-    (λ e. subst (Stores slots.given.now slots.target slots.nothing y c.args.asm.now) (sym e) (stores slots.given.now slots.target slots.nothing y c.args.asm.now c.value_code.new.asm c.requires.target c.in_ok-value_code.ensures.evaluates))
+    (λ e.
+    let all = e ∙ ap (λ s. extended s store) c.in_ok-value_code.ensures.items ∙ extended-twice c.args.asm.now value store in
+    subst (Stores slots.given.now slots.target slots.nothing y c.args.asm.now) (sym all)
+    (stores slots.given.now slots.target slots.nothing y c.args.asm.now c.requires.given c.requires.built c.in_ok-value_code.ensures.words (registers-enough y c.requires.few) c.requires.target))
     c.append_store.ensures.ok
 
 pub returns-clause-short : goal.returns-clause-short
