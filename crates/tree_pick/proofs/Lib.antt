@@ -1,0 +1,12 @@
+mod Sizes
+mod Plain
+mod SpinePick
+mod SpineTwo
+mod OneIsUniform
+mod Walked
+mod Looked
+mod FollowedParts
+mod BuiltParts
+mod Corners
+mod FoundChoices
+mod FewAlternatives

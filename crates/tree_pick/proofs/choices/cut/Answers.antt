@@ -1,0 +1,34 @@
+use Rattle.std.proofs.Common.{◌≤◌, ℕ, List, length, Contains, sym, subst}
+use Rattle.std.specs.Prelude.{◌↔◌}
+use Rattle.std.proofs.lemmas.Result.{IfOk-weaker}
+use Rattle.source_lex.specs.Trees.{Has}
+use Rattle.chart_parse.proofs.LeftCorners.{tree_within}
+use Rattle.tree_pick.specs.Runs.{Cuts, CutsAmong}
+use Rattle.tree_pick.proofs.Corners.{empty_list}
+use Rattle.tree_pick.proofs.FollowedParts.{choice_of}
+use Rattle.tree_pick.proofs.FoundChoices.{last_cut}
+use Rattle.tree_pick.proofs.choices.cut.Goals as goal
+
+pub returns-then-is_empty : goal.returns-then-is_empty
+returns-then-is_empty c =
+    last_cut c.args.parse.now.grammar c.args.parse.now.kinds c.args.nonterm c.args.rest.now c.args.at c.args.end (empty_list c.args.rest.now c.if-is_empty.ensures) c.requires.some
+
+pub cut_among-requires-clause-some : goal.cut_among-requires-clause-some
+cut_among-requires-clause-some c =
+    let h : ℕ = c.requires.some.0 in
+    (h, (subst (λ (l : List ℕ). Contains l h) (sym c.deref.ensures.value) ((c.in_ok-ends.ensures h).1 c.requires.some.1.0), c.requires.some.1.1))
+
+pub cut_among-requires-clause-places : goal.cut_among-requires-clause-places
+cut_among-requires-clause-places c k there =
+    let t = (c.in_ok-ends.ensures k).0 (subst (λ (l : List ℕ). Contains l k) c.deref.ensures.value there) in
+    tree_within c.args.parse.now.grammar c.args.parse.now.kinds c.args.nonterm c.args.at k t.0 c.requires.places.0 t.1
+
+pub returns : goal.returns
+returns c =
+    let gr = c.args.parse.now.grammar in
+    let w = c.args.parse.now.kinds in
+    let places : List ℕ = c.deref.result.now in
+    let ends : (k : ℕ) → Contains places k ↔ Has gr w c.args.nonterm c.args.at k = (λ k. subst (λ (l : List ℕ). Contains l k ↔ Has gr w c.args.nonterm c.args.at k) (sym c.deref.ensures.value) (c.in_ok-ends.ensures k)) in
+    IfOk-weaker c.cut_among.result _ _
+    (λ r h. choice_of (CutsAmong gr w c.args.rest.now c.args.end places) (Cuts gr w c.args.nonterm c.args.rest.now c.args.at c.args.end) r (λ k. (λ x. ((ends k).0 x.0, x.1), λ x. ((ends k).1 x.0, x.1))) h)
+    c.cut_among.ensures
