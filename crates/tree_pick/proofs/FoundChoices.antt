@@ -111,10 +111,14 @@ pub takes_fits : (g : Numbered) (w : List LexKind) (corner : Corner) (b a n j : 
     → IsBehind g w corner parts rest at → alternative_of g b a ≡ Some parts
     → Takes g w b a (HasPieces g w rest at) n j x ↔ ((x.production ≡ b) × (x.alternative ≡ a) × CanTake g w corner n j x)
 takes_fits g w corner b a n j parts rest at x behind is = (
-  λ t. (t.0, t.1, (
-    subst (λ (v : ℕ). Fits g w corner v x.alternative x.end) (sym t.0) (subst (λ (v : ℕ). Fits g w corner b v x.end) (sym t.1) ((fits_begins g w corner b a x.end parts is).1 ((behind.1 x.end).1 t.2))),
-    subst (λ (v : ℕ). CanGrow g w n j v x.end) (sym t.0) t.3,
-  )),
+  λ t. (
+    t.0,
+    t.1,
+    (
+      subst (λ (v : ℕ). Fits g w corner v x.alternative x.end) (sym t.0) (subst (λ (v : ℕ). Fits g w corner b v x.end) (sym t.1) ((fits_begins g w corner b a x.end parts is).1 ((behind.1 x.end).1 t.2))),
+      subst (λ (v : ℕ). CanGrow g w n j v x.end) (sym t.0) t.3,
+    ),
+  ),
   λ t. (t.0, t.1, (behind.1 x.end).0 ((fits_begins g w corner b a x.end parts is).0 (fitting t.0 t.1 t.2)), subst (λ (v : ℕ). CanGrow g w n j v x.end) t.0 t.2.1),
 )
   where

@@ -37,7 +37,7 @@ abbrev pub Begins : (g : Numbered) (w : List LexKind) → Corner → Alternative
 Begins g w (Leaf i) parts e =
     ((parts ≡ []) × (e ≡ i))
     ⊎ ((c : LexKind) × (rest : Alternative) × (parts ≡ Word c ∷ rest)
-        × (slice_get w i ≡ Some c) × HasPieces g w rest (i + 1) e)
+    × (slice_get w i ≡ Some c) × HasPieces g w rest (i + 1) e)
 Begins g w (Branch c k) parts e = (rest : Alternative) × (parts ≡ Phrase c ∷ rest) × HasPieces g w rest k e
 
 -- the parts don't begin so

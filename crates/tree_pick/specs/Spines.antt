@@ -40,7 +40,7 @@ abbrev pub FitsLeaf : (g : Numbered) (w : List LexKind) (i b a k : ℕ) → Type
 FitsLeaf g w i b a k =
     ((alternative_of g b a ≡ Some []) × (k ≡ i))
     ⊎ ((c : LexKind) × (rest : Alternative) × (alternative_of g b a ≡ Some (Word c ∷ rest))
-        × (slice_get w i ≡ Some c) × HasPieces g w rest (i + 1) k)
+    × (slice_get w i ≡ Some c) × HasPieces g w rest (i + 1) k)
 
 -- a step from a c that ends at k: alternative a of m begins with it, and ends at l
 abbrev pub FitsStep : (g : Numbered) (w : List LexKind) (c k m a l : ℕ) → Type 0
@@ -72,7 +72,7 @@ HasOneChoice g w (Spanning n i j) = (b a k d e l : ℕ) → FitsLeaf g w i b a k
     → FitsLeaf g w i d e l → CanGrow g w n j d l → (b ≡ d) × (a ≡ e) × (k ≡ l)
 HasOneChoice g w (Growing c k n j) =
     ((m a l p b h : ℕ) → FitsStep g w c k m a l → CanGrow g w n j m l
-        → FitsStep g w c k p b h → CanGrow g w n j p h → (m ≡ p) × (a ≡ b) × (l ≡ h))
+    → FitsStep g w c k p b h → CanGrow g w n j p h → (m ≡ p) × (a ≡ b) × (l ≡ h))
     × ((m a l : ℕ) → c ≡ n → k ≡ j → FitsStep g w c k m a l → CanGrow g w n j m l → ⊥)
 HasOneChoice g w (Parts (Phrase m ∷ rest) k l) = (h o : ℕ) → Cuts g w m rest k l h → Cuts g w m rest k l o → h ≡ o
 HasOneChoice g w (Parts _ k l) = Unit {0}
@@ -84,7 +84,7 @@ HasTwoChoices g w (Spanning n i j) = (b : ℕ) × (a : ℕ) × (k : ℕ) × (d :
     × ((b ≡ d) × (a ≡ e) × (k ≡ l) → ⊥)
 HasTwoChoices g w (Growing c k n j) =
     ((m : ℕ) × (a : ℕ) × (l : ℕ) × (p : ℕ) × (b : ℕ) × (h : ℕ) × FitsStep g w c k m a l × CanGrow g w n j m l
-        × FitsStep g w c k p b h × CanGrow g w n j p h × ((m ≡ p) × (a ≡ b) × (l ≡ h) → ⊥))
+    × FitsStep g w c k p b h × CanGrow g w n j p h × ((m ≡ p) × (a ≡ b) × (l ≡ h) → ⊥))
     ⊎ ((m : ℕ) × (a : ℕ) × (l : ℕ) × (c ≡ n) × (k ≡ j) × FitsStep g w c k m a l × CanGrow g w n j m l)
 HasTwoChoices g w (Parts (Phrase m ∷ rest) k l) =
     (h : ℕ) × (o : ℕ) × (h ≢ o) × Cuts g w m rest k l h × Cuts g w m rest k l o

@@ -25,7 +25,7 @@ WorkedParts g w seen (Phrase m ∷ rest) k l =
 pub data WorkedGrowth (g : Numbered) (w : List LexKind) (seen : List Span) (n j : ℕ) : ℕ → ℕ → Type 0 where
   Worked : {c k : ℕ} → HasOneChoice g w (Growing c k n j)
       → ((m a l : ℕ) (rest : Alternative) → alternative_of g m a ≡ Some (Phrase c ∷ rest) → HasPieces g w rest k l
-          → CanGrow g w n j m l → WorkedParts g w seen rest k l)
+      → CanGrow g w n j m l → WorkedParts g w seen rest k l)
       → ((m a l : ℕ) → FitsStep g w c k m a l → CanGrow g w n j m l → WorkedGrowth g w seen n j m l)
       → WorkedGrowth g w seen n j c k
 
@@ -39,7 +39,7 @@ abbrev pub WorkedSpan : (g : Numbered) (w : List LexKind) → List Span → (n i
 WorkedSpan g w seen n i j =
     HasOneChoice g w (Spanning n i j)
     × ((b a k : ℕ) → FitsLeaf g w i b a k → CanGrow g w n j b k
-        → WorkedGrowth g w seen n j b k × WorkedLeaf g w seen i b a k)
+    → WorkedGrowth g w seen n j b k × WorkedLeaf g w seen i b a k)
 
 -- the start over all lexemes
 abbrev pub root_of : List LexKind → Spot

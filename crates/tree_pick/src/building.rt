@@ -37,8 +37,8 @@ fn build_parts<'a>(
     ensures stack { OnOk result (HaveTrees parse.now.grammar parse.now.kinds stack.new.items) }
     ensures whole { IfOk result (λ whole. whole ≡ true
         → (more : List TreePart) × (list.new.items ≡ list.old.items ++ more)
-            × ArePieces parse.now.grammar parse.now.kinds parts.now start end
-                (plain_pieces more)) }
+        × ArePieces parse.now.grammar parse.now.kinds parts.now start end
+        (plain_pieces more)) }
 {
     let mut at = start;
     let mut whole = true;
@@ -104,7 +104,15 @@ fn build_leaf<'a>(
 {
     let parts = parse.alternative(leaf.production, leaf.alternative);
     let mut list = Vec::new(arena);
-    if !build_parts(parse, built, parts, phrase.start, leaf.end, &mut list, stack)? {
+    if !build_parts(
+        parse,
+        built,
+        parts,
+        phrase.start,
+        leaf.end,
+        &mut list,
+        stack,
+    )? {
         return Ok(None);
     }
     let tree = Tree {

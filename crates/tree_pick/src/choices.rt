@@ -66,11 +66,7 @@ fn behind_phrase<'s>(
 }
 
 /// What is still to be read of parts that begin so, and from where.
-fn behind<'s>(
-    parse: &Parse<'_>,
-    corner: Corner,
-    parts: &'s [Symbol],
-) -> Option<(&'s [Symbol], u32)>
+fn behind<'s>(parse: &Parse<'_>, corner: Corner, parts: &'s [Symbol]) -> Option<(&'s [Symbol], u32)>
     requires within { IsWithin parse.now.kinds corner }
     requires short { length parse.now.kinds < 4294967296 }
     ensures { MatchOption result (BeginsNot parse.now.grammar parse.now.kinds corner parts.now)
@@ -93,7 +89,7 @@ fn add_if_grows(
     requires places { (taken.end ≤ length parse.now.kinds) × (into.end ≤ length parse.now.kinds) }
     ensures { OnOk result ((x : Taken) → Contains found.new.items x
         ↔ (Contains found.old.items x ⊎ ((taken ≡ x) × CanGrow parse.now.grammar parse.now.kinds
-            into.nonterm into.end taken.production taken.end))) }
+        into.nonterm into.end taken.production taken.end))) }
 {
     if parse.grows(taken.production, taken.end, into) {
         found.push(taken)?;
@@ -115,7 +111,7 @@ fn add_each(
     requires end { into.end ≤ length parse.now.kinds }
     ensures { OnOk result ((x : Taken) → Contains found.new.items x ↔ (Contains found.old.items x
         ⊎ Takes parse.now.grammar parse.now.kinds production alternative
-            (Contains ends.now) into.nonterm into.end x)) }
+        (Contains ends.now) into.nonterm into.end x)) }
 {
     for k in 0..ends.len() {
         let taken = Taken {
@@ -144,7 +140,7 @@ fn add_ends(
     requires short { length parse.now.kinds < 4294967296 }
     ensures { OnOk result ((x : Taken) → Contains found.new.items x ↔ (Contains found.old.items x
         ⊎ Takes parse.now.grammar parse.now.kinds production alternative
-            (HasPieces parse.now.grammar parse.now.kinds rest.now at) into.nonterm into.end x)) }
+        (HasPieces parse.now.grammar parse.now.kinds rest.now at) into.nonterm into.end x)) }
 {
     let ends = run_ends(parse, rest, at)?;
     add_each(parse, production, alternative, &ends, into, found)
@@ -167,7 +163,7 @@ fn add_alternative(
     requires short { length parse.now.kinds < 4294967296 }
     ensures { OnOk result ((x : Taken) → Contains found.new.items x ↔ (Contains found.old.items x
         ⊎ ((x.production ≡ production) × (x.alternative ≡ alternative)
-            × CanTake parse.now.grammar parse.now.kinds corner into.nonterm into.end x))) }
+        × CanTake parse.now.grammar parse.now.kinds corner into.nonterm into.end x))) }
 {
     let parts = parse.alternative(production, alternative);
     match behind(parse, corner, parts) {
@@ -190,7 +186,7 @@ fn add_production(
     requires short { length parse.now.kinds < 4294967296 }
     ensures { OnOk result ((x : Taken) → Contains found.new.items x ↔ (Contains found.old.items x
         ⊎ ((x.production ≡ production)
-            × CanTake parse.now.grammar parse.now.kinds corner into.nonterm into.end x))) }
+        × CanTake parse.now.grammar parse.now.kinds corner into.nonterm into.end x))) }
 {
     let count = parse.alternatives(production).len();
     for alternative in 0..count {

@@ -31,12 +31,7 @@ fn add_places(places: &mut Vec<u32>, more: &[u32]) -> Result<(), Memory>
 }
 
 /// Adds the places to which the part leads from the place.
-fn advance(
-    parse: &Parse<'_>,
-    part: Symbol,
-    at: u32,
-    places: &mut Vec<u32>,
-) -> Result<(), Memory>
+fn advance(parse: &Parse<'_>, part: Symbol, at: u32, places: &mut Vec<u32>) -> Result<(), Memory>
     requires at { at ≤ length parse.now.kinds }
     requires short { length parse.now.kinds < 4294967296 }
     ensures { OnOk result ((e : ℕ) → Contains places.new.items e
@@ -84,7 +79,7 @@ fn run_front(
     ensures places { IfOk result (λ r. (e : ℕ)
         → HasPieces parse.now.grammar parse.now.kinds parts.now start e
         ↔ ((k : ℕ) × Contains r.items k
-            × HasPieces parse.now.grammar parse.now.kinds (drop count parts.now) k e)) }
+        × HasPieces parse.now.grammar parse.now.kinds (drop count parts.now) k e)) }
 {
     let mut places = Vec::new(parse.alloc());
     places.push(start)?;
@@ -137,12 +132,7 @@ fn leads_from(parse: &Parse<'_>, part: Symbol, places: &[u32], end: u32) -> bool
 }
 
 /// Whether the parts lead from the start to the end.
-pub fn reaches(
-    parse: &Parse<'_>,
-    parts: &[Symbol],
-    start: u32,
-    end: u32,
-) -> Result<bool, Memory>
+pub fn reaches(parse: &Parse<'_>, parts: &[Symbol], start: u32, end: u32) -> Result<bool, Memory>
     requires places { (start ≤ length parse.now.kinds) × (end ≤ length parse.now.kinds) }
     requires short { length parse.now.kinds < 4294967296 }
     ensures { IfOk result (λ yes. IsTrue yes

@@ -88,7 +88,7 @@ fn look_at_leaf(
         → HasTwo parse.now.grammar parse.now.kinds (root_of parse.now.kinds)) }
     ensures worked { IfOk result (λ two. two ≡ false
         → WorkedLeaf parse.now.grammar parse.now.kinds seen.new.keys
-            phrase.start leaf.production leaf.alternative leaf.end) }
+        phrase.start leaf.production leaf.alternative leaf.end) }
 {
     let parts = parse.alternative(leaf.production, leaf.alternative);
     if parts.is_empty() {
@@ -119,7 +119,7 @@ fn look_at_step(
         → HasTwo parse.now.grammar parse.now.kinds (root_of parse.now.kinds)) }
     ensures worked { IfOk result (λ two. two ≡ false → (rest : Alternative)
         → alternative_of parse.now.grammar step.production step.alternative
-            ≡ Some (symbol.Phrase from ∷ rest)
+        ≡ Some (symbol.Phrase from ∷ rest)
         → WorkedParts parse.now.grammar parse.now.kinds seen.new.keys rest at step.end) }
 {
     let parts = parse.alternative(step.production, step.alternative);
@@ -146,7 +146,7 @@ fn look_at_growth(
         → HasTwo parse.now.grammar parse.now.kinds (root_of parse.now.kinds)) }
     ensures worked { IfOk result (λ two. two ≡ false
         → WorkedGrowth parse.now.grammar parse.now.kinds seen.new.keys
-            phrase.nonterm phrase.end leaf.production leaf.end) }
+        phrase.nonterm phrase.end leaf.production leaf.end) }
 {
     let mut from = leaf.production;
     let mut at = leaf.end;
@@ -181,7 +181,7 @@ fn look_at(parse: &Parse<'_>, phrase: Span, seen: &mut IndexSet<Span>) -> Result
         → HasTwo parse.now.grammar parse.now.kinds (root_of parse.now.kinds)) }
     ensures worked { IfOk result (λ two. two ≡ false
         → WorkedSpan parse.now.grammar parse.now.kinds seen.new.keys
-            phrase.nonterm phrase.start phrase.end) }
+        phrase.nonterm phrase.start phrase.end) }
 {
     let choice = leaf(parse, phrase)?;
     if !choice.only {

@@ -22,7 +22,7 @@ pub enum Picked<'a> {
 }
 
 /// The pick of a source, by a grammar of fewer than 100 literals.
-pub fn picked<'a>(
+pub fn answer<'a>(
     alloc: Global,
     arena: &'a Bump,
     list: &[Production<'_>],

@@ -1,5 +1,5 @@
 //! The one tree of small sources, where there is one.
-use crate::sources::{Picked, below, is_ambiguous, is_node, is_none, is_tree, is_word, picked};
+use crate::sources::{Picked, answer, below, is_ambiguous, is_node, is_none, is_tree, is_word};
 use bumpalo::Bump;
 use gram_form::{Part, Production};
 use std::test::Fail;
@@ -25,7 +25,7 @@ fn sums_of_two_have_a_tree_and_of_three_two(rt: HostRuntime) -> Result<(), Fail>
             ],
         },
     ];
-    let sum = picked(alloc, &arena, &list, b"1+2")?;
+    let sum = answer(alloc, &arena, &list, b"1+2")?;
     assert!(rt; is_tree(&sum, 0, 0, 3));
     let Picked::One(tree) = sum else {
         return Err("no tree")?;
@@ -41,9 +41,9 @@ fn sums_of_two_have_a_tree_and_of_three_two(rt: HostRuntime) -> Result<(), Fail>
     };
     assert!(rt; is_node(last, 1, 1, 2, 3));
     assert!(rt; is_word(last, 0, 2));
-    assert!(rt; is_ambiguous(&picked(alloc, &arena, &list, b"1+2+3")?));
-    assert!(rt; is_none(&picked(alloc, &arena, &list, b"")?));
-    assert!(rt; is_none(&picked(alloc, &arena, &list, b"1+")?));
+    assert!(rt; is_ambiguous(&answer(alloc, &arena, &list, b"1+2+3")?));
+    assert!(rt; is_none(&answer(alloc, &arena, &list, b"")?));
+    assert!(rt; is_none(&answer(alloc, &arena, &list, b"1+")?));
     Ok(())
 }
 
@@ -55,8 +55,8 @@ fn a_phrase_of_itself_has_ever_more_trees(rt: HostRuntime) -> Result<(), Fail> {
         name: b"E",
         alternatives: &[&[Part::Nonterm(b"E")], &[Part::Numeral]],
     }];
-    assert!(rt; is_ambiguous(&picked(alloc, &arena, &list, b"1")?));
-    assert!(rt; is_none(&picked(alloc, &arena, &list, b"1 1")?));
+    assert!(rt; is_ambiguous(&answer(alloc, &arena, &list, b"1")?));
+    assert!(rt; is_none(&answer(alloc, &arena, &list, b"1 1")?));
     Ok(())
 }
 
@@ -68,8 +68,8 @@ fn lists_on_the_left_may_be_empty(rt: HostRuntime) -> Result<(), Fail> {
         name: b"L",
         alternatives: &[&[], &[Part::Nonterm(b"L"), Part::Literal(b"x")]],
     }];
-    assert!(rt; is_tree(&picked(alloc, &arena, &list, b"")?, 0, 0, 0));
-    let two = picked(alloc, &arena, &list, b"x x")?;
+    assert!(rt; is_tree(&answer(alloc, &arena, &list, b"")?, 0, 0, 0));
+    let two = answer(alloc, &arena, &list, b"x x")?;
     assert!(rt; is_tree(&two, 0, 1, 2));
     let Picked::One(tree) = two else {
         return Err("no tree")?;
@@ -90,9 +90,9 @@ fn lists_on_the_right_end_with_the_source(rt: HostRuntime) -> Result<(), Fail> {
         name: b"L",
         alternatives: &[&[], &[Part::Literal(b"x"), Part::Nonterm(b"L")]],
     }];
-    let six = picked(alloc, &arena, &list, b"xxxxxx")?;
+    let six = answer(alloc, &arena, &list, b"xxxxxx")?;
     assert!(rt; is_none(&six));
-    let six = picked(alloc, &arena, &list, b"x x x x x x")?;
+    let six = answer(alloc, &arena, &list, b"x x x x x x")?;
     assert!(rt; is_tree(&six, 0, 1, 6));
     let Picked::One(tree) = six else {
         return Err("no tree")?;
@@ -112,7 +112,7 @@ fn lists_of_lists_are_ambiguous(rt: HostRuntime) -> Result<(), Fail> {
         name: b"L",
         alternatives: &[&[], &[Part::Nonterm(b"L"), Part::Nonterm(b"L")]],
     }];
-    assert!(rt; is_ambiguous(&picked(alloc, &arena, &list, b"")?));
+    assert!(rt; is_ambiguous(&answer(alloc, &arena, &list, b"")?));
     Ok(())
 }
 
@@ -128,8 +128,8 @@ fn two_alternatives_with_one_text_are_two_trees(rt: HostRuntime) -> Result<(), F
             &[Part::Literal(b"x")],
         ],
     }];
-    assert!(rt; is_ambiguous(&picked(alloc, &arena, &list, b"x")?));
-    assert!(rt; is_tree(&picked(alloc, &arena, &list, b"y")?, 0, 1, 1));
+    assert!(rt; is_ambiguous(&answer(alloc, &arena, &list, b"x")?));
+    assert!(rt; is_tree(&answer(alloc, &arena, &list, b"y")?, 0, 1, 1));
     Ok(())
 }
 
@@ -140,7 +140,11 @@ fn a_phrase_may_stand_before_one_that_needs_it(rt: HostRuntime) -> Result<(), Fa
     let list = [
         Production {
             name: b"S",
-            alternatives: &[&[Part::Nonterm(b"E"), Part::Nonterm(b"A"), Part::Nonterm(b"B")]],
+            alternatives: &[&[
+                Part::Nonterm(b"E"),
+                Part::Nonterm(b"A"),
+                Part::Nonterm(b"B"),
+            ]],
         },
         Production {
             name: b"E",
@@ -159,7 +163,7 @@ fn a_phrase_may_stand_before_one_that_needs_it(rt: HostRuntime) -> Result<(), Fa
             alternatives: &[&[]],
         },
     ];
-    let nothing = picked(alloc, &arena, &list, b"")?;
+    let nothing = answer(alloc, &arena, &list, b"")?;
     assert!(rt; is_tree(&nothing, 0, 0, 0));
     let Picked::One(tree) = nothing else {
         return Err("no tree")?;
@@ -192,7 +196,7 @@ fn four_hundred_levels_have_a_tree(rt: HostRuntime) -> Result<(), Fail> {
     for k in 401..801 {
         source[k] = b')';
     }
-    assert!(rt; is_tree(&picked(alloc, &arena, &list, &source)?, 0, 0, 801));
-    assert!(rt; is_none(&picked(alloc, &arena, &list, &source[..800])?));
+    assert!(rt; is_tree(&answer(alloc, &arena, &list, &source)?, 0, 0, 801));
+    assert!(rt; is_none(&answer(alloc, &arena, &list, &source[..800])?));
     Ok(())
 }

@@ -18,7 +18,7 @@ returns-then-is_there c =
 pub first_of-choice-requires : goal.first_of-choice-requires
 first_of-choice-requires c =
     let x = has_step c.args.parse.now.grammar c.args.parse.now.kinds c.args.into.nonterm c.args.into.end c.args.from c.args.at c.requires.can
-        (λ both. let t : true ≡ false = sym (c.is_there.ensures.1 both) ∙ c.if-is_there.false in cc) in
+    (λ both. let t : true ≡ false = sym (c.is_there.ensures.1 both) ∙ c.if-is_there.false in cc) in
     subst (λ (l : List Taken). 0 < length l) (sym c.deref.ensures.value) (some_long c.in_ok-found.found.items x.0 ((c.in_ok-found.ensures x.0).1 x.1))
 
 pub returns : goal.returns
@@ -29,6 +29,6 @@ returns c =
     let j : ℕ = c.args.into.end in
     let Can : Taken → Type 0 = CanTake gr w (Branch c.args.from c.args.at) n j in
     let h : IsChoice Can c.first_of-choice.result = choice_of (λ x. Contains c.deref.result.now x) Can c.first_of-choice.result
-        (λ x. subst (λ (l : List Taken). Contains l x ↔ Can x) (sym c.deref.ensures.value) (c.in_ok-found.ensures x))
-        c.first_of-choice.ensures in
+    (λ x. subst (λ (l : List Taken). Contains l x ↔ Can x) (sym c.deref.ensures.value) (c.in_ok-found.ensures x))
+    c.first_of-choice.ensures in
     step_choice gr w n j c.args.from c.args.at c.first_of-choice.result h (λ both. let t : true ≡ false = sym (c.is_there.ensures.1 both) ∙ c.if-is_there.false in cc)

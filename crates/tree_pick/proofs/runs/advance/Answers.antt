@@ -5,7 +5,6 @@ use Rattle.std.proofs.lemmas.Result.{on_ok_weaker}
 use Rattle.tree_pick.specs.Runs.{Leads}
 use Rattle.tree_pick.proofs.runs.advance.Goals as goal
 
-
 pub returns-in_ok-add_place-in-Word : goal.returns-in_ok-add_place-in-Word
 returns-in_ok-add_place-in-Word c e =
     let gr = c.args.parse.now.grammar in
