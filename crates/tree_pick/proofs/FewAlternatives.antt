@@ -12,7 +12,7 @@ use Rattle.source_lex.specs.Numbered.{Alternative, alternatives_of, numbered, sy
 use Rattle.source_lex.specs.declared.numbered.Symbol.{Symbol}
 use Rattle.tree_pick.specs.Runs.{HaveFewAlternatives}
 
-abbrev none : Bor (List (Bor (List Symbol)))
+abbrev pub none : Bor (List (Bor (List Symbol)))
 none = record { ref_ptr = (0, 0); now = [] }
 
 pub mapped_at : {A B : Type 0} (f : A → B) (xs : List A) (n : ℕ) (d : A) → n < length xs → slice_get (map f xs) n ≡ Some (f (get_or xs n d))

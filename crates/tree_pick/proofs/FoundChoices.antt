@@ -15,9 +15,9 @@ use Rattle.tree_pick.specs.declared.phrases.Corner.{Corner}
 use Rattle.tree_pick.specs.declared.phrases.Corner.TheVariants.{Branch}
 use Rattle.tree_pick.specs.declared.phrases.Taken.{Taken}
 use Rattle.tree_pick.specs.Runs.{Cuts, CutsAmong}
-use Rattle.tree_pick.specs.Spines.{CanGrow}
+use Rattle.tree_pick.specs.Spines.{Stay, CanGrow}
 use Rattle.tree_pick.specs.Choices.{IsChoice, CanStep, CanTake, Takes, Fits, IsBehind, BeginsNot}
-use Rattle.tree_pick.proofs.Corners.{empty_list, some_list, fits_begins, fits_some}
+use Rattle.tree_pick.proofs.LeftParts.{empty_list, some_list, fits_begins, fits_some}
 use Rattle.chart_parse.proofs.EndsOfParts.{alternative_within}
 use Rattle.tree_pick.proofs.FollowedParts.{no_part, pushed}
 use Rattle.tree_pick.proofs.Looked.{taken, taken_same}
@@ -74,7 +74,7 @@ pub alternative_there : (g : Numbered) (n a : ℕ) (alternatives : List Alternat
 alternative_there g n a alternatives is lt =
     (get_or alternatives a [], subst (λ (o : Option (List Alternative)). option_and_then (λ list. slice_get list a) o ≡ Some (get_or alternatives a [])) (sym is) (slice_get-get_or alternatives a [] lt))
 
-below : (m k : ℕ) → m < k + 1 → (m < k) ⊎ (m ≡ k)
+pub below : (m k : ℕ) → m < k + 1 → (m < k) ⊎ (m ≡ k)
 below m k lt = elim (eq-or-lt_of_le (omega (arith, lt))) [ inl e ↦ inr e | inr l ↦ inl l ]
 
 -- one number more: what is counted below it, and at it
@@ -228,3 +228,31 @@ two_found P first other pf po apart = (pf, λ e. absurd (cc), λ e. (other, po, 
 -- what is among the first places is among all
 pub in_all : (g : Numbered) (w : List LexKind) (rest : Alternative) (j : ℕ) (places : List ℕ) (k h : ℕ) → CutsAmong g w rest j (take k places) h → CutsAmong g w rest j places h
 in_all g w rest j places k h x = (subst (λ (l : List ℕ). Contains l h) (take-append-drop k places) (Contains-append_left (take k places) (drop k places) h x.0), x.1)
+
+-- what grows into nothing but itself: it is of another nonterminal, doesn't lead to the end, or is the one
+pub whole_other : (g : Numbered) (w : List LexKind) (b a n j : ℕ) (Ends : ℕ → Type 0) (found : List Taken) (x : Taken) → ((j k : ℕ) → CanGrow g w n j b k → (b ≡ n) × (k ≡ j)) → (b ≡ n → ⊥)
+    → Contains found x ↔ (Contains found x ⊎ Takes g w b a Ends n j x)
+whole_other g w b a n j Ends found x stays apart = (
+  λ h. inl h,
+  λ h. elim h [ inl o ↦ o | inr t ↦ absurd (apart (stays j x.end t.3).0) ],
+)
+
+pub whole_none : (g : Numbered) (w : List LexKind) (b a n j : ℕ) (Ends : ℕ → Type 0) (found : List Taken) (x : Taken) → ((j k : ℕ) → CanGrow g w n j b k → (b ≡ n) × (k ≡ j)) → (Ends j → ⊥)
+    → Contains found x ↔ (Contains found x ⊎ Takes g w b a Ends n j x)
+whole_none g w b a n j Ends found x stays none = (
+  λ h. inl h,
+  λ h. elim h [ inl o ↦ o | inr t ↦ absurd (none (subst Ends (stays j x.end t.3).1 t.2)) ],
+)
+
+pub whole_one : (g : Numbered) (w : List LexKind) (b a n j : ℕ) (Ends : ℕ → Type 0) (old new : List Taken) (x : Taken) → ((j k : ℕ) → CanGrow g w n j b k → (b ≡ n) × (k ≡ j)) → b ≡ n → Ends j → new ≡ old ++ taken b a j ∷ []
+    → Contains new x ↔ (Contains old x ⊎ Takes g w b a Ends n j x)
+whole_one g w b a n j Ends old new x stays same ends more = (
+  λ h. elim ((pushed_to old new (taken b a j) x more).0 h) [
+    | inl o ↦ inl o
+    | inr q ↦ inr (subst (λ (y : Taken). Takes g w b a Ends n j y) q (refl, refl, ends, (Stay, (same, refl))))
+  ],
+  λ h. elim h [
+    | inl o ↦ (pushed_to old new (taken b a j) x more).1 (inl o)
+    | inr t ↦ (pushed_to old new (taken b a j) x more).1 (inr (taken_same (taken b a j) x (sym t.0) (sym t.1) (sym (stays j x.end t.3).1)))
+  ],
+)

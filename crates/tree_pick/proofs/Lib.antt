@@ -1,3 +1,4 @@
+mod Longer
 mod Sizes
 mod Plain
 mod SpinePick
@@ -7,6 +8,7 @@ mod Walked
 mod Looked
 mod FollowedParts
 mod BuiltParts
-mod Corners
+mod LeftParts
 mod FoundChoices
 mod FewAlternatives
+mod AllCorners

@@ -7,6 +7,7 @@ use Rattle.std.proofs.lemmas.Option.{slice_get_within, get_or_from_slice_get, sl
 use Rattle.std.proofs.lemmas.List.{take-append-le}
 use Rattle.std.proofs.Math.Seq.{take-suc}
 use Rattle.tree_pick.proofs.Walked.{span_kept}
+use Rattle.tree_pick.proofs.Longer.{longer_kept, one_more}
 use Rattle.source_lex.specs.declared.lexeme.LexKind.{LexKind}
 use Rattle.source_lex.specs.declared.numbered.Symbol.{Symbol as Part}
 use Rattle.source_lex.specs.declared.numbered.Symbol.TheVariants.{Word, Phrase}
@@ -20,7 +21,8 @@ use Rattle.chart_parse.specs.Growths.{HasPieces}
 use Rattle.tree_pick.specs.Runs.{Cuts}
 use Rattle.tree_pick.specs.Spines.{Spanning, Growing, Parts, CanGrow, FitsStep, Reached, Begun, Followed, HasTwo}
 use Rattle.tree_pick.specs.Choices.{IsChoice, CanLeaf, CanStep}
-use Rattle.tree_pick.specs.Walk.{span, root_of, IsKept, IsLonger, IsReached, AreReached, WorkedParts, WorkedGrowth, Worked, WorkedSpan, WorkedLeaf}
+use Rattle.tree_pick.specs.Longer.{IsKept, IsLonger}
+use Rattle.tree_pick.specs.Walk.{span, root_of, IsReached, AreReached, WorkedParts, WorkedGrowth, Worked, WorkedSpan, WorkedLeaf}
 use Rattle.chart_parse.proofs.LeftCorners.{pieces_within}
 use Rattle.tree_pick.proofs.SpineTwo.{two_above, two_chosen}
 
@@ -77,15 +79,6 @@ not_true false h = refl
 pub not_false : (b : Bool) → not b ≡ false → b ≡ true
 not_false true h = refl
 not_false false h = cc
-
-pub longer_kept : (S T : List Span) → IsLonger S T → IsKept S T
-longer_kept S T h x there = subst (λ (l : List Span). Contains l x) (sym h.1) (Contains-append_left S h.0 x there)
-
-pub longer_same : (S : List Span) → IsLonger S S
-longer_same S = ([], sym (append-nil S))
-
-pub longer_more : (S T U : List Span) → IsLonger S T → IsLonger T U → IsLonger S U
-longer_more S T U h k = (h.0 ++ k.0, k.1 ∙ ap (λ (l : List Span). l ++ k.0) h.1 ∙ append_assoc S h.0 k.0)
 
 pub taken_same : (x y : Taken) → x.production ≡ y.production → x.alternative ≡ y.alternative → x.end ≡ y.end → x ≡ y
 taken_same x y p q r = λ t. record { production = p t; alternative = q t; end = r t }
@@ -173,20 +166,6 @@ step_worked g w T n j c k x s h e some parts more = Worked (
 pub both_ok : (r : Result Bool Memory) (A : Type 0) (P Q : Bool → Type 0) → OnOk r A → IfOk r P → ((b : Bool) → A → P b → Q b) → IfOk r Q
 both_ok (Ok b) A P Q a p f = f b a p
 both_ok (Err e) A P Q a p f = tt
-
-pub at_index : (S : List Span) (p : ℕ) (x : Span) → slice_get S p ≡ Some x → Contains S x
-at_index S p x e = (p, slice_get_within S p x e, get_or_from_slice_get S p x x e)
-
-pub all_below : (S : List Span) (p : ℕ) → None ≡ slice_get S p → take p S ≡ S
-all_below S p e = elim (slice_get_cases S p).1 [
-  | inl (x, lt, some, at) ↦ absurd (let q : None ≡ Some x = e ∙ some in cc)
-  | inr (le, none) ↦ take_all p S le
-]
-
-one_more : (S T : List Span) (p : ℕ) (x : Span) → IsLonger S T → slice_get S p ≡ Some x → take (p + 1) T ≡ take p S ++ x ∷ []
-one_more S T p x h e =
-    let lt : p < length S = slice_get_within S p x e in
-    ap (take (p + 1)) h.1 ∙ take-append-le (p + 1) S h.0 (omega arith) ∙ rw (add-one p) (take-suc S p x lt) ∙ ap (λ (y : Span). take p S ++ y ∷ []) (get_or_from_slice_get S p x x e)
 
 -- one phrase more was looked at
 pub more_worked : (g : Numbered) (w : List LexKind) (S T : List Span) (p : ℕ) (y : Span) → IsLonger S T → slice_get S p ≡ Some y → ((x : Span) → Contains (take p S) x → WorkedSpan g w S x.nonterm x.start x.end) → WorkedSpan g w T y.nonterm y.start y.end

@@ -8,7 +8,8 @@ use Rattle.source_lex.specs.Numbered.{Alternative, Numbered, alternative_of}
 use Rattle.source_lex.specs.Trees.{IsTree, Has}
 use Rattle.chart_parse.specs.Growths.{HasPieces}
 use Rattle.tree_pick.specs.Spines.{Spot, Spanning, Growing, Parts, CanGrow, FitsLeaf, FitsStep, Reached, Here, Leafed, Begun, Grown, Followed, Read, First, Rest, HasOneChoice, plug, Step}
-use Rattle.tree_pick.specs.Walk.{span, WorkedParts, WorkedGrowth, Worked, WorkedSpan, IsKept}
+use Rattle.tree_pick.specs.Longer.{IsKept}
+use Rattle.tree_pick.specs.Walk.{span, WorkedParts, WorkedGrowth, Worked, WorkedSpan}
 use Rattle.tree_pick.proofs.SpinePick.{one_tree}
 use Rattle.tree_pick.proofs.Sizes.{tree_size}
 use Rattle.tree_pick.proofs.SpineTwo.{leaf_tree, plugged}

@@ -1,6 +1,8 @@
+pub mod Corners
 pub mod Runs
 pub mod Spines
 pub mod Choices
+pub mod Longer
 pub mod Walk
 pub mod Built
 pub mod Uniform

@@ -1,5 +1,5 @@
 -- What a walk over the spots has looked at.
-use Rattle.std.specs.Prelude.{◌≡◌, ◌≤◌, ℕ, ◌+◌, List, [], ◌∷◌, ◌++◌, slice_get, Some, Contains, length}
+use Rattle.std.specs.Prelude.{◌≡◌, ◌≤◌, ℕ, ◌+◌, List, [], ◌∷◌, slice_get, Some, Contains, length}
 use Rattle.gram_form.specs.Trees.{PlainTree}
 use Rattle.source_lex.specs.Numbered.{Alternative, Numbered, alternative_of}
 use Rattle.source_lex.specs.Trees.{Has, IsWhole}
@@ -45,9 +45,6 @@ WorkedSpan g w seen n i j =
 abbrev pub root_of : List LexKind → Spot
 root_of w = Spanning 0 0 (length w)
 
-abbrev pub IsKept : List Span → List Span → Type 0
-IsKept old new = (x : Span) → Contains old x → Contains new x
-
 -- the phrase is reached from the root, has a tree, and begins within the lexemes
 pub record IsReached (g : Numbered) (w : List LexKind) (x : Span) : Type 0 where
   pub at : Reached g w (root_of w) (Spanning x.nonterm x.start x.end)
@@ -56,10 +53,6 @@ pub record IsReached (g : Numbered) (w : List LexKind) (x : Span) : Type 0 where
 
 abbrev pub AreReached : (g : Numbered) (w : List LexKind) → List Span → Type 0
 AreReached g w seen = (x : Span) → Contains seen x → IsReached g w x
-
--- more was added behind the list
-abbrev pub IsLonger : List Span → List Span → Type 0
-IsLonger old new = (more : List Span) × (new ≡ old ++ more)
 
 -- two trees over all lexemes are one
 abbrev pub HasAtMostOne : (g : Numbered) (w : List LexKind) → Type 0

@@ -146,6 +146,64 @@ fn add_ends(
     add_each(parse, production, alternative, &ends, into, found)
 }
 
+/// Adds the alternative, if what is still to be read of it leads to the end of the phrase, where it
+/// grows into nothing but itself.
+fn add_whole(
+    parse: &Parse<'_>,
+    production: u32,
+    alternative: u32,
+    rest: &[Symbol],
+    at: u32,
+    into: Span,
+    found: &mut Vec<Taken>,
+) -> Result<(), Memory>
+    requires stays { (j k : ℕ) → CanGrow parse.now.grammar parse.now.kinds into.nonterm j production k
+        → (production ≡ into.nonterm) × (k ≡ j) }
+    requires places { (at ≤ length parse.now.kinds) × (into.end ≤ length parse.now.kinds) }
+    requires short { length parse.now.kinds < 4294967296 }
+    ensures { OnOk result ((x : Taken) → Contains found.new.items x ↔ (Contains found.old.items x
+        ⊎ Takes parse.now.grammar parse.now.kinds production alternative
+            (HasPieces parse.now.grammar parse.now.kinds rest.now at) into.nonterm into.end x)) }
+{
+    if production != into.nonterm {
+        return Ok(());
+    }
+    if !reaches(parse, rest, at, into.end)? {
+        return Ok(());
+    }
+    found.push(Taken {
+        production,
+        alternative,
+        end: into.end,
+    })?;
+    Ok(())
+}
+
+/// Adds the alternative with each end of what is still to be read of it, if it grows from there
+/// into the phrase. What begins no phrase of that nonterminal needs no look at all its ends.
+fn add_rest(
+    parse: &Parse<'_>,
+    production: u32,
+    alternative: u32,
+    rest: &[Symbol],
+    at: u32,
+    into: Span,
+    found: &mut Vec<Taken>,
+) -> Result<(), Memory>
+    requires production { production < length parse.now.grammar }
+    requires places { (at ≤ length parse.now.kinds) × (into.end ≤ length parse.now.kinds) }
+    requires short { length parse.now.kinds < 4294967296 }
+    ensures { OnOk result ((x : Taken) → Contains found.new.items x ↔ (Contains found.old.items x
+        ⊎ Takes parse.now.grammar parse.now.kinds production alternative
+            (HasPieces parse.now.grammar parse.now.kinds rest.now at) into.nonterm into.end x)) }
+{
+    if parse.leads(production, into.nonterm) {
+        add_ends(parse, production, alternative, rest, at, into, found)
+    } else {
+        add_whole(parse, production, alternative, rest, at, into, found)
+    }
+}
+
 /// Adds what can be taken of the alternative, where it is to begin so and to grow into the phrase.
 fn add_alternative(
     parse: &Parse<'_>,
@@ -168,7 +226,7 @@ fn add_alternative(
     let parts = parse.alternative(production, alternative);
     match behind(parse, corner, parts) {
         None => Ok(()),
-        Some((rest, at)) => add_ends(parse, production, alternative, rest, at, into, found),
+        Some((rest, at)) => add_rest(parse, production, alternative, rest, at, into, found),
     }
 }
 

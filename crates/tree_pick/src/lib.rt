@@ -3,6 +3,7 @@
 
 mod building;
 mod choices;
+mod corners;
 pub mod errors;
 mod parse;
 mod phrases;

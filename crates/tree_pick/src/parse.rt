@@ -1,13 +1,16 @@
 //! A grammar, the kinds of lexemes, and the chart of both.
-ghost use Rattle.std.specs.Prelude.{◌≡◌, ◌<◌, ◌≤◌, ◌↔◌, ℕ, length, slice_get, Some, IsTrue, IfOk, Contains};
+ghost use Rattle.std.specs.Prelude.{◌≡◌, ◌<◌, ◌≤◌, ◌↔◌, false, ℕ, length, slice_get, Some, IsTrue, IfOk, Contains};
 ghost use Rattle.source_lex.specs.Numbered.{Alternative, alternative_of, plain_alternatives, plain_numbered};
 ghost use Rattle.source_lex.specs.Trees.{Has};
+ghost use Rattle.tree_pick.specs.Corners.{AreAllCorners};
 ghost use Rattle.tree_pick.specs.Runs.{HaveFewAlternatives};
 ghost use Rattle.tree_pick.specs.Spines.{CanGrow};
 
+use crate::corners::{Beginning, is_corner};
 use crate::phrases::Span;
 use acg_base::Memory;
 use chart_parse::Chart;
+use indexmap::IndexSet;
 use source_lex::{LexKind, Symbol};
 use std::alloc::Global;
 use std::marker::Model;
@@ -21,12 +24,14 @@ pub struct Parse<'c> {
     kinds: &'c [LexKind],
     chart: &'c Chart<'c>,
     count: u32,
+    corners: &'c IndexSet<Beginning>,
 }
 
 impl<'c> Model for Parse<'c> {
     ghost use Rattle.std.specs.Prelude.{◌≡◌, ◌<◌, length};
     ghost use Rattle.source_lex.specs.Numbered.{plain_numbered};
     ghost use Rattle.chart_parse.specs.Charts.{PlainChart};
+    ghost use Rattle.tree_pick.specs.Corners.{AreAllCorners};
     ghost use Rattle.tree_pick.specs.Runs.{HaveFewAlternatives};
 
     ghost Value = { PlainChart };
@@ -36,7 +41,8 @@ impl<'c> Model for Parse<'c> {
     ghost invariant = { λ p. (p.chart.now.grammar ≡ plain_numbered p.nonterminals.now)
         × (p.chart.now.kinds ≡ p.kinds.now)
         × (length p.nonterminals.now < 4294967296) × (length p.kinds.now ≡ p.count)
-        × HaveFewAlternatives (plain_numbered p.nonterminals.now) };
+        × HaveFewAlternatives (plain_numbered p.nonterminals.now)
+        × AreAllCorners (plain_numbered p.nonterminals.now) p.corners.now.keys };
 }
 
 impl<'c> Parse<'c> {
@@ -46,11 +52,13 @@ impl<'c> Parse<'c> {
         nonterminals: &'c [&'c [&'c [Symbol]]],
         kinds: &'c [LexKind],
         chart: &'c Chart<'c>,
+        corners: &'c IndexSet<Beginning>,
     ) -> Parse<'c>
         requires grammar { chart.now.grammar ≡ plain_numbered nonterminals.now }
         requires kinds { chart.now.kinds ≡ kinds.now }
         requires few { length nonterminals.now < 4294967296 }
         requires alternatives { HaveFewAlternatives (plain_numbered nonterminals.now) }
+        requires corners { AreAllCorners (plain_numbered nonterminals.now) corners.now.keys }
         ensures grammar { result.grammar ≡ plain_numbered nonterminals.now }
         ensures kinds { result.kinds ≡ kinds.now }
         ensures short { length kinds.now < 4294967296 }
@@ -61,6 +69,7 @@ impl<'c> Parse<'c> {
             kinds,
             chart,
             count: chart.count(),
+            corners,
         }
     }
 
@@ -136,5 +145,15 @@ impl<'c> Parse<'c> {
         ensures { IsTrue result ↔ CanGrow self.now.grammar self.now.kinds into.nonterm into.end from k }
     {
         self.chart.grows(from, k, into.nonterm, into.end)
+    }
+
+    /// Whether a phrase of `whole` can begin with one of `first`; if not, one of `first` grows into
+    /// no other.
+    pub fn leads(&self, first: u32, whole: u32) -> bool
+        ensures { result ≡ false → (j k : ℕ)
+            → CanGrow self.now.grammar self.now.kinds whole j first k
+            → (first ≡ whole) × (k ≡ j) }
+    {
+        is_corner(self.corners, first, whole)
     }
 }

@@ -6,7 +6,8 @@ ghost use Rattle.source_lex.specs.declared.numbered.Symbol.TheVariants as symbol
 ghost use Rattle.chart_parse.specs.Growths.{HasPieces};
 ghost use Rattle.tree_pick.specs.Spines.{CanGrow, Reached, Spanning, Growing, Parts, HasTwo};
 ghost use Rattle.tree_pick.specs.Choices.{CanLeaf, CanStep};
-ghost use Rattle.tree_pick.specs.Walk.{root_of, IsLonger, WorkedLeaf, WorkedParts, WorkedGrowth, WorkedSpan, AreReached, HasAtMostOne};
+ghost use Rattle.tree_pick.specs.Longer.{IsLonger};
+ghost use Rattle.tree_pick.specs.Walk.{root_of, WorkedLeaf, WorkedParts, WorkedGrowth, WorkedSpan, AreReached, HasAtMostOne};
 
 use crate::choices::{cut, leaf, step};
 use crate::parse::Parse;

@@ -27,12 +27,12 @@ returns-in-Some c =
     let n : ℕ = c.args.into.nonterm in
     let j : ℕ = c.args.into.end in
     let old : List Taken = c.args.found.now.items in
-    let new : List Taken = c.add_ends.new.found.items in
+    let new : List Taken = c.add_rest.new.found.items in
     let parts : Alternative = c.alternative-parts.result.now in
     let rest : Alternative = c.in-Some.rest.now in
     let at : ℕ = c.in-Some.at in
-    on_ok_weaker c.add_ends.result (λ all x.
+    on_ok_weaker c.add_rest.result (λ all x.
     iff_then (Contains new x) (Contains old x ⊎ Takes gr w b a (HasPieces gr w rest at) n j x) (Contains old x ⊎ ((x.production ≡ b) × (x.alternative ≡ a) × CanTake gr w c.args.corner n j x)) (all x)
     (either_same (Contains old x) (Takes gr w b a (HasPieces gr w rest at) n j x) ((x.production ≡ b) × (x.alternative ≡ a) × CanTake gr w c.args.corner n j x)
     (takes_fits gr w c.args.corner b a n j parts rest at x c.in-Some.ensures c.alternative-parts.ensures)))
-    c.add_ends.ensures
+    c.add_rest.ensures

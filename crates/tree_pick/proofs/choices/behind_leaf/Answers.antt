@@ -2,7 +2,7 @@ use Rattle.std.proofs.Common.{◌≡◌, ◌<◌, ◌∷◌, length, drop, take,
 use Rattle.source_lex.specs.Numbered.{Alternative}
 use Rattle.source_lex.specs.declared.lexeme.LexKind.TheVariants.{Literal}
 use Rattle.source_lex.specs.declared.numbered.Symbol.TheVariants.{Word}
-use Rattle.tree_pick.proofs.Corners.{empty_list, some_list, first_and_rest, begins_empty, begins_word}
+use Rattle.tree_pick.proofs.LeftParts.{empty_list, some_list, first_and_rest, begins_empty, begins_word}
 use Rattle.tree_pick.proofs.choices.behind_leaf.Goals as goal
 
 pub returns-then-is_empty : goal.returns-then-is_empty

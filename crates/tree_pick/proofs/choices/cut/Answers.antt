@@ -4,7 +4,7 @@ use Rattle.std.proofs.lemmas.Result.{IfOk-weaker}
 use Rattle.source_lex.specs.Trees.{Has}
 use Rattle.chart_parse.proofs.LeftCorners.{tree_within}
 use Rattle.tree_pick.specs.Runs.{Cuts, CutsAmong}
-use Rattle.tree_pick.proofs.Corners.{empty_list}
+use Rattle.tree_pick.proofs.LeftParts.{empty_list}
 use Rattle.tree_pick.proofs.FollowedParts.{choice_of}
 use Rattle.tree_pick.proofs.FoundChoices.{last_cut}
 use Rattle.tree_pick.proofs.choices.cut.Goals as goal

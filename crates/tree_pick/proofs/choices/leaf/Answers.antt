@@ -3,7 +3,7 @@ use Rattle.std.specs.Prelude.{◌↔◌}
 use Rattle.tree_pick.specs.declared.phrases.Taken.{Taken}
 use Rattle.tree_pick.specs.Choices.{CanLeaf}
 use Rattle.chart_parse.proofs.LeftCorners.{tree_within}
-use Rattle.tree_pick.proofs.Corners.{has_leaf}
+use Rattle.tree_pick.proofs.LeftParts.{has_leaf}
 use Rattle.tree_pick.proofs.FollowedParts.{choice_of}
 use Rattle.tree_pick.proofs.FoundChoices.{some_long}
 use Rattle.tree_pick.proofs.choices.leaf.Goals as goal

@@ -4,7 +4,7 @@ use Rattle.std.specs.Vec.{vec_len}
 use Rattle.tree_pick.specs.declared.phrases.Corner.TheVariants.{Branch}
 use Rattle.tree_pick.specs.declared.phrases.Taken.{Taken}
 use Rattle.tree_pick.specs.Choices.{IsChoice, CanTake}
-use Rattle.tree_pick.proofs.Corners.{has_step}
+use Rattle.tree_pick.proofs.LeftParts.{has_step}
 use Rattle.tree_pick.proofs.FollowedParts.{choice_of}
 use Rattle.tree_pick.proofs.FoundChoices.{some_long, stay_choice, step_choice}
 use Rattle.tree_pick.proofs.choices.step.Goals as goal

@@ -7,7 +7,7 @@ use Rattle.source_lex.specs.declared.numbered.Symbol.{Symbol as Part}
 use Rattle.source_lex.specs.declared.numbered.Symbol.TheVariants.{Word}
 use Rattle.chart_parse.specs.Growths.{HasPieces}
 use Rattle.tree_pick.specs.Runs.{AreWithin, LeadsFrom}
-use Rattle.tree_pick.proofs.Corners.{empty_list, some_list}
+use Rattle.tree_pick.proofs.LeftParts.{empty_list, some_list}
 use Rattle.tree_pick.proofs.FollowedParts.{no_part, last_run}
 use Rattle.tree_pick.proofs.runs.reaches.Goals as goal
 

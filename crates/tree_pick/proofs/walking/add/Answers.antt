@@ -5,7 +5,8 @@ use Rattle.std.specs.Bool.{if◌then◌else◌}
 use Rattle.std.specs.List.{list_any}
 use Rattle.indexmap.proofs.CallerLemmas.{Contains-insert_key}
 use Rattle.tree_pick.specs.declared.phrases.Span.{Span}
-use Rattle.tree_pick.specs.Walk.{IsLonger}
+use Rattle.tree_pick.specs.Longer.{IsLonger}
+use Rattle.tree_pick.proofs.Longer.{longer_one, only_one}
 use Rattle.tree_pick.specs.contracts.phrases.SpanPartialEq as eq
 use Rattle.tree_pick.proofs.walking.add.Goals as goal
 
@@ -15,16 +16,8 @@ same_span x y h = let f : (nat_eq x.nonterm y.nonterm && (nat_eq x.start y.start
 pub returns-clause-there : goal.returns-clause-there
 returns-clause-there c = subst (λ (l : List Span). Contains l c.args.phrase) (sym c.in_ok-insert.ensures.keys) (Contains-insert_key eq.TheImpl.eq-value.it same_span c.args.seen.now.keys c.args.phrase)
 
-only_one : (test : Bool) (ks : List Span) (k x : Span) → Contains (if test then ks else ks ++ k ∷ []) x → Contains ks x ⊎ (k ≡ x)
-only_one true ks k x h = inl h
-only_one false ks k x h = Contains-push_cases ks k x h
-
 pub returns-clause-only : goal.returns-clause-only
 returns-clause-only c = λ x h. only_one (list_any (eq.TheImpl.eq-value.it c.args.phrase) c.args.seen.now.keys) c.args.seen.now.keys c.args.phrase x (subst (λ (l : List Span). Contains l x) c.in_ok-insert.ensures.keys h)
-
-longer_one : (test : Bool) (ks : List Span) (k : Span) → IsLonger ks (if test then ks else ks ++ k ∷ [])
-longer_one true ks k = ([], sym (append-nil ks))
-longer_one false ks k = (k ∷ [], refl)
 
 pub returns-clause-longer : goal.returns-clause-longer
 returns-clause-longer c = subst (IsLonger c.args.seen.now.keys) (sym c.in_ok-insert.ensures.keys) (longer_one (list_any (eq.TheImpl.eq-value.it c.args.phrase) c.args.seen.now.keys) c.args.seen.now.keys c.args.phrase)

@@ -4,7 +4,8 @@ use Rattle.source_lex.specs.Trees.{Has}
 use Rattle.tree_pick.specs.Spines.{Reached, Spanning, Here}
 use Rattle.tree_pick.specs.Walk.{span, root_of}
 use Rattle.tree_pick.proofs.Walked.{one_root}
-use Rattle.tree_pick.proofs.Looked.{longer_kept, added_reached, at_index, all_below, more_worked}
+use Rattle.tree_pick.proofs.Longer.{longer_kept, at_index, all_below}
+use Rattle.tree_pick.proofs.Looked.{added_reached, more_worked}
 use Rattle.tree_pick.proofs.walking.is_ambiguous.Goals as goal
 
 none : (x : Span) → Contains [] x → ⊥

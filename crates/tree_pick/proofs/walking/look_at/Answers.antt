@@ -4,10 +4,12 @@ use Rattle.tree_pick.specs.declared.phrases.Span.{Span}
 use Rattle.tree_pick.specs.declared.phrases.Taken.{Taken}
 use Rattle.tree_pick.specs.declared.phrases.Choice.{Choice}
 use Rattle.tree_pick.specs.Spines.{Leafed}
-use Rattle.tree_pick.specs.Walk.{IsLonger, WorkedGrowth, WorkedSpan}
+use Rattle.tree_pick.specs.Longer.{IsLonger}
+use Rattle.tree_pick.specs.Walk.{WorkedGrowth, WorkedSpan}
 use Rattle.tree_pick.proofs.Walked.{parts_kept}
 use Rattle.chart_parse.proofs.LeftCorners.{tree_within}
-use Rattle.tree_pick.proofs.Looked.{leaf_within, two_leaves, leaf_worked, longer_kept, longer_more, not_true, not_false, both_ok}
+use Rattle.tree_pick.proofs.Longer.{longer_kept, longer_more}
+use Rattle.tree_pick.proofs.Looked.{leaf_within, two_leaves, leaf_worked, not_true, not_false, both_ok}
 use Rattle.tree_pick.proofs.walking.look_at.Goals as goal
 
 pub returns-then-not-choice-clause-two : goal.returns-then-not-choice-clause-two

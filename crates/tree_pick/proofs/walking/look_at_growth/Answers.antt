@@ -5,7 +5,8 @@ use Rattle.tree_pick.specs.declared.phrases.Choice.{Choice}
 use Rattle.tree_pick.specs.Spines.{Grown}
 use Rattle.tree_pick.specs.Choices.{CanStep}
 use Rattle.tree_pick.proofs.Walked.{parts_kept}
-use Rattle.tree_pick.proofs.Looked.{two_steps, stay_worked, step_worked, step_within, longer_kept, longer_more, not_true, not_false}
+use Rattle.tree_pick.proofs.Longer.{longer_kept, longer_more}
+use Rattle.tree_pick.proofs.Looked.{two_steps, stay_worked, step_worked, step_within, not_true, not_false}
 use Rattle.tree_pick.proofs.walking.look_at_growth.Goals as goal
 
 pub returns-then-not-choice-clause-two : goal.returns-then-not-choice-clause-two

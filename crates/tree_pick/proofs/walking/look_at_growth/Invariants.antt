@@ -1,7 +1,8 @@
 use Rattle.std.proofs.Common.{◌≤◌, List, length}
 use Rattle.tree_pick.specs.declared.phrases.Span.{Span}
 use Rattle.tree_pick.specs.Spines.{Reached, Growing, CanGrow}
-use Rattle.tree_pick.specs.Walk.{root_of, IsKept, IsLonger, WorkedGrowth, AreReached}
+use Rattle.tree_pick.specs.Longer.{IsKept, IsLonger}
+use Rattle.tree_pick.specs.Walk.{root_of, WorkedGrowth, AreReached}
 use Rattle.tree_pick.proofs.walking.look_at_growth.Given as goal
 
 abbrev pub invariant-loop : goal.invariant-loop

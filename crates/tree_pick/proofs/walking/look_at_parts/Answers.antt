@@ -9,7 +9,8 @@ use Rattle.tree_pick.specs.Spines.{Read, First, Rest}
 use Rattle.tree_pick.specs.Choices.{IsChoice}
 use Rattle.tree_pick.specs.Walk.{span}
 use Rattle.chart_parse.proofs.LeftCorners.{tree_within, pieces_within}
-use Rattle.tree_pick.proofs.Looked.{word_has, phrase_has, two_cuts, added_reached, next, tail, phrase_worked, not_true, not_false, longer_kept, longer_more}
+use Rattle.tree_pick.proofs.Longer.{longer_kept, longer_more}
+use Rattle.tree_pick.proofs.Looked.{word_has, phrase_has, two_cuts, added_reached, next, tail, phrase_worked, not_true, not_false}
 use Rattle.tree_pick.proofs.walking.look_at_parts.Goals as goal
 use Rattle.tree_pick.proofs.walking.look_at_parts.Goals.{in-Word, in-Phrase+in_ok-cut-in-Phrase+else-not-cut+in_ok-add-in-Phrase}
 

@@ -2,7 +2,8 @@ use Rattle.std.proofs.Common.{◌≤◌, List, drop, length}
 use Rattle.tree_pick.specs.declared.phrases.Span.{Span}
 use Rattle.chart_parse.specs.Growths.{HasPieces}
 use Rattle.tree_pick.specs.Spines.{Reached, Parts}
-use Rattle.tree_pick.specs.Walk.{root_of, IsKept, IsLonger, WorkedParts, AreReached}
+use Rattle.tree_pick.specs.Longer.{IsKept, IsLonger}
+use Rattle.tree_pick.specs.Walk.{root_of, WorkedParts, AreReached}
 use Rattle.tree_pick.proofs.walking.look_at_parts.Given as goal
 
 abbrev pub invariant-loop-p : goal.invariant-loop-p
