@@ -163,7 +163,7 @@ fn add_whole(
     requires short { length parse.now.kinds < 4294967296 }
     ensures { OnOk result ((x : Taken) → Contains found.new.items x ↔ (Contains found.old.items x
         ⊎ Takes parse.now.grammar parse.now.kinds production alternative
-            (HasPieces parse.now.grammar parse.now.kinds rest.now at) into.nonterm into.end x)) }
+        (HasPieces parse.now.grammar parse.now.kinds rest.now at) into.nonterm into.end x)) }
 {
     if production != into.nonterm {
         return Ok(());
@@ -195,7 +195,7 @@ fn add_rest(
     requires short { length parse.now.kinds < 4294967296 }
     ensures { OnOk result ((x : Taken) → Contains found.new.items x ↔ (Contains found.old.items x
         ⊎ Takes parse.now.grammar parse.now.kinds production alternative
-            (HasPieces parse.now.grammar parse.now.kinds rest.now at) into.nonterm into.end x)) }
+        (HasPieces parse.now.grammar parse.now.kinds rest.now at) into.nonterm into.end x)) }
 {
     if parse.leads(production, into.nonterm) {
         add_ends(parse, production, alternative, rest, at, into, found)

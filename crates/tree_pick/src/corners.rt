@@ -87,10 +87,7 @@ fn first_corners(
 }
 
 /// The pairs of nonterminals of which a phrase of the second can begin with one of the first.
-pub fn corners(
-    alloc: Global,
-    nonterminals: &[&[&[Symbol]]],
-) -> Result<IndexSet<Beginning>, Memory>
+pub fn corners(alloc: Global, nonterminals: &[&[&[Symbol]]]) -> Result<IndexSet<Beginning>, Memory>
     requires { length nonterminals.now < 4294967296 }
     ensures { IfOk result (λ pairs. AreAllCorners (plain_numbered nonterminals.now) pairs.keys) }
 {
