@@ -1,8 +1,8 @@
 -- What a set of all corners tells of growths, and how it is filled.
-use Rattle.std.proofs.Common.{◌≡◌, inl, inr, ℕ, zero, suc, ◌+◌, ◌<◌, Bool, true, false, ◌||◌, List, [], ◌∷◌, length, slice_get, get_or, take, Some, Option, Contains, refl, sym, subst, ◌∙◌, arith, Bor}
+use Rattle.std.proofs.Common.{◌≡◌, inl, inr, ℕ, zero, suc, ◌+◌, ◌<◌, Bool, true, false, ◌||◌, List, [], ◌∷◌, length, slice_get, get_or, take, Some, Contains, refl, sym, subst, ◌∙◌, arith, Bor}
 use Rattle.std.specs.List.{list_any}
 use Rattle.std.proofs.lemmas.List.Elements.{Contains-push_cases}
-use Rattle.source_lex.specs.Numbered.{Alternative, Numbered, alternative_of}
+use Rattle.source_lex.specs.Numbered.{Alternative, Numbered}
 use Rattle.source_lex.specs.declared.numbered.Symbol.{Symbol as Part}
 use Rattle.source_lex.specs.declared.lexeme.LexKind.{LexKind}
 use Rattle.chart_parse.specs.Places.{alternatives_in}

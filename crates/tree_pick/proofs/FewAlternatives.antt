@@ -1,6 +1,5 @@
 -- The alternatives of a nonterminal, by its number, and how many they are.
 use Rattle.std.proofs.Common.{◌≡◌, ◌<◌, ◌∙◌, ℕ, List, [], length, slice_get, get_or, map, Some, Bor, ap, sym, arith}
-use Rattle.std.specs.Prelude.{All}
 use Rattle.std.specs.Option.{option_map}
 use Rattle.std.proofs.lemmas.List.{length-map}
 use Rattle.std.proofs.lemmas.List.Elements.{All-contains, Contains-get_or}
@@ -8,7 +7,7 @@ use Rattle.std.proofs.lemmas.Option.{slice_get-map, slice_get-get_or, slice_get_
 use Rattle.gram_form.specs.Plain.{PlainProduction, PlainGrammar}
 use Rattle.gram_form.specs.Grammars.{names_of}
 use Rattle.gram_form.specs.GrammarErrors.{AreFew}
-use Rattle.source_lex.specs.Numbered.{Alternative, alternatives_of, numbered, symbol_of, plain_alternatives, plain_numbered}
+use Rattle.source_lex.specs.Numbered.{alternatives_of, numbered, symbol_of, plain_alternatives, plain_numbered}
 use Rattle.source_lex.specs.declared.numbered.Symbol.{Symbol}
 use Rattle.tree_pick.specs.Runs.{HaveFewAlternatives}
 

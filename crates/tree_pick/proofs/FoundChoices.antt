@@ -1,5 +1,5 @@
 -- What was found, and the choices among it.
-use Rattle.std.proofs.Common.{◌≡◌, ◌≢◌, ◌⊎◌, inl, inr, true, false, ◌==◌, ℕ, ◌+◌, ◌<◌, ◌≤◌, List, [], ◌∷◌, ◌++◌, length, slice_get, Some, None, Option, get_or, Contains, refl, sym, ap, subst, ◌∙◌, arith, take, drop, Bool}
+use Rattle.std.proofs.Common.{◌≡◌, ◌⊎◌, inl, inr, true, false, ◌==◌, ℕ, ◌+◌, ◌<◌, List, [], ◌∷◌, ◌++◌, length, slice_get, Some, None, Option, get_or, Contains, refl, sym, ap, subst, ◌∙◌, arith, take, drop, Bool}
 use Rattle.std.specs.Prelude.{◌↔◌}
 use Rattle.std.proofs.lemmas.List.{take-append-drop}
 use Rattle.std.proofs.lemmas.List.Elements.{Contains-get_or, Contains-append_left}
@@ -7,7 +7,6 @@ use Rattle.std.proofs.lemmas.Option.{slice_get_within, slice_get-get_or}
 use Rattle.std.proofs.Math.Nat.{eq-or-lt_of_le}
 use Rattle.std.specs.Option.{option_and_then, unwrap_or}
 use Rattle.source_lex.specs.Numbered.{Alternative, Numbered, alternative_of}
-use Rattle.source_lex.specs.Trees.{Has}
 use Rattle.source_lex.specs.declared.lexeme.LexKind.{LexKind}
 use Rattle.chart_parse.specs.Growths.{HasPieces}
 use Rattle.tree_pick.specs.declared.phrases.Choice.{Choice}

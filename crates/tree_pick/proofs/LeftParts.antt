@@ -1,12 +1,12 @@
 -- What is still to be read of an alternative that begins so.
-use Rattle.std.proofs.Common.{◌≡◌, ◌⊎◌, inl, inr, true, false, ◌==◌, ℕ, ◌+◌, ◌-◌, ◌<◌, ◌≤◌, List, [], ◌∷◌, length, slice_get, Some, drop, take, get_or, refl, sym, ap, subst, ◌∙◌, arith, cond}
+use Rattle.std.proofs.Common.{◌≡◌, inl, inr, true, false, ◌==◌, ℕ, ◌+◌, ◌-◌, ◌<◌, ◌≤◌, List, [], ◌∷◌, length, slice_get, Some, drop, take, get_or, refl, sym, ap, subst, ◌∙◌, arith}
 use Rattle.std.specs.Prelude.{◌↔◌}
 use Rattle.std.proofs.lemmas.Bool.Decides.{nat_tests}
 use Rattle.std.proofs.lemmas.List.{nil_from_length}
 use Rattle.std.proofs.lemmas.Option.{slice_get_within}
 use Rattle.gram_form.specs.Trees.{End}
 use Rattle.source_lex.specs.Numbered.{Alternative, Numbered, alternative_of}
-use Rattle.source_lex.specs.Trees.{Has, IsTree}
+use Rattle.source_lex.specs.Trees.{Has}
 use Rattle.source_lex.specs.declared.numbered.Symbol.{Symbol as Part}
 use Rattle.source_lex.specs.declared.numbered.Symbol.TheVariants.{Word, Phrase}
 use Rattle.source_lex.specs.declared.lexeme.LexKind.{LexKind}
@@ -14,8 +14,8 @@ use Rattle.chart_parse.specs.Growths.{HasPieces}
 use Rattle.tree_pick.specs.declared.phrases.Corner.{Corner}
 use Rattle.tree_pick.specs.declared.phrases.Corner.TheVariants.{Leaf, Branch}
 use Rattle.tree_pick.specs.declared.phrases.Taken.{Taken}
-use Rattle.tree_pick.specs.Spines.{Stay, Step, CanGrow, FitsStep}
-use Rattle.tree_pick.specs.Choices.{CanLeaf, CanStep, CanTake, Begins, IsBehind, Fits}
+use Rattle.tree_pick.specs.Spines.{Stay, Step, CanGrow}
+use Rattle.tree_pick.specs.Choices.{CanLeaf, CanTake, Begins, IsBehind, Fits}
 use Rattle.tree_pick.proofs.FollowedParts.{no_part}
 use Rattle.tree_pick.proofs.SpinePick.{has_spine, leaf_fits, leaf_of, growth_of}
 use Rattle.tree_pick.proofs.Looked.{next, tail, taken}

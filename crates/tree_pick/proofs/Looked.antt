@@ -1,11 +1,9 @@
 -- The steps of the walk.
-use Rattle.std.proofs.Common.{◌≡◌, ◌≢◌, ◌≤◌, ◌⊎◌, inl, inr, ℕ, ◌+◌, ◌<◌, List, [], ◌∷◌, slice_get, length, Some, None, Option, Contains, refl, sym, ap, subst, arith, ◌∙◌, true, false, drop, take, suc, Bool, get_or, add-one, drop-cons, take_all, length-drop, ◌-◌, ◌++◌, append-nil, append_assoc}
-use Rattle.std.proofs.lemmas.List.Elements.{Contains-append_left, Contains-push_cases}
+use Rattle.std.proofs.Common.{◌≡◌, ◌≢◌, ◌≤◌, ◌⊎◌, inl, inr, ℕ, ◌+◌, ◌<◌, List, [], ◌∷◌, slice_get, length, Some, None, Option, Contains, refl, sym, ap, subst, arith, ◌∙◌, true, false, drop, take, suc, Bool, get_or, add-one, drop-cons, take_all, length-drop, ◌-◌}
+use Rattle.std.proofs.lemmas.List.Elements.{Contains-push_cases}
 use Rattle.std.specs.Prelude.{not, Result, Ok, Err, IfOk, OnOk}
 use Rattle.acg_base.specs.declared.memory.Memory.{Memory}
-use Rattle.std.proofs.lemmas.Option.{slice_get_within, get_or_from_slice_get, slice_get_cases}
-use Rattle.std.proofs.lemmas.List.{take-append-le}
-use Rattle.std.proofs.Math.Seq.{take-suc}
+use Rattle.std.proofs.lemmas.Option.{slice_get_within}
 use Rattle.tree_pick.proofs.Walked.{span_kept}
 use Rattle.tree_pick.proofs.Longer.{longer_kept, one_more}
 use Rattle.source_lex.specs.declared.lexeme.LexKind.{LexKind}
@@ -16,12 +14,11 @@ use Rattle.tree_pick.specs.declared.phrases.Choice.{Choice}
 use Rattle.tree_pick.specs.declared.phrases.Taken.{Taken}
 use Rattle.gram_form.specs.Trees.{End, Lexeme, Under}
 use Rattle.source_lex.specs.Numbered.{Alternative, Numbered, alternative_of}
-use Rattle.source_lex.specs.Trees.{Has}
 use Rattle.chart_parse.specs.Growths.{HasPieces}
 use Rattle.tree_pick.specs.Runs.{Cuts}
 use Rattle.tree_pick.specs.Spines.{Spanning, Growing, Parts, CanGrow, FitsStep, Reached, Begun, Followed, HasTwo}
 use Rattle.tree_pick.specs.Choices.{IsChoice, CanLeaf, CanStep}
-use Rattle.tree_pick.specs.Longer.{IsKept, IsLonger}
+use Rattle.tree_pick.specs.Longer.{IsLonger}
 use Rattle.tree_pick.specs.Walk.{span, root_of, IsReached, AreReached, WorkedParts, WorkedGrowth, Worked, WorkedSpan, WorkedLeaf}
 use Rattle.chart_parse.proofs.LeftCorners.{pieces_within}
 use Rattle.tree_pick.proofs.SpineTwo.{two_above, two_chosen}

@@ -1,5 +1,5 @@
 -- The only tree is uniform: else the one subtree in the place of the other would make another tree.
-use Rattle.std.proofs.Common.{◌≡◌, ◌⊎◌, inl, inr, ℕ, ◌+◌, List, length, refl, sym, subst, ◌∙◌}
+use Rattle.std.proofs.Common.{◌≡◌, inl, inr, ℕ, ◌+◌, List, length, sym, subst, ◌∙◌}
 use Rattle.gram_form.specs.Trees.{PlainTree, Node, Pieces, End, Lexeme, Under}
 use Rattle.source_lex.specs.Numbered.{Alternative, Numbered}
 use Rattle.source_lex.specs.Trees.{IsTree, ArePieces, IsOneTree}

@@ -1,8 +1,8 @@
 -- Two choices at a spot that is reached: two different trees of the root.
-use Rattle.std.proofs.Common.{◌≡◌, inl, inr, ℕ, ◌+◌, List, [], ◌∷◌, refl, sym, ap, subst, ◌∙◌}
+use Rattle.std.proofs.Common.{◌≡◌, inl, inr, ℕ, List, [], ◌∷◌, refl, sym, ap, subst, ◌∙◌}
 use Rattle.gram_form.specs.Trees.{PlainTree, Node, Pieces, End, Lexeme, Under}
 use Rattle.source_lex.specs.Numbered.{Numbered}
-use Rattle.source_lex.specs.Trees.{IsTree, ArePieces, HasTwoTrees}
+use Rattle.source_lex.specs.Trees.{IsTree, HasTwoTrees}
 use Rattle.source_lex.specs.declared.numbered.Symbol.TheVariants.{Word, Phrase}
 use Rattle.source_lex.specs.declared.lexeme.LexKind.{LexKind}
 use Rattle.chart_parse.specs.Growths.{Grows, Stays, Steps}

@@ -16,9 +16,11 @@ abbrev pub IsTreeOf : (g : Numbered) (w : List LexKind) (n i j : ℕ) → Tree �
 IsTreeOf g w n i j t = IsTree g w n i j (plain_tree t)
 
 -- what is kept for a phrase is a tree of it
-abbrev pub AreTrees : {S : Type 0} → (g : Numbered) (w : List LexKind) → IndexMap Span (Bor Tree) S → Type 0
+abbrev pub AreTrees : {S : Type 0} → (g : Numbered) (w : List LexKind) → IndexMap Span (Bor Tree) S
+    → Type 0
 AreTrees g w built =
-    (x : Span) (t : Bor Tree) → get same_span built x ≡ Some t → IsTreeOf g w x.nonterm x.start x.end t.now
+    (x : Span) (t : Bor Tree) → get same_span built x ≡ Some t
+    → IsTreeOf g w x.nonterm x.start x.end t.now
 
 -- each phrase has a tree, and begins within the lexemes
 abbrev pub HaveTrees : (g : Numbered) (w : List LexKind) → List Span → Type 0

@@ -19,7 +19,8 @@ IsChoice {T} Fits c =
 
 -- the leaf of a phrase of n over i to j
 abbrev pub CanLeaf : (g : Numbered) (w : List LexKind) (n i j : ℕ) → Taken → Type 0
-CanLeaf g w n i j x = FitsLeaf g w i x.production x.alternative x.end × CanGrow g w n j x.production x.end
+CanLeaf g w n i j x =
+    FitsLeaf g w i x.production x.alternative x.end × CanGrow g w n j x.production x.end
 
 -- the next step of a c that ends at k and grows into an n that ends at j, or none where it is that
 abbrev pub CanStep : (g : Numbered) (w : List LexKind) (n j c k : ℕ) → Option Taken → Type 0
@@ -38,19 +39,23 @@ Begins g w (Leaf i) parts e =
     ((parts ≡ []) × (e ≡ i))
     ⊎ ((c : LexKind) × (rest : Alternative) × (parts ≡ Word c ∷ rest)
     × (slice_get w i ≡ Some c) × HasPieces g w rest (i + 1) e)
-Begins g w (Branch c k) parts e = (rest : Alternative) × (parts ≡ Phrase c ∷ rest) × HasPieces g w rest k e
+Begins g w (Branch c k) parts e =
+    (rest : Alternative) × (parts ≡ Phrase c ∷ rest) × HasPieces g w rest k e
 
 -- the parts don't begin so
 abbrev pub BeginsNot : (g : Numbered) (w : List LexKind) → Corner → Alternative → Type 0
 BeginsNot g w corner parts = (e : ℕ) → Begins g w corner parts e → ⊥
 
 -- the parts begin so, and the rest is to be read from the place
-abbrev pub IsBehind : (g : Numbered) (w : List LexKind) → Corner → Alternative → (rest : Alternative) (at : ℕ) → Type 0
+abbrev pub IsBehind : (g : Numbered) (w : List LexKind) → Corner → Alternative
+    → (rest : Alternative) (at : ℕ) → Type 0
 IsBehind g w corner parts rest at =
     (at ≤ length w) × ((e : ℕ) → Begins g w corner parts e ↔ HasPieces g w rest at e)
 
--- alternative a of b, with an end that it leads to, and from which it grows into an n that ends at j
-abbrev pub Takes : (g : Numbered) (w : List LexKind) (b a : ℕ) → (ℕ → Type 0) → (n j : ℕ) → Taken → Type 0
+-- alternative a of b, with an end to which it leads, and from which it grows into an n that ends
+-- at j
+abbrev pub Takes : (g : Numbered) (w : List LexKind) (b a : ℕ) → (ℕ → Type 0) → (n j : ℕ) → Taken
+    → Type 0
 Takes g w b a Ends n j x =
     (x.production ≡ b) × (x.alternative ≡ a) × Ends x.end × CanGrow g w n j b x.end
 
@@ -61,4 +66,5 @@ Fits g w (Branch c k) b a e = FitsStep g w c k b a e
 
 -- what can be taken: it begins so, and grows into an n that ends at j
 abbrev pub CanTake : (g : Numbered) (w : List LexKind) → Corner → (n j : ℕ) → Taken → Type 0
-CanTake g w corner n j x = Fits g w corner x.production x.alternative x.end × CanGrow g w n j x.production x.end
+CanTake g w corner n j x =
+    Fits g w corner x.production x.alternative x.end × CanGrow g w n j x.production x.end

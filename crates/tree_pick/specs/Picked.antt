@@ -6,7 +6,8 @@ use Rattle.source_lex.specs.declared.lexeme.LexKind.{LexKind}
 use Rattle.tree_pick.specs.declared.errors.TreeError.{TreeError}
 use Rattle.tree_pick.specs.declared.errors.TreeError.TheVariants.{Memory, NoTree, Ambiguous}
 
--- want of memory is free to come; no tree where there is none over all lexemes; ambiguous where two different ones are
+-- want of memory is free to come; no tree comes where there is none over all lexemes, and ambiguous
+-- where two different ones are
 abbrev pub IsTreeError : (g : Numbered) (w : List LexKind) → TreeError → Type 0
 IsTreeError g w Memory = Unit {0}
 IsTreeError g w NoTree = HasNoTree g w

@@ -1,4 +1,5 @@
--- A tree is its first leaf and what that grows into, its spine. The spots of a tree by spines, and the choices that each has.
+-- A tree is its first leaf and what that grows into, its spine. The spots of a tree by spines, and
+-- the choices that each has.
 use Rattle.std.specs.Prelude.{◌≡◌, ◌≢◌, ◌⊎◌, ℕ, ◌+◌, List, [], ◌∷◌, slice_get, Some}
 use Rattle.gram_form.specs.Trees.{PlainTree, Node, Pieces, Under}
 use Rattle.source_lex.specs.Numbered.{Alternative, Numbered, alternative_of}
@@ -23,13 +24,17 @@ IsGrowth g w n j c k (Step m a ps l more) =
 abbrev pub CanGrow : (g : Numbered) (w : List LexKind) (n j c k : ℕ) → Type 0
 CanGrow g w n j c k = (growth : Growth) × IsGrowth g w n j c k growth
 
+-- a phrase of b grows into no phrase of n but itself
+abbrev pub GrowsAlone : (g : Numbered) (w : List LexKind) (b n : ℕ) → Type 0
+GrowsAlone g w b n = (j k : ℕ) → CanGrow g w n j b k → (b ≡ n) × (k ≡ j)
+
 -- the tree that a tree from the start grows into
 abbrev pub plug : (start : ℕ) → PlainTree → Growth → PlainTree
 plug start t Stay = t
 plug start t (Step m a ps l more) = plug start (Node m a (Under t ps) start l) more
 
--- what stands to be chosen: the leaf of a phrase of n over i to j; the next step of a c that ends at k and grows into an n that
--- ends at j; the ends of phrases among parts over k to l
+-- what stands to be chosen: the leaf of a phrase of n over i to j; the next step of a c that ends
+-- at k and grows into an n that ends at j; the ends of phrases among parts over k to l
 pub data Spot : Type 0 where
   Spanning : (n i j : ℕ) → Spot
   Growing : (c k n j : ℕ) → Spot
@@ -52,18 +57,22 @@ pub data Reached (g : Numbered) (w : List LexKind) (root : Spot) : Spot → Type
   Here : Reached g w root root
   Leafed : {n i j : ℕ} (b a k : ℕ) → Reached g w root (Spanning n i j) → FitsLeaf g w i b a k
       → Reached g w root (Growing b k n j)
-  Begun : {n i j : ℕ} (b a k : ℕ) (c : LexKind) (rest : Alternative) → Reached g w root (Spanning n i j)
+  Begun : {n i j : ℕ} (b a k : ℕ) (c : LexKind) (rest : Alternative)
+      → Reached g w root (Spanning n i j)
       → alternative_of g b a ≡ Some (Word c ∷ rest) → slice_get w i ≡ Some c → CanGrow g w n j b k
       → Reached g w root (Parts rest (i + 1) k)
   Grown : {c k n j : ℕ} (m a l : ℕ) → Reached g w root (Growing c k n j) → FitsStep g w c k m a l
       → Reached g w root (Growing m l n j)
   Followed : {c k n j : ℕ} (m a l : ℕ) (rest : Alternative) → Reached g w root (Growing c k n j)
-      → alternative_of g m a ≡ Some (Phrase c ∷ rest) → CanGrow g w n j m l → Reached g w root (Parts rest k l)
+      → alternative_of g m a ≡ Some (Phrase c ∷ rest) → CanGrow g w n j m l
+      → Reached g w root (Parts rest k l)
   Read : {k l : ℕ} (c : LexKind) (rest : Alternative) → Reached g w root (Parts (Word c ∷ rest) k l)
       → slice_get w k ≡ Some c → Reached g w root (Parts rest (k + 1) l)
-  First : {k l : ℕ} (m : ℕ) (rest : Alternative) (h : ℕ) → Reached g w root (Parts (Phrase m ∷ rest) k l)
+  First : {k l : ℕ} (m : ℕ) (rest : Alternative) (h : ℕ)
+      → Reached g w root (Parts (Phrase m ∷ rest) k l)
       → HasPieces g w rest h l → Reached g w root (Spanning m k h)
-  Rest : {k l : ℕ} (m : ℕ) (rest : Alternative) (h : ℕ) → Reached g w root (Parts (Phrase m ∷ rest) k l)
+  Rest : {k l : ℕ} (m : ℕ) (rest : Alternative) (h : ℕ)
+      → Reached g w root (Parts (Phrase m ∷ rest) k l)
       → Has g w m k h → Reached g w root (Parts rest h l)
 
 -- at most one choice at a spot
@@ -74,7 +83,8 @@ HasOneChoice g w (Growing c k n j) =
     ((m a l p b h : ℕ) → FitsStep g w c k m a l → CanGrow g w n j m l
     → FitsStep g w c k p b h → CanGrow g w n j p h → (m ≡ p) × (a ≡ b) × (l ≡ h))
     × ((m a l : ℕ) → c ≡ n → k ≡ j → FitsStep g w c k m a l → CanGrow g w n j m l → ⊥)
-HasOneChoice g w (Parts (Phrase m ∷ rest) k l) = (h o : ℕ) → Cuts g w m rest k l h → Cuts g w m rest k l o → h ≡ o
+HasOneChoice g w (Parts (Phrase m ∷ rest) k l) =
+    (h o : ℕ) → Cuts g w m rest k l h → Cuts g w m rest k l o → h ≡ o
 HasOneChoice g w (Parts _ k l) = Unit {0}
 
 -- two different choices at a spot
@@ -83,9 +93,11 @@ HasTwoChoices g w (Spanning n i j) = (b : ℕ) × (a : ℕ) × (k : ℕ) × (d :
     × FitsLeaf g w i b a k × CanGrow g w n j b k × FitsLeaf g w i d e l × CanGrow g w n j d l
     × ((b ≡ d) × (a ≡ e) × (k ≡ l) → ⊥)
 HasTwoChoices g w (Growing c k n j) =
-    ((m : ℕ) × (a : ℕ) × (l : ℕ) × (p : ℕ) × (b : ℕ) × (h : ℕ) × FitsStep g w c k m a l × CanGrow g w n j m l
-    × FitsStep g w c k p b h × CanGrow g w n j p h × ((m ≡ p) × (a ≡ b) × (l ≡ h) → ⊥))
-    ⊎ ((m : ℕ) × (a : ℕ) × (l : ℕ) × (c ≡ n) × (k ≡ j) × FitsStep g w c k m a l × CanGrow g w n j m l)
+    ((m : ℕ) × (a : ℕ) × (l : ℕ) × (p : ℕ) × (b : ℕ) × (h : ℕ)
+    × FitsStep g w c k m a l × CanGrow g w n j m l × FitsStep g w c k p b h × CanGrow g w n j p h
+    × ((m ≡ p) × (a ≡ b) × (l ≡ h) → ⊥))
+    ⊎ ((m : ℕ) × (a : ℕ) × (l : ℕ) × (c ≡ n) × (k ≡ j)
+    × FitsStep g w c k m a l × CanGrow g w n j m l)
 HasTwoChoices g w (Parts (Phrase m ∷ rest) k l) =
     (h : ℕ) × (o : ℕ) × (h ≢ o) × Cuts g w m rest k l h × Cuts g w m rest k l o
 HasTwoChoices g w (Parts _ k l) = ⊥

@@ -14,7 +14,8 @@ abbrev pub span : (nonterminal start end : ℕ) → Span
 span n i j = record { nonterm = n; start = i; end = j }
 
 -- each phrase among the parts has at most one end, and is on the list
-abbrev pub WorkedParts : (g : Numbered) (w : List LexKind) → List Span → Alternative → (k l : ℕ) → Type 0
+abbrev pub WorkedParts : (g : Numbered) (w : List LexKind) → List Span → Alternative → (k l : ℕ)
+    → Type 0
 WorkedParts g w seen [] k l = Unit {0}
 WorkedParts g w seen (Word c ∷ rest) k l = WorkedParts g w seen rest (k + 1) l
 WorkedParts g w seen (Phrase m ∷ rest) k l =
@@ -22,16 +23,18 @@ WorkedParts g w seen (Phrase m ∷ rest) k l =
     × ((h : ℕ) → Cuts g w m rest k l h → Contains seen (span m k h) × WorkedParts g w seen rest h l)
 
 -- the same from here on until the growth is whole
-pub data WorkedGrowth (g : Numbered) (w : List LexKind) (seen : List Span) (n j : ℕ) : ℕ → ℕ → Type 0 where
+pub data WorkedGrowth (g : Numbered) (w : List LexKind) (seen : List Span) (n j : ℕ) : ℕ → ℕ
+    → Type 0 where
   Worked : {c k : ℕ} → HasOneChoice g w (Growing c k n j)
-      → ((m a l : ℕ) (rest : Alternative) → alternative_of g m a ≡ Some (Phrase c ∷ rest) → HasPieces g w rest k l
-      → CanGrow g w n j m l → WorkedParts g w seen rest k l)
+      → ((m a l : ℕ) (rest : Alternative) → alternative_of g m a ≡ Some (Phrase c ∷ rest)
+      → HasPieces g w rest k l → CanGrow g w n j m l → WorkedParts g w seen rest k l)
       → ((m a l : ℕ) → FitsStep g w c k m a l → CanGrow g w n j m l → WorkedGrowth g w seen n j m l)
       → WorkedGrowth g w seen n j c k
 
 -- the parts behind the first word of a leaf are looked at
 abbrev pub WorkedLeaf : (g : Numbered) (w : List LexKind) → List Span → (i b a k : ℕ) → Type 0
-WorkedLeaf g w seen i b a k = (c : LexKind) (rest : Alternative) → alternative_of g b a ≡ Some (Word c ∷ rest)
+WorkedLeaf g w seen i b a k =
+    (c : LexKind) (rest : Alternative) → alternative_of g b a ≡ Some (Word c ∷ rest)
     → slice_get w i ≡ Some c → WorkedParts g w seen rest (i + 1) k
 
 -- the phrase has at most one leaf, and what it leads to is looked at

@@ -5,7 +5,7 @@ ghost use Rattle.source_lex.specs.Trees.{Has};
 ghost use Rattle.chart_parse.specs.Growths.{HasPieces};
 ghost use Rattle.tree_pick.specs.declared.phrases.Corner.TheVariants.{Leaf, Branch};
 ghost use Rattle.tree_pick.specs.Runs.{AreWithin, Cuts, CutsAmong};
-ghost use Rattle.tree_pick.specs.Spines.{CanGrow};
+ghost use Rattle.tree_pick.specs.Spines.{CanGrow, GrowsAlone};
 ghost use Rattle.tree_pick.specs.Choices.{IsChoice, BeginsNot, IsBehind, IsWithin, CanTake, Takes, CanLeaf, CanStep};
 
 use crate::parse::Parse;
@@ -157,8 +157,7 @@ fn add_whole(
     into: Span,
     found: &mut Vec<Taken>,
 ) -> Result<(), Memory>
-    requires stays { (j k : ℕ) → CanGrow parse.now.grammar parse.now.kinds into.nonterm j production k
-        → (production ≡ into.nonterm) × (k ≡ j) }
+    requires stays { GrowsAlone parse.now.grammar parse.now.kinds production into.nonterm }
     requires places { (at ≤ length parse.now.kinds) × (into.end ≤ length parse.now.kinds) }
     requires short { length parse.now.kinds < 4294967296 }
     ensures { OnOk result ((x : Taken) → Contains found.new.items x ↔ (Contains found.old.items x
@@ -339,7 +338,8 @@ fn cut_among(
     places: &[u32],
     end: u32,
 ) -> Result<Choice<u32>, Memory>
-    requires some { (h : ℕ) × CutsAmong parse.now.grammar parse.now.kinds rest.now end places.now h }
+    requires some { (h : ℕ)
+        × CutsAmong parse.now.grammar parse.now.kinds rest.now end places.now h }
     requires places { AreWithin parse.now.kinds places.now }
     requires end { end ≤ length parse.now.kinds }
     requires short { length parse.now.kinds < 4294967296 }

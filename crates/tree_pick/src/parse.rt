@@ -4,7 +4,7 @@ ghost use Rattle.source_lex.specs.Numbered.{Alternative, alternative_of, plain_a
 ghost use Rattle.source_lex.specs.Trees.{Has};
 ghost use Rattle.tree_pick.specs.Corners.{AreAllCorners};
 ghost use Rattle.tree_pick.specs.Runs.{HaveFewAlternatives};
-ghost use Rattle.tree_pick.specs.Spines.{CanGrow};
+ghost use Rattle.tree_pick.specs.Spines.{CanGrow, GrowsAlone};
 
 use crate::corners::{Beginning, is_corner};
 use crate::phrases::Span;
@@ -36,7 +36,10 @@ impl<'c> Model for Parse<'c> {
 
     ghost Value = { PlainChart };
 
-    ghost view = { λ p. record { grammar = plain_numbered p.nonterminals.now; kinds = p.kinds.now } };
+    ghost view = { λ p. record {
+      grammar = plain_numbered p.nonterminals.now;
+      kinds = p.kinds.now;
+    } };
 
     ghost invariant = { λ p. (p.chart.now.grammar ≡ plain_numbered p.nonterminals.now)
         × (p.chart.now.kinds ≡ p.kinds.now)
@@ -106,7 +109,8 @@ impl<'c> Parse<'c> {
     pub fn alternatives(&self, nonterm: u32) -> &'c [&'c [Symbol]]
         requires { nonterm < length self.now.grammar }
         ensures few { length result.now < 4294967296 }
-        ensures alternatives { slice_get self.now.grammar nonterm ≡ Some (plain_alternatives result) }
+        ensures alternatives { slice_get self.now.grammar nonterm
+            ≡ Some (plain_alternatives result) }
     {
         self.nonterminals[nonterm as usize]
     }
@@ -142,7 +146,8 @@ impl<'c> Parse<'c> {
     pub fn grows(&self, from: u32, k: u32, into: Span) -> bool
         requires nonterminal { from < length self.now.grammar }
         requires places { (k ≤ length self.now.kinds) × (into.end ≤ length self.now.kinds) }
-        ensures { IsTrue result ↔ CanGrow self.now.grammar self.now.kinds into.nonterm into.end from k }
+        ensures { IsTrue result
+            ↔ CanGrow self.now.grammar self.now.kinds into.nonterm into.end from k }
     {
         self.chart.grows(from, k, into.nonterm, into.end)
     }
@@ -150,9 +155,7 @@ impl<'c> Parse<'c> {
     /// Whether a phrase of `whole` can begin with one of `first`; if not, one of `first` grows into
     /// no other.
     pub fn leads(&self, first: u32, whole: u32) -> bool
-        ensures { result ≡ false → (j k : ℕ)
-            → CanGrow self.now.grammar self.now.kinds whole j first k
-            → (first ≡ whole) × (k ≡ j) }
+        ensures { result ≡ false → GrowsAlone self.now.grammar self.now.kinds first whole }
     {
         is_corner(self.corners, first, whole)
     }

@@ -197,6 +197,7 @@ fn four_hundred_levels_have_a_tree(rt: HostRuntime) -> Result<(), Fail> {
         source[k] = b')';
     }
     assert!(rt; is_tree(&answer(alloc, &arena, &list, &source)?, 0, 0, 801));
-    assert!(rt; is_none(&answer(alloc, &arena, &list, &source[..800])?));
+    let opened = [b'('; 800];
+    assert!(rt; is_none(&answer(alloc, &arena, &list, &opened)?));
     Ok(())
 }

@@ -1,4 +1,4 @@
-use Rattle.std.proofs.Common.{◌≡◌, ◌<◌, ◌^◌, ℕ, List, length, true, false, ◌+◌, [], ◌∷◌, arith, drop, sym, ap, subst, ◌∙◌}
+use Rattle.std.proofs.Common.{◌≡◌, ◌<◌, ℕ, List, length, true, false, ◌+◌, [], ◌∷◌, arith, drop, sym, ap, subst, ◌∙◌}
 use Rattle.source_lex.specs.declared.lexeme.LexKind.{LexKind}
 use Rattle.source_lex.specs.declared.numbered.Symbol.TheVariants.{Word, Phrase}
 use Rattle.source_lex.specs.Numbered.{Alternative}

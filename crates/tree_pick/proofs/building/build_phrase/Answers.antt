@@ -1,4 +1,4 @@
-use Rattle.std.proofs.Common.{◌≤◌, length, Some, Option, subst}
+use Rattle.std.proofs.Common.{Some, subst}
 use Rattle.chart_parse.proofs.LeftCorners.{tree_within}
 use Rattle.tree_pick.specs.declared.phrases.Taken.{Taken}
 use Rattle.tree_pick.specs.Choices.{CanStep}

@@ -6,7 +6,6 @@ use Rattle.gram_form.specs.Trees.{PlainTree, Node}
 use Rattle.source_lex.specs.Trees.{IsTree}
 use Rattle.tree_pick.specs.Built.{IsTreeOf}
 use Rattle.gram_form.specs.declared.tree.TreePart.{TreePart, Sub}
-use Rattle.gram_form.specs.Trees.{End}
 use Rattle.source_lex.specs.Trees.{ArePieces}
 use Rattle.std.proofs.Common.{Bor, ◌++◌, true, IfSome, is_some}
 use Rattle.gram_form.specs.declared.tree.Tree.{Tree}

@@ -1,4 +1,4 @@
-use Rattle.std.proofs.Common.{◌≡◌, ◌⊎◌, ℕ, List, take, take_all, get_or, Contains, sym, subst}
+use Rattle.std.proofs.Common.{◌⊎◌, ℕ, List, take, take_all, get_or, Contains, sym, subst}
 use Rattle.std.specs.Prelude.{◌↔◌}
 use Rattle.std.proofs.lemmas.List.Elements.{Contains-get_or}
 use Rattle.tree_pick.specs.declared.phrases.Taken.{Taken}

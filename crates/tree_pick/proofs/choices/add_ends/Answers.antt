@@ -1,4 +1,4 @@
-use Rattle.std.proofs.Common.{◌≡◌, ◌⊎◌, ℕ, List, Contains, sym, subst}
+use Rattle.std.proofs.Common.{◌⊎◌, ℕ, List, Contains, sym, subst}
 use Rattle.std.specs.Prelude.{◌↔◌}
 use Rattle.std.proofs.lemmas.Result.{on_ok_weaker}
 use Rattle.chart_parse.specs.Growths.{HasPieces}

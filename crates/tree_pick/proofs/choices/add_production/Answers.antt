@@ -1,8 +1,7 @@
-use Rattle.std.proofs.Common.{◌≡◌, ◌<◌, ◌⊎◌, ◌+◌, inl, inr, ℕ, List, length, Contains, Bor, arith}
+use Rattle.std.proofs.Common.{◌≡◌, ◌<◌, ◌⊎◌, inl, inr, ℕ, List, length, Contains, Bor, arith}
 use Rattle.std.proofs.lemmas.List.{length-map}
 use Rattle.source_lex.specs.Numbered.{Alternative, plain_alternatives}
 use Rattle.source_lex.specs.declared.numbered.Symbol.{Symbol}
-use Rattle.tree_pick.specs.declared.phrases.Taken.{Taken}
 use Rattle.tree_pick.specs.Choices.{CanTake}
 use Rattle.tree_pick.proofs.FoundChoices.{alternative_there, take_below, counted_more, either_same, iff_then}
 use Rattle.tree_pick.proofs.choices.add_production.Goals as goal

@@ -1,4 +1,4 @@
-use Rattle.std.proofs.Common.{◌≡◌, ◌∙◌, true, false, ℕ, sym}
+use Rattle.std.proofs.Common.{◌≡◌, ◌∙◌, true, false, sym}
 use Rattle.chart_parse.specs.Growths.{HasPieces}
 use Rattle.tree_pick.proofs.FoundChoices.{whole_other, whole_none, whole_one}
 use Rattle.tree_pick.proofs.choices.add_whole.Goals as goal

@@ -1,5 +1,4 @@
-use Rattle.std.proofs.Common.{◌≡◌, ◌<◌, ◌⊎◌, ◌+◌, ℕ, length, Contains, arith}
-use Rattle.tree_pick.specs.declared.phrases.Taken.{Taken}
+use Rattle.std.proofs.Common.{◌<◌, length, Contains, arith}
 use Rattle.tree_pick.specs.Choices.{CanTake}
 use Rattle.tree_pick.proofs.FoundChoices.{take_within, counted_next}
 use Rattle.tree_pick.proofs.choices.all_taken.Goals as goal

@@ -1,4 +1,4 @@
-use Rattle.std.proofs.Common.{◌≤◌, ℕ, List, length, Contains, sym, subst}
+use Rattle.std.proofs.Common.{ℕ, List, Contains, sym, subst}
 use Rattle.std.specs.Prelude.{◌↔◌}
 use Rattle.std.proofs.lemmas.Result.{IfOk-weaker}
 use Rattle.source_lex.specs.Trees.{Has}

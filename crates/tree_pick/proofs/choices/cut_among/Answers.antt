@@ -1,6 +1,5 @@
-use Rattle.std.proofs.Common.{◌≡◌, ◌<◌, ◌+◌, ◌++◌, ◌∷◌, [], ℕ, List, Some, None, Option, length, take, take_all, get_or, Contains, sym, subst, true, false, ◌∙◌}
+use Rattle.std.proofs.Common.{◌≡◌, ◌++◌, ◌∷◌, [], ℕ, List, Option, take, take_all, get_or, sym, subst, true, false, ◌∙◌}
 use Rattle.std.proofs.lemmas.List.Elements.{Contains-get_or}
-use Rattle.chart_parse.specs.Growths.{HasPieces}
 use Rattle.tree_pick.specs.Runs.{CutsAmong}
 use Rattle.tree_pick.proofs.FollowedParts.{take_more}
 use Rattle.tree_pick.proofs.FoundChoices.{IsOnly, only_same, among_without, only_first_one, only_again, only_choice, two_found, in_all}

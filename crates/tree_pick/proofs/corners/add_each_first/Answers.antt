@@ -1,13 +1,12 @@
-use Rattle.std.proofs.Common.{◌≡◌, ◌<◌, ◌∷◌, ◌∙◌, inl, inr, ℕ, List, length, slice_get, get_or, Some, Bor, sym, subst, arith}
+use Rattle.std.proofs.Common.{◌≡◌, ◌<◌, ◌∷◌, inl, inr, ℕ, List, length, slice_get, Some, Bor, subst, arith}
 use Rattle.std.proofs.lemmas.List.{length-map}
 use Rattle.std.proofs.lemmas.Option.{slice_get_within}
-use Rattle.source_lex.specs.Numbered.{Alternative}
 use Rattle.source_lex.specs.declared.numbered.Symbol.{Symbol}
 use Rattle.source_lex.specs.declared.numbered.Symbol.TheVariants.{Phrase}
 use Rattle.chart_parse.specs.Places.{alternatives_in}
 use Rattle.tree_pick.specs.declared.corners.Beginning.{Beginning}
 use Rattle.tree_pick.specs.Corners.{beginning}
-use Rattle.tree_pick.proofs.AllCorners.{no_parts, parts_at}
+use Rattle.tree_pick.proofs.AllCorners.{parts_at}
 use Rattle.tree_pick.proofs.FoundChoices.{below}
 use Rattle.tree_pick.proofs.Longer.{longer_kept, longer_more}
 use Rattle.tree_pick.proofs.corners.add_each_first.Goals as goal

@@ -1,4 +1,4 @@
-use Rattle.std.proofs.Common.{◌≡◌, List, Contains, sym}
+use Rattle.std.proofs.Common.{List, sym}
 use Rattle.source_lex.specs.Numbered.{Numbered, plain_numbered}
 use Rattle.tree_pick.specs.declared.corners.Beginning.{Beginning}
 use Rattle.tree_pick.proofs.AllCorners.{firsts_kept, firsts_more}

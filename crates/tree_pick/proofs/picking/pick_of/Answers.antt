@@ -1,5 +1,4 @@
 use Rattle.gram_form.specs.Trees.{PlainTree, plain_tree}
-use Rattle.tree_pick.proofs.SpineTwo.{two_trees}
 use Rattle.tree_pick.proofs.picking.pick_of.Goals as goal
 
 pub returns-clause-one : goal.returns-clause-one

@@ -1,4 +1,4 @@
-use Rattle.std.proofs.Common.{◌≡◌, inl, inr, true, false, ℕ, ◌++◌, ◌∷◌, [], List, take, take_all, get_or, sym, subst, refl, ◌∙◌}
+use Rattle.std.proofs.Common.{◌≡◌, inl, inr, true, false, ℕ, List, take, take_all, get_or, sym, subst, refl, ◌∙◌}
 use Rattle.std.proofs.lemmas.List.Elements.{Contains-get_or}
 use Rattle.tree_pick.specs.Runs.{Leads, LeadsFrom}
 use Rattle.tree_pick.proofs.FollowedParts.{take_more, pushed}

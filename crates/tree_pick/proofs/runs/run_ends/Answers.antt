@@ -1,9 +1,4 @@
-use Rattle.std.proofs.Common.{◌≡◌, ℕ, List, [], drop, length, Contains, sym, subst, refl}
-use Rattle.std.specs.Prelude.{◌↔◌}
 use Rattle.std.proofs.lemmas.Result.{IfOk-weaker}
-use Rattle.std.proofs.lemmas.List.{drop_all}
-use Rattle.source_lex.specs.Numbered.{Alternative}
-use Rattle.chart_parse.specs.Growths.{HasPieces}
 use Rattle.tree_pick.proofs.FollowedParts.{whole_run}
 use Rattle.tree_pick.proofs.runs.run_ends.Goals as goal
 

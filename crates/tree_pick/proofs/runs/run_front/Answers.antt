@@ -1,4 +1,4 @@
-use Rattle.std.proofs.Common.{◌≡◌, inl, inr, ◌+◌, ◌<◌, ◌≤◌, ℕ, List, [], ◌∷◌, ◌++◌, drop, length, Contains, sym, subst, refl, arith, get_or, ◌∙◌, ap}
+use Rattle.std.proofs.Common.{◌≡◌, ◌+◌, ◌<◌, ◌≤◌, ℕ, List, [], ◌∷◌, ◌++◌, drop, length, Contains, sym, subst, refl, arith, get_or, ◌∙◌, ap}
 use Rattle.std.specs.Prelude.{◌↔◌}
 use Rattle.source_lex.specs.declared.lexeme.LexKind.TheVariants.{Literal}
 use Rattle.source_lex.specs.declared.numbered.Symbol.{Symbol as Part}

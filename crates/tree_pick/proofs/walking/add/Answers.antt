@@ -1,7 +1,5 @@
-use Rattle.std.proofs.Common.{◌≡◌, ◌⊎◌, inl, List, Bool, true, false, Contains, arith, ◌&&◌, nat_eq, refl, subst, sym, ◌++◌, ◌∷◌, [], append-nil}
+use Rattle.std.proofs.Common.{◌≡◌, List, true, Contains, arith, ◌&&◌, nat_eq, subst, sym}
 use Rattle.std.proofs.lemmas.Bool.Decides.{nat_tests}
-use Rattle.std.proofs.lemmas.List.Elements.{Contains-push_cases}
-use Rattle.std.specs.Bool.{if◌then◌else◌}
 use Rattle.std.specs.List.{list_any}
 use Rattle.indexmap.proofs.CallerLemmas.{Contains-insert_key}
 use Rattle.tree_pick.specs.declared.phrases.Span.{Span}

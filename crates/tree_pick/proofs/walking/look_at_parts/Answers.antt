@@ -1,4 +1,4 @@
-use Rattle.std.proofs.Common.{◌<◌, ◌^◌, ℕ, length, ◌+◌, arith, drop, sym, subst}
+use Rattle.std.proofs.Common.{◌<◌, ℕ, length, ◌+◌, arith, drop, sym, subst}
 use Rattle.std.proofs.lemmas.Option.{slice_get_within}
 use Rattle.source_lex.specs.declared.lexeme.LexKind.TheVariants.{Literal}
 use Rattle.tree_pick.specs.declared.phrases.Choice.{Choice}

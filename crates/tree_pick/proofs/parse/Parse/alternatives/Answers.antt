@@ -1,6 +1,6 @@
-use Rattle.std.proofs.Common.{◌≡◌, ◌<◌, ◌∙◌, ℕ, List, length, slice_get, Some, Bor, ap, sym, arith}
+use Rattle.std.proofs.Common.{◌≡◌, ◌<◌, ◌∙◌, ℕ, List, length, slice_get, Bor, ap, sym, arith}
 use Rattle.std.proofs.lemmas.List.{length-map}
-use Rattle.source_lex.specs.Numbered.{Alternative, plain_alternatives, plain_numbered}
+use Rattle.source_lex.specs.Numbered.{plain_alternatives, plain_numbered}
 use Rattle.source_lex.specs.declared.numbered.Symbol.{Symbol}
 use Rattle.chart_parse.specs.Charts.{PlainChart}
 use Rattle.tree_pick.proofs.FewAlternatives.{numbered_at, numbered_few}
