@@ -1,8 +1,9 @@
 //! Yielders with arguments, evaluated without recursion.
-ghost use Rattle.std.specs.Prelude.{◌≡◌, ◌∷◌, ◌++◌, ◌+◌, ◌<◌, IsTrue, length, Some, None, IfOk, OnOk, IfSome, option_map, slice_get, if◌then◌else◌};
+ghost use Rattle.std.specs.Prelude.{◌≡◌, ◌∷◌, ◌++◌, ◌+◌, ◌<◌, IsTrue, length, Some, None, true, IfOk, OnOk, option_map, slice_get, if◌then◌else◌};
+ghost use Rattle.action_terms.specs.Forms.{IsYielderView};
 ghost use Rattle.action_terms.specs.Yielding.{and_then, set_content, stored};
 ghost use Rattle.action_values.specs.Values.{meant, storage_of};
-ghost use Rattle.action_values.specs.Evaluation.{value_meant, stored_value, one_value, two_value, opened, jobs_of, values_of, finished, turns, job_turns, value_at};
+ghost use Rattle.action_values.specs.Evaluation.{value_meant, is_operation, stored_value, one_value, two_value, opened, jobs_of, values_of, finished, turns, job_turns, value_at};
 
 use crate::context::{Context, ItemValue, single_value};
 use crate::datum::Datum;
@@ -214,15 +215,31 @@ impl<'a> Walk<'a> {
     }
 }
 
-// the value of an item that is no operation
-fn leaf_at<'a>(context: &Context<'a, '_>, number: u32) -> Option<ItemValue<'a>>
-    ensures { IfSome result (λ value. value_meant value ≡ value_at context.now number) }
+// the value of the yielder of this view, which is an operation
+fn operation_value<'a>(
+    alloc: Global,
+    context: &Context<'a, '_>,
+    number: u32,
+    view: YielderView<'a>,
+) -> Result<ItemValue<'a>, AllocError>
+    requires viewed { IsYielderView context.now.graph.now number view }
+    requires operation { is_operation view ≡ true }
+    ensures { IfOk result (λ value. value_meant value ≡ value_at context.now number) }
 {
-    let place = number as usize;
-    if place >= context.graph.yielder_count() {
-        return Some(ItemValue::Them);
+    let mut walk = Walk {
+        jobs: Vec::new(alloc),
+        values: Vec::new(alloc),
+    };
+    walk.open(view)?;
+    while let Some(job) = walk.jobs.pop() {
+        if !walk.step(context, job)? {
+            return Ok(ItemValue::Them);
+        }
     }
-    leaf_value(context, context.graph.yielder_view(place))
+    match walk.values.pop() {
+        Some(value) => Ok(single_value(value)),
+        None => Ok(ItemValue::Them),
+    }
 }
 
 /// The value of the item of this number. A number of no yielder is `them`.
@@ -233,22 +250,14 @@ pub fn evaluate<'a>(
 ) -> Result<ItemValue<'a>, AllocError>
     ensures { IfOk result (λ value. value_meant value ≡ value_at context.now number) }
 {
+    let place = number as usize;
+    if place >= context.graph.yielder_count() {
+        return Ok(ItemValue::Them);
+    }
     // most yielders have no arguments, and need no stacks
-    if let Some(value) = leaf_at(context, number) {
-        return Ok(value);
-    }
-    let mut walk = Walk {
-        jobs: Vec::new(alloc),
-        values: Vec::new(alloc),
-    };
-    walk.jobs.push(Job::Visit(number))?;
-    while let Some(job) = walk.jobs.pop() {
-        if !walk.step(context, job)? {
-            return Ok(ItemValue::Them);
-        }
-    }
-    match walk.values.pop() {
-        Some(value) => Ok(single_value(value)),
-        None => Ok(ItemValue::Them),
+    let view = context.graph.yielder_view(place);
+    match leaf_value(context, view) {
+        Some(value) => Ok(value),
+        None => operation_value(alloc, context, number, view),
     }
 }

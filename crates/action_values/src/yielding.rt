@@ -1,6 +1,6 @@
 //! What yielders and items of data yield.
-ghost use Rattle.std.specs.Prelude.{◌≡◌, IsTrue, Some, None, IfOk, option_map, if◌then◌else◌};
-ghost use Rattle.action_terms.specs.Actions.{Yielder, Single, Them};
+ghost use Rattle.std.specs.Prelude.{◌≡◌, Some, None, IfOk, option_map, if◌then◌else◌};
+ghost use Rattle.action_terms.specs.Actions.{Yielder, Single};
 ghost use Rattle.action_terms.specs.Yielding.{yields, item_yields, both_data, items_yield};
 ghost use Rattle.action_terms.specs.Forms.{item_at, items_at};
 ghost use Rattle.action_values.specs.Values.{meant, data_of, bindings_of, storage_of};
@@ -10,7 +10,6 @@ use crate::context::ItemValue;
 use crate::datum::Datum;
 use crate::walk::evaluate;
 use acg_base::Memory;
-use action_terms::YielderView;
 use bumpalo::Bump;
 use bumpalo::collections::into_bump_slice;
 use std::alloc::Global;
@@ -32,13 +31,23 @@ pub fn yielded<'a>(
     }
 }
 
-// whether the item of this number is `them`
-fn is_them(context: &Context<'_, '_>, number: u32) -> bool
-    ensures { IsTrue result → item_at context.now.graph.now.yielders number ≡ Them }
+// what the item of this number yields; `them` is the given data themselves
+fn yielded_item<'a>(
+    alloc: Global,
+    arena: &'a Bump,
+    context: &Context<'a, '_>,
+    number: u32,
+) -> Result<Option<&'a [Datum<'a>]>, Memory>
+    ensures { IfOk result (λ r. option_map (λ d. data_of d.now) r
+        ≡ item_yields (item_at context.now.graph.now.yielders number)
+        (data_of context.now.given.now) (bindings_of context.now.bound.now)
+        (storage_of context.now.cells.now)) }
 {
-    let place = number as usize;
-    place < context.graph.yielder_count()
-        && matches!(context.graph.yielder_view(place), YielderView::Them)
+    match evaluate(alloc, context, number)? {
+        ItemValue::Datum(datum) => Ok(Some(arena.try_alloc_slice_copy(&[datum])?)),
+        ItemValue::Nothing => Ok(None),
+        ItemValue::Them => Ok(Some(context.given)),
+    }
 }
 
 // adds the data of an item. It answers whether the item yields some
@@ -75,8 +84,8 @@ pub fn yielded_items<'a>(
         (data_of context.now.given.now) (bindings_of context.now.bound.now)
         (storage_of context.now.cells.now)) }
 {
-    if numbers.len() == 1 && is_them(context, numbers[0]) {
-        return Ok(Some(context.given));
+    if let [only] = numbers {
+        return yielded_item(alloc, arena, context, *only);
     }
     let mut items = Vec::new(arena);
     for number in numbers {
