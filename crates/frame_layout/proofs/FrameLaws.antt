@@ -19,7 +19,7 @@ use Rattle.frame_layout.proofs.Words.{all-members}
 -- ---- nodes that are needed at one time
 
 module _ (a : Action) (trees : HasTrees a) where
-  in-behind : (j k : ℕ) → IsIn a j k → j ≤ k
+  pub in-behind : (j k : ℕ) → IsIn a j k → j ≤ k
   in-behind j _ Itself = omega arith
   in-behind j k (Deeper {i} part deeper) = omega (arith, trees.behind j i part, in-behind i k deeper)
 

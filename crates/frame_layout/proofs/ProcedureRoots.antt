@@ -42,14 +42,14 @@ holder-none j (n ∷ a) c (suc k) e m = go (is_listed c (parts_at n)) e (λ late
     go true e later = cc
     go false e later = later e
 
-whole-part : (a : Action) (c i : ℕ) → whole_of a c ≡ Some i → OneOf c (parts_at (node_at a i))
+pub whole-part : (a : Action) (c i : ℕ) → whole_of a c ≡ Some i → OneOf c (parts_at (node_at a i))
 whole-part a c i e =
     let h = holder-found 0 a c i e in
     let same : h.place ≡ i = omega (arith, h.at) in
     subst (λ (k : ℕ). OneOf c (parts_at (node_at a k))) same h.part
 
 module _ (a : Action) (trees : HasTrees a) where
-  whole-is : (c k : ℕ) → OneOf c (parts_at (node_at a k)) → whole_of a c ≡ Some k
+  pub whole-is : (c k : ℕ) → OneOf c (parts_at (node_at a k)) → whole_of a c ≡ Some k
   whole-is c k m = go (whole_of a c) refl
     where
       go : (o : Option ℕ) → whole_of a c ≡ o → whole_of a c ≡ Some k
@@ -93,13 +93,13 @@ module _ (a : Action) (trees : HasTrees a) where
   procedure-step c = topmost-enough c (suc c) c (omega arith) (omega arith)
 
   -- a part is in the procedure of its node
-  procedure-part : (c j : ℕ) → whole_of a c ≡ Some j → procedure_of a c ≡ procedure_of a j
+  pub procedure-part : (c j : ℕ) → whole_of a c ≡ Some j → procedure_of a c ≡ procedure_of a j
   procedure-part c j e =
       let less = trees.behind j c (whole-part a c j e) in
       procedure-step c ∙ ap (or_else (topmost c a) c) e ∙ topmost-enough c j j (omega arith) (omega arith)
 
   -- a node that is no part is a root
-  procedure-own : (c : ℕ) → whole_of a c ≡ None → procedure_of a c ≡ c
+  pub procedure-own : (c : ℕ) → whole_of a c ≡ None → procedure_of a c ≡ c
   procedure-own c e = procedure-step c ∙ ap (or_else (topmost c a) c) e
 
 -- ---- the roots so far
