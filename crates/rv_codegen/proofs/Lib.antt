@@ -44,3 +44,9 @@ pub mod Turns
 pub mod Compiling
 pub mod Right
 pub mod Generated
+pub mod Subtrees
+pub mod AliasSteps
+pub mod AliasWords
+pub mod AliasPlaces
+pub mod AliasRules
+pub mod AliasLengths

@@ -3,3 +3,4 @@ pub mod RightImage
 pub mod Blocks
 pub mod Marks
 pub mod Built
+pub mod Aliases
