@@ -50,3 +50,5 @@ pub mod AliasWords
 pub mod AliasPlaces
 pub mod AliasRules
 pub mod AliasLengths
+pub mod LayoutWords
+pub mod AliasSettings

@@ -1,9 +1,9 @@
 -- Where nodes find the data that they are given, and where they leave those that they complete with. Nothing is copied from node to node: a part finds its data where its node does, or where the part before it left them, and leaves its own where its node does.
-use Rattle.std.specs.Prelude.{◌≡◌, ◌⊎◌, ℕ, zero, suc, ◌+◌, ◌<◌, ◌≤◌, List, [], ◌∷◌, ◌++◌, length, take, drop, nat_eq, if◌then◌else◌, Option, Some, None}
+use Rattle.std.specs.Prelude.{◌≡◌, ◌⊎◌, ℕ, zero, suc, ◌+◌, ◌<◌, ◌≤◌, List, [], ◌∷◌, ◌++◌, length, take, drop, nat_eq, if◌then◌else◌, Option, Some, None, slice_index_or}
 use Rattle.action_terms.specs.Actions.{Then, Node, Furthermore, Both, Phases, Either, Trapping, Branch, Action, node_at}
 use Rattle.action_terms.specs.Performances.{OneOf}
 use Rattle.sort_rules.specs.Procedures.{procedure_of, whole_of}
-use Rattle.frame_layout.specs.Places.{PlacedNode, record_words}
+use Rattle.frame_layout.specs.Places.{Frame, PlacedNode, record_words}
 use Rattle.frame_layout.specs.Layouts.{IsIn}
 
 -- the words that a node wants for its data, or its own where it has another number of data: then it never completes
@@ -59,3 +59,21 @@ IsOwn n x = OneOf x n.data_out ⊎ (OneOf x n.binds_out ⊎ (OneOf x n.escaped �
 abbrev pub MayWrite : (ℕ → PlacedNode) → Action → (words : ℕ → ℕ) → (k x : ℕ) → Type 0
 MayWrite p a words k x =
     ((j : ℕ) × (j < length a) × IsIn a k j × IsOwn (p j) x) ⊎ (OneOf x (out_of p a k) ⊎ (words (procedure_of a k) ≤ x))
+
+-- a node that has no words
+abbrev pub nowhere : PlacedNode
+nowhere = record { node = 0; data_in = []; binds_in = []; data_out = []; binds_out = []; escaped = []; keep = 0 }
+
+-- the places of nodes by their numbers
+abbrev pub place_at : List PlacedNode → ℕ → PlacedNode
+place_at ns k = slice_index_or ns k nowhere
+
+-- the words of the frame with a root
+abbrev pub words_at : List Frame → (root : ℕ) → ℕ
+words_at [] c = 0
+words_at (f ∷ fs) c = if nat_eq f.root c then f.words else words_at fs c
+
+-- the list has the places of all nodes of an action, each at its number
+pub record AreByNumber (a : Action) (fs : List Frame) (ns : List PlacedNode) : Type 0 where
+  pub long : length ns ≡ length a
+  pub each : (f : Frame) (n : PlacedNode) → OneOf f fs → OneOf n f.nodes → place_at ns n.node ≡ n
