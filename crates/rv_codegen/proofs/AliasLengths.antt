@@ -1,6 +1,6 @@
 -- A node leaves its data in as many words as its row asks for.
-use Rattle.std.proofs.Common.{◌≡◌, ℕ, zero, suc, ◌+◌, ◌<◌, Bool, true, false, List, [], ◌∷◌, ◌++◌, length, take, drop, refl, sym, ap, subst, ◌∙◌, arith, length-take, length-drop}
-use Rattle.std.specs.Prelude.{Option, Some, None, nat_eq, if◌then◌else◌}
+use Rattle.std.proofs.Common.{◌≡◌, ℕ, ◌+◌, List, [], ◌∷◌, length, take, drop, refl, sym, ap, ◌∙◌, arith, length-take, length-drop}
+use Rattle.std.specs.Prelude.{Option, Some, None, nat_eq}
 use Rattle.action_terms.specs.Actions.{Action, AndThen, Before, Both, Branch, Either, Furthermore, Hence, Node, Phases, Then, Trapping, node_at}
 use Rattle.action_terms.specs.Performances.{OneOf}
 use Rattle.sort_rules.specs.Procedures.{parts_at, whole_of}

@@ -1,8 +1,8 @@
 -- Where parts share the places of their node, nothing that is still needed is written.
-use Rattle.std.proofs.Common.{◌≡◌, ◌≢◌, ◌⊎◌, ℕ, zero, suc, ◌+◌, ◌<◌, ◌≤◌, List, [], ◌∷◌, ◌++◌, length, refl, sym, ap, subst, ◌∙◌, arith, inl, inr}
+use Rattle.std.proofs.Common.{◌≡◌, ◌≢◌, ◌⊎◌, ℕ, zero, suc, ◌+◌, ◌<◌, ◌≤◌, List, [], ◌++◌, length, refl, sym, ap, subst, ◌∙◌, arith, inl, inr}
 use Rattle.std.specs.Prelude.{Option, Some, None}
 use Rattle.std.specs.List.{AllPairs}
-use Rattle.action_terms.specs.Actions.{Action, Node, Stray, node_at}
+use Rattle.action_terms.specs.Actions.{Action, node_at}
 use Rattle.action_terms.specs.Performances.{OneOf}
 use Rattle.sort_rules.specs.Procedures.{parts_at, procedure_of, whole_of}
 use Rattle.sort_rules.proofs.ActionNumbers.{node_at-past, one_of-first}
@@ -14,7 +14,7 @@ use Rattle.frame_layout.proofs.NodeLists.{member-range}
 use Rattle.frame_layout.proofs.ProcedureRoots.{procedure-part, whole-is, whole-part}
 use Rattle.rv_codegen.specs.Aliases.{IsOwn, MayWrite, given_in, given_of, out_in, out_of}
 use Rattle.rv_codegen.proofs.AliasSteps.{handed-part, handed-root}
-use Rattle.rv_codegen.proofs.AliasWords.{FromSibling, IsOnce, IsOwnOrPiece, IsPiece, in-not_own, in-word, out-not_record, own-word, part-given, part-out, piece-member, piece-once, run-once}
+use Rattle.rv_codegen.proofs.AliasWords.{FromSibling, IsOnce, IsOwnOrPiece, in-not_own, in-word, out-not_record, own-word, part-given, part-out, piece-member, piece-once, run-once}
 use Rattle.rv_codegen.proofs.Subtrees.{in-procedure, in-whole, not-up, siblings-apart}
 
 -- what a layout tells of the words of nodes: those of two nodes of a procedure are apart, and so are those of one; all are behind the front of a frame and in it. Past the nodes there are none

@@ -1,12 +1,12 @@
 -- Where the parts of each kind of node find and leave data, by where the node does.
-use Rattle.std.proofs.Common.{◌≡◌, ◌≢◌, ◌⊎◌, ℕ, ◌+◌, ◌<◌, Bool, true, false, List, [], ◌∷◌, ◌++◌, length, take, drop, min, refl, sym, ap, subst, ◌∙◌, arith, inl, inr, length-take, length-drop}
+use Rattle.std.proofs.Common.{◌≡◌, ◌≢◌, ◌⊎◌, ℕ, ◌+◌, Bool, true, false, List, [], ◌∷◌, ◌++◌, length, take, drop, refl, sym, ap, subst, ◌∙◌, arith, inl, inr}
 use Rattle.std.specs.Prelude.{nat_eq, if◌then◌else◌}
 use Rattle.std.proofs.lemmas.Bool.{eq-eqb}
 use Rattle.std.proofs.lemmas.Bool.Decides.{eqb_tells}
 use Rattle.std.proofs.lemmas.List.{take-append-drop}
 use Rattle.action_terms.specs.Actions.{Action, AndThen, Before, Both, Branch, Chain, Either, Furthermore, Hence, Join, Node, Phases, Then, Trapping, Yielder, node_at}
 use Rattle.action_terms.specs.Performances.{Here, Later, OneOf}
-use Rattle.sort_rules.specs.Procedures.{parts_at, whole_of}
+use Rattle.sort_rules.specs.Procedures.{parts_at}
 use Rattle.frame_layout.specs.Places.{PlacedNode}
 use Rattle.frame_layout.specs.Layouts.{IsInTurn, OfBoth, OfPhases}
 use Rattle.frame_layout.proofs.GraphParts.{HasTrees}
@@ -40,9 +40,9 @@ whole-wanted own os e = when-true (nat_eq (length own) (length os)) os own (eq-e
 both-places : (first second os : List ℕ) → ((front_places first second os ≡ first) × (back_places first second os ≡ second)) ⊎ (os ≡ front_places first second os ++ back_places first second os)
 both-places first second os = elim (eqb_tells (length first + length second) (length os)) [
   | inl same ↦ inr (sym (
-    ap (λ (xs : List ℕ). xs ++ back_places first second os) (when-true (nat_eq (length first + length second) (length os)) (take (length first) os) first same.0)
-    ∙ ap (λ (xs : List ℕ). take (length first) os ++ xs) (when-true (nat_eq (length first + length second) (length os)) (drop (length first) os) second same.0)
-    ∙ take-append-drop (length first) os))
+      ap (λ (xs : List ℕ). xs ++ back_places first second os) (when-true (nat_eq (length first + length second) (length os)) (take (length first) os) first same.0)
+      ∙ ap (λ (xs : List ℕ). take (length first) os ++ xs) (when-true (nat_eq (length first + length second) (length os)) (drop (length first) os) second same.0)
+      ∙ take-append-drop (length first) os))
   | inr other ↦ inl (when-false (nat_eq (length first + length second) (length os)) (take (length first) os) first other.0, when-false (nat_eq (length first + length second) (length os)) (drop (length first) os) second other.0)
 ]
 

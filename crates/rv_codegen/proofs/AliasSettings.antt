@@ -1,5 +1,5 @@
 -- The places of an action's data, where parts share those of their node, are as the simulation asks.
-use Rattle.std.proofs.Common.{◌≡◌, ◌≢◌, ◌⊎◌, ℕ, ◌+◌, ◌<◌, ◌≤◌, List, [], ◌∷◌, ◌++◌, length, refl, sym, ap, subst, ◌∙◌, arith, inl, inr}
+use Rattle.std.proofs.Common.{◌≡◌, ◌⊎◌, ℕ, ◌≤◌, List, [], ◌∷◌, ◌++◌, refl, sym, ap, subst, arith, inl, inr}
 use Rattle.action_terms.specs.Actions.{Action, AndThen, Before, Both, Branch, Chain, Either, Furthermore, Hence, Join, Node, Phases, Then, Trapping, node_at}
 use Rattle.action_terms.specs.Performances.{OneOf, Here, Later}
 use Rattle.sort_rules.specs.Procedures.{parts_at, procedure_of}
@@ -10,11 +10,11 @@ use Rattle.frame_layout.proofs.GraphParts.{HasTrees}
 use Rattle.frame_layout.proofs.ProcedureRoots.{procedure-part, whole-is}
 use Rattle.rv_codegen.specs.Aliases.{MayWrite, given_of, out_of}
 use Rattle.rv_codegen.proofs.AliasPlaces.{HasOwnWords, given-apart, left-kept, record-kept, written-inside, written-low}
-use Rattle.rv_codegen.proofs.AliasRules.{Passes, both-own, phases-own, then-out_left}
+use Rattle.rv_codegen.proofs.AliasRules.{both-own, phases-own, then-out_left}
 use Rattle.rv_codegen.proofs.Around.{IsPlaced}
 use Rattle.rv_codegen.proofs.Holding.{Apart}
 use Rattle.rv_codegen.proofs.NodeParts.{IsPartOf}
-use Rattle.rv_codegen.proofs.Settings.{DataPlaces, Procedures, Setting}
+use Rattle.rv_codegen.proofs.Settings.{DataPlaces, Setting}
 use Rattle.rv_codegen.proofs.Unbound.{NoTokens, no_slots}
 
 -- what code may write, and where nodes find and leave data; no token is bound

@@ -1,24 +1,18 @@
 -- The words of nodes, and where a part finds and leaves its data: among the words of its node, or in its own.
-use Rattle.std.proofs.Common.{◌≡◌, ◌≢◌, ◌⊎◌, ℕ, zero, suc, ◌+◌, ◌<◌, ◌≤◌, Bool, true, false, List, [], ◌∷◌, ◌++◌, length, take, drop, refl, sym, ap, subst, ◌∙◌, arith, inl, inr, append_assoc}
-use Rattle.std.specs.Prelude.{Option, Some, None, nat_eq, if◌then◌else◌}
+use Rattle.std.proofs.Common.{◌≡◌, ◌≢◌, ◌⊎◌, ℕ, zero, suc, ◌+◌, ◌<◌, false, List, [], ◌∷◌, ◌++◌, length, take, drop, refl, sym, ap, subst, ◌∙◌, arith, inl, inr, append_assoc}
+use Rattle.std.specs.Prelude.{nat_eq}
 use Rattle.std.specs.List.{AllPairs, range_with_len}
 use Rattle.std.proofs.lemmas.Bool.{eq-eqb}
 use Rattle.std.proofs.lemmas.List.{append-nil, take-append-drop}
-use Rattle.action_terms.specs.Actions.{Action, AndThen, Before, Both, Branch, Either, Furthermore, Hence, Node, Phases, Stray, Then, Trapping, node_at}
-use Rattle.action_terms.specs.Performances.{OneOf, Here, Later}
-use Rattle.sort_rules.specs.Procedures.{parts_at, procedure_of, whole_of}
-use Rattle.sort_rules.proofs.ActionNumbers.{node_at-past, one_of-first, one_of-second}
+use Rattle.action_terms.specs.Actions.{AndThen, Before, Both, Branch, Either, Furthermore, Hence, Node, Phases, Then, Trapping}
+use Rattle.action_terms.specs.Performances.{OneOf, Here}
+use Rattle.sort_rules.specs.Procedures.{parts_at}
+use Rattle.sort_rules.proofs.ActionNumbers.{one_of-first, one_of-second}
 use Rattle.sort_rules.proofs.Choices.{either, eq_of_test, member_cases, of_choice}
-use Rattle.sort_rules.proofs.SoundSteps.{append_cases}
 use Rattle.frame_layout.specs.Places.{PlacedNode, blocks, record_words, words_of}
-use Rattle.frame_layout.specs.Layouts.{AreApart, AreConsecutive, Deeper, IsIn, Itself, front_words}
-use Rattle.frame_layout.proofs.GraphParts.{HasTrees}
-use Rattle.frame_layout.proofs.NodeLists.{member-range}
-use Rattle.frame_layout.proofs.ProcedureRoots.{procedure-part, whole-is, whole-part}
+use Rattle.frame_layout.specs.Layouts.{AreApart, AreConsecutive}
 use Rattle.frame_layout.proofs.Words.{range-member}
-use Rattle.rv_codegen.specs.Aliases.{IsOwn, MayWrite, back_places, front_places, given_in, given_of, of_part, out_in, out_of, whole_places}
-use Rattle.rv_codegen.proofs.AliasSteps.{handed-part, handed-root}
-use Rattle.rv_codegen.proofs.Subtrees.{in-procedure, in-whole, not-up, siblings-apart}
+use Rattle.rv_codegen.specs.Aliases.{IsOwn, back_places, front_places, given_in, of_part, out_in, whole_places}
 
 -- ---- the words of a node
 

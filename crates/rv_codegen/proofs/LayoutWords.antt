@@ -1,5 +1,5 @@
 -- What a layout tells of the words of nodes, where their places stand by their numbers.
-use Rattle.std.proofs.Common.{◌≡◌, ◌≢◌, ◌⊎◌, ℕ, zero, suc, ◌+◌, ◌<◌, ◌≤◌, Bool, true, false, List, [], ◌∷◌, length, get_or, map, refl, sym, ap, subst, ◌∙◌, arith, inl, inr, cond}
+use Rattle.std.proofs.Common.{◌≡◌, ◌≢◌, ◌⊎◌, ℕ, zero, suc, ◌+◌, ◌<◌, ◌≤◌, Bool, true, false, List, [], ◌∷◌, length, map, refl, sym, ap, subst, ◌∙◌, arith, inl, inr, cond}
 use Rattle.std.specs.Prelude.{All, Option, Some, None, filter, nat_eq, if◌then◌else◌}
 use Rattle.std.specs.List.{range_with_len}
 use Rattle.std.proofs.lemmas.Bool.{eq-eqb}
@@ -12,8 +12,8 @@ use Rattle.sort_rules.specs.Measures.{node_numbers, slots}
 use Rattle.sort_rules.specs.Tables.{DataIn, DataOut, MarkedTable}
 use Rattle.sort_rules.specs.Shapes.{part_length}
 use Rattle.sort_rules.proofs.Choices.{either, member_cases}
-use Rattle.frame_layout.specs.Places.{Frame, PlacedNode, blocks, record_words, words_of}
-use Rattle.frame_layout.specs.Layouts.{AreConsecutive, HasApartNodes, IsFrame, IsLayout, IsPlacedNode, front_words, nodes_in, roots_of}
+use Rattle.frame_layout.specs.Places.{Frame, PlacedNode, record_words, words_of}
+use Rattle.frame_layout.specs.Layouts.{HasApartNodes, IsFrame, IsLayout, IsPlacedNode, front_words}
 use Rattle.frame_layout.proofs.GraphParts.{HasTrees}
 use Rattle.frame_layout.proofs.NodeLists.{filter-member, member-filter, member-range, node_numbers-range}
 use Rattle.frame_layout.proofs.ProcedureRoots.{procedure-below, procedure-own, procedure-part, whole-part}

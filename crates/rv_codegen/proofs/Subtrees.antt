@@ -1,5 +1,5 @@
 -- The nodes in a node: parts, and parts of parts.
-use Rattle.std.proofs.Common.{◌≡◌, ◌≢◌, ◌⊎◌, ℕ, zero, suc, ◌<◌, ◌≤◌, length, refl, sym, subst, ◌∙◌, arith, inl, inr}
+use Rattle.std.proofs.Common.{◌≡◌, ◌≢◌, ◌⊎◌, ℕ, zero, suc, ◌<◌, refl, sym, subst, ◌∙◌, arith, inl, inr}
 use Rattle.action_terms.specs.Actions.{Action, node_at}
 use Rattle.action_terms.specs.Performances.{OneOf}
 use Rattle.sort_rules.specs.Procedures.{parts_at, procedure_of}

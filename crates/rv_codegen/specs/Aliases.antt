@@ -1,6 +1,6 @@
 -- Where nodes find the data that they are given, and where they leave those that they complete with. Nothing is copied from node to node: a part finds its data where its node does, or where the part before it left them, and leaves its own where its node does.
-use Rattle.std.specs.Prelude.{◌≡◌, ◌⊎◌, ℕ, zero, suc, ◌+◌, ◌<◌, ◌≤◌, List, [], ◌∷◌, ◌++◌, length, take, drop, nat_eq, if◌then◌else◌, Option, Some, None, slice_index_or}
-use Rattle.action_terms.specs.Actions.{Then, Node, Furthermore, Both, Phases, Either, Trapping, Branch, Action, node_at}
+use Rattle.std.specs.Prelude.{◌≡◌, ◌⊎◌, ℕ, zero, suc, ◌+◌, ◌<◌, ◌≤◌, List, [], ◌∷◌, length, take, drop, nat_eq, if◌then◌else◌, Option, Some, None, slice_index_or}
+use Rattle.action_terms.specs.Actions.{Then, Node, Both, Phases, Trapping, Action, node_at}
 use Rattle.action_terms.specs.Performances.{OneOf}
 use Rattle.sort_rules.specs.Procedures.{procedure_of, whole_of}
 use Rattle.frame_layout.specs.Places.{Frame, PlacedNode, record_words}
