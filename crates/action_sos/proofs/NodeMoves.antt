@@ -1,13 +1,12 @@
 -- What a node that runs does, by its form.
-use Rattle.std.proofs.Common.{◌≡◌, ℕ, ℤ, List, [], ◌∷◌, Option, Some, length, refl, ap, sym, subst, ◌∙◌}
+use Rattle.std.proofs.Common.{◌≡◌, ℕ, List, [], ◌∷◌, Option, Some, refl, ap, sym, subst, ◌∙◌}
 use Rattle.std.specs.Prelude.{Result, IfOk}
-use Rattle.std.proofs.lemmas.List.{length-map}
 use Rattle.std.proofs.lemmas.Result.{IfOk-weaker}
-use Rattle.action_terms.specs.Information.{Token, Datum, CellOf, Closure, NoBinds, Data, World}
-use Rattle.action_terms.specs.Actions.{Yielder, Item, Primitive, Give, EscapeWith, Check, Bind, BindRec, Store, Allocate, Receive, Send, Node, Simple, Enact, Apply, Either, Branch}
-use Rattle.action_terms.specs.Acting.{Tree, Done, Esc, Ended, Or}
-use Rattle.action_terms.specs.Steps.{Silent, Allocates, Step, silent, with_effect, ends_with, checked, bound, sent, put, received, enacted, branched, performed, run_steps}
-use Rattle.action_sos.specs.Moves.{given_of, bound_of, running, effect_of, next_tree, IsOutside, IsStepAt}
+use Rattle.action_terms.specs.Information.{Token, Datum, Closure, NoBinds, Data, World}
+use Rattle.action_terms.specs.Actions.{Yielder, Item, Primitive, Give, EscapeWith, Check, Bind, BindRec, Store, Send, Node, Simple, Enact, Apply, Either, Branch}
+use Rattle.action_terms.specs.Acting.{Tree, Done, Esc, Or}
+use Rattle.action_terms.specs.Steps.{Silent, Step, silent, ends_with, checked, bound, sent, put, enacted, branched, performed, run_steps}
+use Rattle.action_sos.specs.Moves.{given_of, bound_of, running, effect_of, next_tree, IsStepAt}
 use Rattle.action_sos.specs.Running.{IsYielded, AreYielded, Does, IsPerformed, IsMove}
 use Rattle.action_sos.specs.declared.moves.Move.{Move}
 use Rattle.action_sos.specs.declared.running.Running.{Running}
@@ -17,28 +16,6 @@ to_tree : (m : Move) (t u : Tree) → t ≡ u → Does m (silent t) → Does m (
 to_tree m t u e s = subst (λ (x : Tree). Does m (silent x)) e s
 
 -- ---- primitives
-
--- the primitive is known by another name
-pub performed_as : {E : Type 0} (result : Result Move E) (r : Running) (p q : Primitive) → p ≡ q → IfOk result (IsPerformed r q) → IfOk result (IsPerformed r p)
-performed_as result r p q e h = subst (λ (x : Primitive). IfOk result (IsPerformed r x)) (sym e) h
-
-pub silent_move : (r : Running) (m : Move) (p q : Primitive) (t u : Tree) → p ≡ q → ((w : World) → performed q (given_of r.received) (bound_of r.received) w ≡ silent u)
-    → t ≡ u → Does m (silent t) → IsPerformed r p m
-silent_move r m p q t u e h same s =
-    subst (λ (x : Primitive). IsPerformed r x m) (sym e) (record { does = λ w o. subst (λ (n : Step). Does m n) (sym (h w)) (to_tree m t u same s) })
-
-pub effect_move : (r : Running) (m : Move) (p q : Primitive) → p ≡ q → ((w : World) → IsOutside r.outside w → Does m (performed q (given_of r.received) (bound_of r.received) w)) → IsPerformed r p m
-effect_move r m p q e h = subst (λ (x : Primitive). IsPerformed r x m) (sym e) (record { does = h })
-
-pub allocate_move : (r : Running) (m : Move) (p : Primitive) → p ≡ Allocate
-    → Does m (with_effect Allocates (Ended (Done (CellOf (length r.outside.cells.now) ∷ []) NoBinds))) → IsPerformed r p m
-allocate_move r m p e s =
-    effect_move r m p Allocate e
-    (λ w o. let l : length r.outside.cells.now ≡ length w.cells = rw (o.cells, length-map) in
-    subst (λ (n : ℕ). Does m (with_effect Allocates (Ended (Done (CellOf n ∷ []) NoBinds)))) l s)
-
-pub receive_move : (r : Running) (m : Move) (p : Primitive) → p ≡ Receive → Does m (received r.outside.input.now) → IsPerformed r p m
-receive_move r m p e s = effect_move r m p Receive e (λ w o. subst (λ (ns : List ℤ). Does m (received ns)) (sym o.input) s)
 
 pub give_move : (r : Running) (m : Move) (is : List Item) (d : Option Data) (t : Tree) → AreYielded r is d → t ≡ ends_with (λ x. Done x NoBinds) d → Does m (silent t) → IsPerformed r (Give is) m
 give_move r m is d t y same s = record { does = λ w o. to_tree m t _ (same ∙ ap (ends_with (λ x. Done x NoBinds)) (y.given w o)) s }

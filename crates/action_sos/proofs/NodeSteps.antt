@@ -1,15 +1,12 @@
 -- How many steps of a node stand open, and that a step of a node as it is viewed is one of the node of its number.
-use Rattle.std.proofs.Common.{◌≡◌, ◌≢◌, ◌<◌, ◌≤◌, ℕ, List, [], inl, inr, length, refl, ap, sym, subst, ◌∙◌, arith}
-use Rattle.std.specs.Prelude.{Result, IfOk, option_map}
+use Rattle.std.proofs.Common.{◌≡◌, ◌<◌, ◌≤◌, ℕ, List, [], length, refl, ap, sym, subst, ◌∙◌, arith}
+use Rattle.std.specs.Prelude.{Result, IfOk}
 use Rattle.std.proofs.lemmas.Result.{IfOk-weaker}
-use Rattle.std.proofs.lemmas.Option.{slice_get-map, slice_get_past}
-use Rattle.std.proofs.lemmas.Bool.{cases_lt}
 use Rattle.action_terms.specs.Information.{Data, Binds, World}
-use Rattle.action_terms.specs.Actions.{Node, Stray, node_at, node_or_stray}
+use Rattle.action_terms.specs.Actions.{Node, node_at}
 use Rattle.action_terms.specs.Numbering.{ListedYielder, Listed}
-use Rattle.action_terms.specs.Meaning.{items_from, node_with, action_of}
+use Rattle.action_terms.specs.Meaning.{action_of}
 use Rattle.action_terms.specs.Forms.{node_viewed, IsNodeView}
-use Rattle.action_terms.specs.Sound.{IsBoth, IsPhases, IsTrapping}
 use Rattle.action_terms.specs.Steps.{run_steps}
 use Rattle.action_terms.specs.declared.view.NodeView.{NodeView}
 use Rattle.action_terms.specs.declared.view.NodeView.TheVariants as node
@@ -20,16 +17,6 @@ use Rattle.action_sos.specs.declared.moves.Move.{Move}
 use Rattle.action_sos.specs.declared.running.Running.{Running}
 use Rattle.action_sos.specs.declared.moves.Received.{Received}
 use Rattle.action_sos.specs.declared.moves.Outside.{Outside}
-
--- past the end there is no node
-node_at-past : (g : Listed) (k : ℕ) → length g.nodes ≤ k → node_at (action_of g) k ≡ Stray
-node_at-past g k past =
-    ap node_or_stray (slice_get-map (node_with (items_from 0 g.yielders)) g.nodes k)
-    ∙ ap (λ o. node_or_stray (option_map (node_with (items_from 0 g.yielders)) o)) (slice_get_past g.nodes k past)
-
-pub there-within : (g : Listed) (k : ℕ) → node_at (action_of g) k ≢ Stray → k < length g.nodes
-there-within g k there =
-    elim (cases_lt k (length g.nodes)) [ inl less ↦ less | inr past ↦ absurd (there (node_at-past g k past)) ]
 
 -- a node of a view has as many steps as the view says
 counted : (ls : List ListedYielder) (v : NodeView) (k : ℕ) (d : Data) (b : Binds) (w : World) → step_count v ≡ length (run_steps (node_viewed ls v) k d b w)
@@ -76,22 +63,3 @@ module _ (g : Listed) (k : ℕ) (v : NodeView) (viewed : IsNodeView g k v) where
 pub at_most_two : (v : NodeView) → step_count v ≤ 2
 at_most_two (node.Either l r) = omega arith
 at_most_two _ = omega arith
-
--- ---- which views such nodes have
-
-pub only-either : (v : NodeView) → 1 < step_count v → ((l r : ℕ) → v ≡ node.Either l r → ⊥) → ⊥
-only-either (node.Either l r) more other = other l r refl
-only-either _ more other = omega arith
-
-module _ (ls : List ListedYielder) where
-  pub only-both : (v : NodeView) → IsBoth (node_viewed ls v) → ((j : _) (l r : ℕ) → v ≡ node.Both j l r → ⊥) → ⊥
-  only-both (node.Both j l r) h other = other j l r refl
-  only-both _ h other = h
-
-  pub only-phases : (v : NodeView) → IsPhases (node_viewed ls v) → ((q : _) (l r : ℕ) → v ≡ node.Phases q l r → ⊥) → ⊥
-  only-phases (node.Phases q l r) h other = other q l r refl
-  only-phases _ h other = h
-
-  pub only-trapping : (v : NodeView) → IsTrapping (node_viewed ls v) → ((l r : ℕ) → v ≡ node.Trapping l r → ⊥) → ⊥
-  only-trapping (node.Trapping l r) h other = other l r refl
-  only-trapping _ h other = h
