@@ -207,12 +207,7 @@ fn assembled(
 }
 
 // The code of a program of the only yielder of an action.
-fn code_of(
-    alloc: Global,
-    graph: &Graph<'_>,
-    given: &[Placed],
-    asked: Asked,
-) -> Result<Code, Fail> {
+fn code_of(alloc: Global, graph: &Graph<'_>, given: &[Placed], asked: Asked) -> Result<Code, Fail> {
     let needs = registers_needed(alloc, graph)?;
     let counts = yielder_counts(alloc, graph)?;
     let offsets = offsets_of(alloc, given)?;
@@ -227,9 +222,7 @@ fn code_of(
     {
         return Err("no code".into());
     }
-    Ok(assembled(
-        alloc, graph, &needs, yielder, &offsets, given, asked,
-    )?)
+    Ok(assembled(alloc, graph, &needs, yielder, &offsets, given, asked)?)
 }
 
 // The image of code, with a region far behind it.

@@ -27,10 +27,16 @@ fn what_is_given(rt: HostRuntime) -> Result<(), Fail> {
     let only = [given(Sort::Integer, 0)];
     assert_eq!(rt; value_of(&rt, rt.alloc(), &first, &near, 9)?, Some(-7));
     assert_eq!(rt; value_of(&rt, rt.alloc(), &second, &near, 900)?, Some(8));
-    assert_eq!(rt; value_of(&rt, rt.alloc(), &third, &near, 9)?, Some(GREATEST));
+    assert_eq!(rt;
+        value_of(&rt, rt.alloc(), &third, &near, 9)?,
+        Some(GREATEST)
+    );
     assert_eq!(rt; value_of(&rt, rt.alloc(), &fourth, &near, 9)?, None);
     assert_eq!(rt; value_of(&rt, rt.alloc(), &only, &near, 9)?, None);
-    assert_eq!(rt; value_of(&rt, rt.alloc(), &only, &near[2..], 9)?, Some(GREATEST));
+    assert_eq!(rt;
+        value_of(&rt, rt.alloc(), &only, &near[2..], 9)?,
+        Some(GREATEST)
+    );
     assert_eq!(rt; value_of(&rt, rt.alloc(), &only, &[], 9)?, None);
     Ok(())
 }
@@ -49,7 +55,10 @@ fn given_operands(rt: HostRuntime) -> Result<(), Fail> {
         YKind::Number(1),
     ];
     // 2 - 100000 * (40 + 1)
-    assert_eq!(rt; value_of(&rt, rt.alloc(), &kinds, &data, 3)?, Some(-4099998));
+    assert_eq!(rt;
+        value_of(&rt, rt.alloc(), &kinds, &data, 3)?,
+        Some(-4099998)
+    );
     Ok(())
 }
 
@@ -71,8 +80,14 @@ fn try_truth(
     let [operation, first, second] = kinds;
     let negated = [YKind::Not, operation, first, second];
     let twice = [YKind::Not, YKind::Not, operation, first, second];
-    assert_eq!(rt; value_of(rt, alloc, &kinds, &data, 2)?, Some(word_of(expected)));
-    assert_eq!(rt; value_of(rt, alloc, &negated, &data, 2)?, Some(word_of(!expected)));
+    assert_eq!(rt;
+        value_of(rt, alloc, &kinds, &data, 2)?,
+        Some(word_of(expected))
+    );
+    assert_eq!(rt;
+        value_of(rt, alloc, &negated, &data, 2)?,
+        Some(word_of(!expected))
+    );
     assert_eq!(rt; truth_of(rt, alloc, &kinds, &data)?, Some(expected));
     assert_eq!(rt; truth_of(rt, alloc, &negated, &data)?, Some(!expected));
     assert_eq!(rt; truth_of(rt, alloc, &twice, &data)?, Some(expected));
@@ -102,7 +117,13 @@ fn operations_on_truth_values(rt: HostRuntime) -> Result<(), Fail> {
             let words = (word_of(x), word_of(y));
             try_truth(&rt, rt.alloc(), [YKind::Is, first, second], words, x == y)?;
             try_truth(&rt, rt.alloc(), [YKind::Both, first, second], words, x && y)?;
-            try_truth(&rt, rt.alloc(), [YKind::Either, first, second], words, x || y)?;
+            try_truth(
+                &rt,
+                rt.alloc(),
+                [YKind::Either, first, second],
+                words,
+                x || y,
+            )?;
         }
     }
     Ok(())
