@@ -11,7 +11,7 @@ use Rattle.action_terms.specs.declared.kinds.Sort.TheVariants as sort
 use Rattle.rv_yield.specs.Evaluates.{Finds}
 
 -- no cell and no closure
-no_heap : Heap
+abbrev no_heap : Heap
 no_heap = record { cells = []; closures = [] }
 
 -- a region of three words at 131072, at which the frame begins; its second and third word are 7 and 9
@@ -23,7 +23,6 @@ data_given = Number (pos 9) ∷ Number (pos 7) ∷ []
 
 -- the first datum stands in the third word
 pub two-found : Finds 131072 no_heap (2 ∷ 1 ∷ []) 0 state data_given
-unfolding no_heap
 two-found = record {
   frame = record { aligned = refl; below = omega arith; frame = refl };
   inside = All-cons (λ o. 0 + o < 3) 2 (1 ∷ []) (omega arith) (All-cons (λ o. 0 + o < 3) 1 [] (omega arith) (All-nil (λ o. 0 + o < 3)));
