@@ -16,4 +16,4 @@ pub use conditions::condition_code;
 pub use counts::yielder_counts;
 pub use needs::{integral_yielders, registers_needed, registers_of};
 pub use source::Source;
-pub use values::{Slots, value_code, yield_code};
+pub use values::{Slots, stored_code, value_code, yield_code};

@@ -7,9 +7,10 @@ ghost use Rattle.action_terms.specs.Need.{yielder_count};
 ghost use Rattle.action_terms.specs.Numbering.{node_limit};
 ghost use Rattle.rv_yield.specs.Evaluates.{Evaluates, Stores};
 ghost use Rattle.rv_yield.specs.Fronts.{extended, AppendsFrontOf};
-ghost use Rattle.rv_yield.specs.Registers.{AreNeeds, HasWords, registers_needed, is_built, first_register, registers_end};
+ghost use Rattle.rv_yield.specs.Registers.{HasWords, registers_needed, is_built, first_register, registers_end};
 ghost use Rattle.rv_yield.specs.YielderCode.{value_items, stored_items};
 
+use crate::needs::registers_needed;
 use crate::source::Source;
 use crate::tasks::{Task, append_task};
 use crate::words::append_store;
@@ -73,21 +74,48 @@ pub fn value_code(
     Ok(())
 }
 
-/// Appends code that leaves the word of a yielder's datum in a word of the frame, and goes to a
-/// label where the yielder yields nothing. An `Err` says want of memory; the assembler then holds
-/// a front of the code, and is to be given up.
+/// Appends code that leaves the word of a yielder's datum in a word of the frame, by its offset in
+/// words, and goes to a label where the yielder yields nothing. An `Err` says want of memory; the
+/// assembler then holds a front of the code, and is to be given up.
+pub fn stored_code(
+    alloc: Global,
+    asm: &mut Asm,
+    source: &Source<'_>,
+    yielder: u32,
+    target: u32,
+) -> Result<(), Memory>
+    requires datum { IsDatum source.now.graph.now.yielders yielder }
+    requires built { is_built (yielder_at source.now.graph.now.yielders yielder) ≡ true }
+    requires few { yielder_count (yielder_at source.now.graph.now.yielders yielder) < node_limit }
+    requires target { target < 33554432 }
+    requires label { source.now.nothing < asm.old.labels }
+    ensures items { OnOk result (asm.new ≡ extended asm.old (stored_items source.now.given.now
+        target source.now.nothing (yielder_at source.now.graph.now.yielders yielder))) }
+    ensures stores { OnOk result (Stores source.now.given.now target source.now.nothing
+        (yielder_at source.now.graph.now.yielders yielder) asm.old asm.new) }
+    ensures short { OnOk result (total asm.new.items ≤ total asm.old.items
+        + 22 * yielder_count (yielder_at source.now.graph.now.yielders yielder)) }
+    ensures placed { OnOk result ((l : ℕ) → is_placed asm.new.items l ≡ is_placed asm.old.items l) }
+    ensures err { OnErr result (AppendsFrontOf (stored_items source.now.given.now target
+        source.now.nothing (yielder_at source.now.graph.now.yielders yielder)) asm.old asm.new) }
+{
+    value_code(alloc, asm, source, yielder, VALUE)?;
+    append_store(asm, target)
+}
+
+/// Appends the code of one yielder of an action, by itself, as `stored_code` does: it looks at all
+/// yielders to find what registers they need. An `Err` says want of memory; the assembler then
+/// holds a front of the code, and is to be given up.
 pub fn yield_code(
     alloc: Global,
     asm: &mut Asm,
     graph: &Graph<'_>,
-    needs: &[usize],
     yielder: u32,
     slots: &Slots<'_>,
 ) -> Result<(), Memory>
     requires datum { IsDatum graph.now.yielders yielder }
     requires built { is_built (yielder_at graph.now.yielders yielder) ≡ true }
     requires few { yielder_count (yielder_at graph.now.yielders yielder) < node_limit }
-    requires needs { AreNeeds graph.now.yielders needs.now }
     requires given { All (λ offset. offset < 33554432) slots.now.given.now }
     requires target { slots.now.target < 33554432 }
     requires label { slots.now.nothing < asm.old.labels }
@@ -101,12 +129,12 @@ pub fn yield_code(
     ensures err { OnErr result (AppendsFrontOf (stored_items slots.now.given.now slots.now.target
         slots.now.nothing (yielder_at graph.now.yielders yielder)) asm.old asm.new) }
 {
+    let needs = registers_needed(alloc, graph)?;
     let source = Source {
         graph,
-        needs,
+        needs: &needs,
         given: slots.given,
         nothing: slots.nothing,
     };
-    value_code(alloc, asm, &source, yielder, VALUE)?;
-    append_store(asm, slots.target)
+    stored_code(alloc, asm, &source, yielder, slots.target)
 }

@@ -166,7 +166,7 @@ fn append_asked(
                 target: offset % 1024,
                 nothing: source.nothing,
             };
-            yield_code(alloc, asm, source.graph, source.needs, yielder, &slots)?;
+            yield_code(alloc, asm, source.graph, yielder, &slots)?;
             append_end(asm, REGION + 8 * u64::from(offset % 1024))
         }
     }
