@@ -8,4 +8,4 @@ pub condition_code-requires-clause-built : goal.condition_code-requires-clause-b
 condition_code-requires-clause-built c = condition-built (yielder_at c.args.plan.graph.now.yielders c.args.yielder) c.requires.built
 
 pub returns-clause-short : goal.returns-clause-short
-returns-clause-short c = omega (arith, c.in_ok-condition_code.ensures.short, mark-short c.condition_code.new.asm c.place.new.self c.stop.result c.place.ensures)
+returns-clause-short c = omega (arith, c.in_ok-condition_code.ensures.short, mark-short c.condition_code.new.asm c.place.new.self _ c.place.ensures)

@@ -16,5 +16,5 @@ returns-clause-short c =
     omega (
       arith,
       c.in_ok-value_code.ensures.short,
-      call-short c.value_code.new.asm c.address.new.self c.jump.new.self c.place.new.self c.stop-stop.result c.args.plan.entries.now.send c.in_ok-address.ensures.ok c.in_ok-jump.ensures.ok c.place.ensures,
+      call-short c.value_code.new.asm c.address.new.self c.jump.new.self c.place.new.self _ _ c.in_ok-address.ensures.ok c.in_ok-jump.ensures.ok c.place.ensures,
     )
