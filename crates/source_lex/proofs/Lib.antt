@@ -5,3 +5,5 @@ pub mod Search
 pub mod Choices
 pub mod Steps
 pub mod OneScan
+pub mod NumberedLaws
+pub mod TreeLaws

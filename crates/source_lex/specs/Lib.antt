@@ -4,3 +4,4 @@ pub mod Literals
 pub mod ScanErrors
 pub mod Numbered
 pub mod Trees
+pub mod Numbers

@@ -1,6 +1,7 @@
 -- What a set of all corners tells of growths, and how it is filled.
 use Rattle.std.proofs.Common.{◌≡◌, inl, inr, ℕ, zero, suc, ◌+◌, ◌<◌, Bool, true, false, ◌||◌, List, [], ◌∷◌, length, slice_get, get_or, take, Some, Contains, refl, sym, subst, ◌∙◌, arith, Bor}
 use Rattle.std.specs.List.{list_any}
+use Rattle.std.proofs.lemmas.Bool.{or_left, or_right}
 use Rattle.std.proofs.lemmas.List.Elements.{Contains-push_cases}
 use Rattle.source_lex.specs.Numbered.{Alternative, Numbered}
 use Rattle.source_lex.specs.declared.numbered.Symbol.{Symbol as Part}
@@ -27,10 +28,6 @@ firsts_more g S T p y h e below here x there = elim (Contains-push_cases (take p
   | inr z ↦ subst (λ (s : Beginning). HasFirsts g T s.first s.whole) z here
 ]
 
--- a number without a nonterminal has no alternatives
-pub no_firsts : (g : Numbered) (S : List Beginning) (m n : ℕ) → (m < length g → ⊥) → HasFirsts g S m n
-no_firsts g S m n past a c rest e = absurd (past (alternative_within g m a _ e))
-
 abbrev pub no_parts : Bor (List Part)
 no_parts = record { ref_ptr = (0, 0); now = [] }
 
@@ -49,14 +46,6 @@ corner_leads g w pairs all n j c k m a ps l (Step p b qs h more) x =
 pub no_growth : (g : Numbered) (w : List LexKind) (pairs : List Beginning) → AreAllCorners g pairs → (n j c k : ℕ) → (Contains pairs (beginning c n) → ⊥) → CanGrow g w n j c k → (c ≡ n) × (k ≡ j)
 no_growth g w pairs all n j c k apart (Stay, x) = x
 no_growth g w pairs all n j c k apart (Step m a ps l more, x) = absurd (apart (corner_leads g w pairs all n j c k m a ps l more x))
-
-or_left : (a b : Bool) → a ≡ true → (a || b) ≡ true
-or_left true b e = refl
-or_left false b e = cc
-
-or_right : (a b : Bool) → b ≡ true → (a || b) ≡ true
-or_right true b e = refl
-or_right false b e = e
 
 -- a test finds a key of the list
 pub any_there : {K : Type 0} (eq : K → K → Bool) → ((x : K) → eq x x ≡ true) → (ks : List K) (k : K) → Contains ks k → list_any (eq k) ks ≡ true

@@ -53,17 +53,3 @@ step_tree g w from i k x parts rest t more items e f is ps h = (
   e,
   subst (ArePieces g w parts i x.end) (sym (ap plain_pieces h ∙ before_sub t (plain_pieces more))) (from, rest, k, f, is, ps),
 )
-
--- one tree more is kept
-pub kept_more : (g : Numbered) (w : List LexKind) (x y : Span) (t u : Bor Tree) (b : Bool) (old : Option (Bor Tree)) → (b ≡ true → x ≡ y) → cond b (Some u) old ≡ Some t → (old ≡ Some t → IsTreeOf g w x.nonterm x.start x.end t.now) → IsTreeOf g w y.nonterm y.start y.end u.now → IsTreeOf g w x.nonterm x.start x.end t.now
-kept_more g w x y t u true old same e before is =
-    let q : u ≡ t = cc in
-    subst (λ (s : Span). IsTreeOf g w s.nonterm s.start s.end t.now) (sym (same refl)) (subst (λ (v : Bor Tree). IsTreeOf g w y.nonterm y.start y.end v.now) q is)
-kept_more g w x y t u false old same e before is = before e
-
-pub span_same : (x y : Span) → same_span x y ≡ true → x ≡ y
-span_same x y f =
-    let a : x.nonterm ≡ y.nonterm = grind (arith, nat_tests) in
-    let b : x.start ≡ y.start = grind (arith, nat_tests) in
-    let e : x.end ≡ y.end = grind (arith, nat_tests) in
-    λ t. record { nonterm = a t; start = b t; end = e t }

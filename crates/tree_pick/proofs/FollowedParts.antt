@@ -89,15 +89,6 @@ run_more g w parts qs rest part start e mid new f a b = (
   λ h. let x = (b h.0).0 h.1 in a.1 (x.0, x.1, subst (λ (r : Alternative). HasPieces g w r x.0 e) (sym f) ((first_part g w part rest x.0 e).1 (h.0, x.2, h.2))),
 )
 
-pub reach_more : (P : ℕ → Type 0) (mid new taken : List ℕ) (x h : ℕ) → (Contains mid h ↔ (Contains taken h × P h)) → (Contains new h ↔ (Contains mid h ⊎ ((x ≡ h) × P h))) → Contains new h ↔ (Contains (taken ++ x ∷ []) h × P h)
-reach_more P mid new taken x h a b = let p = pushed taken x h in (
-  λ q. elim (b.0 q) [
-    | inl m ↦ let t = a.0 m in (p.1 (inl t.0), t.1)
-    | inr m ↦ (p.1 (inr m.0), m.1)
-  ],
-  λ q. elim (p.0 q.0) [ inl m ↦ b.1 (inl (a.1 (m, q.1))) | inr m ↦ b.1 (inr (m, q.1)) ],
-)
-
 -- a choice among what fits, exactly
 pub choice_of : {T : Type 0} (P Q : T → Type 0) (c : Choice T) → ((x : T) → P x ↔ Q x) → IsChoice P c → IsChoice Q c
 choice_of P Q c same h = ((same c.first).0 h.0, λ e x q. h.1 e x ((same x).1 q), λ e. let y = h.2 e in (y.0, (same y.0).0 y.1, y.2))

@@ -123,16 +123,6 @@ two_chosen g w (Parts (Phrase m ∷ rest) k l) c =
       λ q. let e : t ≡ u = cc in c.2 (tree_end g w m m k k h o u (rw e at xt) yu),
     )
 
--- two at the root are two trees over all lexemes
-pub two_trees : (g : Numbered) (w : List LexKind) → HasTwo g w (root_of w) → HasTwoTrees g w
-two_trees g w two = record {
-  first = two.0;
-  second = two.1;
-  first_whole = two.2;
-  second_whole = two.3;
-  different = two.4;
-}
-
 -- a growth, as a list of steps and as an inductive relation
 pub can_grow : (g : Numbered) (w : List LexKind) (n j c k : ℕ) → Grows g w n j c k → CanGrow g w n j c k
 can_grow g w n j c k Stays = (Stay, (refl, refl))

@@ -9,9 +9,11 @@ use Rattle.source_lex.specs.Trees.{IsTree, Has}
 use Rattle.source_lex.specs.declared.lexeme.LexKind.{LexKind}
 use Rattle.tree_pick.specs.declared.phrases.Span.{Span}
 
+-- whether the phrases are the same
 abbrev pub same_span : Span → Span → Bool
 same_span x y = nat_eq x.nonterm y.nonterm && (nat_eq x.start y.start && nat_eq x.end y.end)
 
+-- the tree in an arena is one of the nonterminal over i to j
 abbrev pub IsTreeOf : (g : Numbered) (w : List LexKind) (n i j : ℕ) → Tree → Type 0
 IsTreeOf g w n i j t = IsTree g w n i j (plain_tree t)
 

@@ -4,6 +4,7 @@ use Rattle.source_lex.specs.Numbered.{Alternative, Numbered, alternative_of}
 use Rattle.source_lex.specs.declared.numbered.Symbol.TheVariants.{Phrase}
 use Rattle.tree_pick.specs.declared.corners.Beginning.{Beginning}
 
+-- the pair of a nonterminal and one that it can begin
 abbrev pub beginning : (first whole : ℕ) → Beginning
 beginning first whole = record { first = first; whole = whole }
 

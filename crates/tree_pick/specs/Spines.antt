@@ -21,6 +21,7 @@ IsGrowth g w n j c k (Step m a ps l more) =
     (rest : Alternative) × (alternative_of g m a ≡ Some (Phrase c ∷ rest))
     × ArePieces g w rest k l ps × IsGrowth g w n j m l more
 
+-- a c that ends at k can grow into an n that ends at j
 abbrev pub CanGrow : (g : Numbered) (w : List LexKind) (n j c k : ℕ) → Type 0
 CanGrow g w n j c k = (growth : Growth) × IsGrowth g w n j c k growth
 

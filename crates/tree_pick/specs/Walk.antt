@@ -10,6 +10,7 @@ use Rattle.tree_pick.specs.declared.phrases.Span.{Span}
 use Rattle.tree_pick.specs.Runs.{Cuts}
 use Rattle.tree_pick.specs.Spines.{Spot, Spanning, Growing, CanGrow, FitsLeaf, FitsStep, Reached, HasOneChoice}
 
+-- a phrase of the nonterminal over the lexemes from the start to the end
 abbrev pub span : (nonterminal start end : ℕ) → Span
 span n i j = record { nonterm = n; start = i; end = j }
 
@@ -54,6 +55,7 @@ pub record IsReached (g : Numbered) (w : List LexKind) (x : Span) : Type 0 where
   pub has : Has g w x.nonterm x.start x.end
   pub within : x.start ≤ length w
 
+-- so is each phrase on the list
 abbrev pub AreReached : (g : Numbered) (w : List LexKind) → List Span → Type 0
 AreReached g w seen = (x : Span) → Contains seen x → IsReached g w x
 
