@@ -33,16 +33,16 @@ mapped-member : {A B : Type 0} (f : A → B) (xs : List A) (y : B) → OneOf y (
 mapped-member f [] y m = elim m [ ]
 mapped-member f (x ∷ xs) y m = either (λ e. record { from = x; member = Here; is = sym e }) (λ later. let r = mapped-member f xs y later in record { from = r.from; member = Later r.member; is = r.is }) (member_cases m)
 
-member-mapped : {A B : Type 0} (f : A → B) (xs : List A) (x : A) → OneOf x xs → OneOf (f x) (map f xs)
+pub member-mapped : {A B : Type 0} (f : A → B) (xs : List A) (x : A) → OneOf x xs → OneOf (f x) (map f xs)
 member-mapped f [] x m = elim m [ ]
 member-mapped f (y ∷ xs) x m = either (λ e. subst (λ z. OneOf (f x) (z ∷ map f xs)) (ap f e) Here) (λ later. Later (member-mapped f xs x later)) (member_cases m)
 
 -- each number is below all behind it
-Rising : List ℕ → Type 0
+pub Rising : List ℕ → Type 0
 Rising [] = Unit {0}
 Rising (x ∷ xs) = ((y : ℕ) → OneOf y xs → x < y) × Rising xs
 
-filter-rising : (test : ℕ → Bool) (a n : ℕ) → Rising (filter test (range_with_len a n))
+pub filter-rising : (test : ℕ → Bool) (a n : ℕ) → Rising (filter test (range_with_len a n))
 unfolding Rising
 filter-rising test a zero = tt
 filter-rising test a (suc n) = go (test a) (filter-rising test (a + 1) n)
@@ -51,16 +51,20 @@ filter-rising test a (suc n) = go (test a) (filter-rising test (a + 1) n)
     go true rest = (λ y m. let r = range-member (a + 1) n y (filter-member test (range_with_len (a + 1) n) y m).0 in omega (arith, r.0), rest)
     go false rest = rest
 
--- frames with one root are one
-one-frame : (fs : List Frame) (f g : Frame) → Rising (map (λ (h : Frame). h.root) fs) → OneOf f fs → OneOf g fs → f.root ≡ g.root → f ≡ g
+-- of a list whose keys rise, two elements with one key are one
+pub one-with_key : {A : Type 0} (key : A → ℕ) (xs : List A) (f g : A) → Rising (map key xs) → OneOf f xs → OneOf g xs → key f ≡ key g → f ≡ g
 unfolding Rising
-one-frame [] f g rising m k e = elim m [ ]
-one-frame (h ∷ fs) f g rising m k e =
-    let later : (i : Frame) → OneOf i fs → h.root < i.root = λ i x. rising.0 i.root (member-mapped (λ (h : Frame). h.root) fs i x) in
+one-with_key key [] f g rising m k e = elim m [ ]
+one-with_key {A} key (h ∷ xs) f g rising m k e =
+    let later : (i : A) → OneOf i xs → key h < key i = λ i x. rising.0 (key i) (member-mapped key xs i x) in
     either
-    (λ p. either (λ q. p ∙ sym q) (λ q. absurd (let less = later g q in omega (arith, less, e, ap (λ (h : Frame). h.root) p))) (member_cases k))
-    (λ p. either (λ q. absurd (let less = later f p in omega (arith, less, e, ap (λ (h : Frame). h.root) q))) (λ q. one-frame fs f g rising.1 p q e) (member_cases k))
+    (λ p. either (λ q. p ∙ sym q) (λ q. absurd (let less = later g q in omega (arith, less, e, ap key p))) (member_cases k))
+    (λ p. either (λ q. absurd (let less = later f p in omega (arith, less, e, ap key q))) (λ q. one-with_key key xs f g rising.1 p q e) (member_cases k))
     (member_cases m)
+
+-- frames with one root are one
+pub one-frame : (fs : List Frame) (f g : Frame) → Rising (map (λ (h : Frame). h.root) fs) → OneOf f fs → OneOf g fs → f.root ≡ g.root → f ≡ g
+one-frame fs f g rising m k e = one-with_key (λ (h : Frame). h.root) fs f g rising m k e
 
 words-are : (fs : List Frame) (f : Frame) → Rising (map (λ (h : Frame). h.root) fs) → OneOf f fs → words_at fs f.root ≡ f.words
 unfolding Rising

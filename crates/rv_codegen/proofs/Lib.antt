@@ -52,3 +52,4 @@ pub mod AliasRules
 pub mod AliasLengths
 pub mod LayoutWords
 pub mod AliasSettings
+pub mod PuttingPlaces

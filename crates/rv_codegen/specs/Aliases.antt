@@ -1,5 +1,5 @@
 -- Where nodes find the data that they are given, and where they leave those that they complete with. Nothing is copied from node to node: a part finds its data where its node does, or where the part before it left them, and leaves its own where its node does.
-use Rattle.std.specs.Prelude.{◌≡◌, ◌⊎◌, ℕ, zero, suc, ◌+◌, ◌<◌, ◌≤◌, List, [], ◌∷◌, length, take, drop, nat_eq, if◌then◌else◌, Option, Some, None, slice_index_or}
+use Rattle.std.specs.Prelude.{◌≡◌, ◌⊎◌, ℕ, zero, suc, ◌+◌, ◌<◌, ◌≤◌, List, [], ◌∷◌, length, take, drop, nat_eq, if◌then◌else◌, Option, Some, None, slice_index_or, slice_set}
 use Rattle.action_terms.specs.Actions.{Then, Node, Both, Phases, Trapping, Action, node_at}
 use Rattle.action_terms.specs.Performances.{OneOf}
 use Rattle.sort_rules.specs.Procedures.{procedure_of, whole_of}
@@ -77,3 +77,24 @@ words_at (f ∷ fs) c = if nat_eq f.root c then f.words else words_at fs c
 pub record AreByNumber (a : Action) (fs : List Frame) (ns : List PlacedNode) : Type 0 where
   pub long : length ns ≡ length a
   pub each : (f : Frame) (n : PlacedNode) → OneOf f fs → OneOf n f.nodes → place_at ns n.node ≡ n
+
+-- the places of some nodes, each put at its number
+abbrev pub put_each : List PlacedNode → List PlacedNode → List PlacedNode
+put_each [] ns = ns
+put_each (m ∷ ms) ns = put_each ms (slice_set ns m.node m)
+
+-- those of all frames
+abbrev pub put_frames : List Frame → List PlacedNode → List PlacedNode
+put_frames [] ns = ns
+put_frames (f ∷ fs) ns = put_frames fs (put_each f.nodes ns)
+
+-- the list has the places of all frames, put into a list of so many
+pub record ArePut (count : ℕ) (fs : List Frame) (ns : List PlacedNode) : Type 0 where
+  pub start : List PlacedNode
+  pub long : length start ≡ count
+  pub are : ns ≡ put_frames fs start
+
+-- of some parts, each gets its words
+abbrev pub handed_to : List ℕ → (ℕ → List ℕ) → List (List ℕ) → List (List ℕ)
+handed_to [] f xs = xs
+handed_to (k ∷ ks) f xs = handed_to ks f (slice_set xs k (f k))

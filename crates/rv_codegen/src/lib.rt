@@ -4,12 +4,14 @@
 
 mod built;
 mod conditions;
+mod data_tables;
 mod entries;
 mod exits;
 mod factor;
 mod generation;
 mod labels;
 mod node;
+mod node_places;
 mod plan;
 
 pub use built::first_unbuilt;

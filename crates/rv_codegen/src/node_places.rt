@@ -1,0 +1,82 @@
+//! The places of nodes by their numbers, and the data among them.
+ghost use Rattle.std.specs.Prelude.{◌≡◌, ◌<◌, IfOk, ℕ, length, map, vec_len};
+ghost use Rattle.frame_layout.specs.Places.{Frame, PlacedNode, frames_of, placed_node};
+ghost use Rattle.action_terms.specs.Performances.{OneOf};
+ghost use Rattle.rv_codegen.specs.Aliases.{ArePut, nowhere, place_at, put_each};
+
+use acg_base::Memory;
+use frame_layout::{Layout, NodePlaces};
+use std::alloc::Global;
+
+// a node that has no words
+fn no_places<'a>() -> NodePlaces<'a>
+    ensures { placed_node result ≡ nowhere }
+{
+    NodePlaces {
+        node: 0,
+        g: &[],
+        h: &[],
+        o: &[],
+        p: &[],
+        e: &[],
+        keep: 0,
+    }
+}
+
+// puts the places of some nodes at their numbers
+fn put_places<'a>(list: &mut Vec<NodePlaces<'a>>, places: &[NodePlaces<'a>])
+    requires { (n : PlacedNode) → OneOf n (map placed_node places.now)
+        → n.node < vec_len list.old }
+    ensures places { map placed_node list.new.items
+        ≡ put_each (map placed_node places.now) (map placed_node list.old.items) }
+    ensures len { vec_len list.new ≡ vec_len list.old }
+{
+    for place in places {
+        list[place.node as usize] = *place;
+    }
+}
+
+/// The places of a layout, of so many nodes, each at the number of its node.
+pub(crate) fn places_by_number<'a>(
+    alloc: Global,
+    layout: &Layout<'a>,
+    count: usize,
+) -> Result<Vec<NodePlaces<'a>>, Memory>
+    requires { (f : Frame) → (n : PlacedNode) → OneOf f (frames_of layout.now) → OneOf n f.nodes
+        → n.node < count }
+    ensures { IfOk result (λ list. ArePut count (frames_of layout.now)
+        (map placed_node list.items)) }
+{
+    let mut list = Vec::with_capacity(alloc, count)?;
+    for _ in 0..count {
+        list.push(no_places())?;
+    }
+    for procedure in layout.procedures {
+        put_places(&mut list, procedure.places);
+    }
+    Ok(list)
+}
+
+/// Where a node leaves its data, in words of its own.
+pub(crate) fn own_out<'a>(places: &[NodePlaces<'a>], node: u32) -> &'a [u32]
+    requires { node < length places.now }
+    ensures { result.now ≡ (place_at (map placed_node places.now) node).data_out }
+{
+    places[node as usize].o
+}
+
+/// Where a root finds what it is given.
+pub(crate) fn own_given<'a>(places: &[NodePlaces<'a>], node: u32) -> &'a [u32]
+    requires { node < length places.now }
+    ensures { result.now ≡ (place_at (map placed_node places.now) node).data_in }
+{
+    places[node as usize].g
+}
+
+/// Where a node leaves what it escapes with.
+pub(crate) fn own_escaped<'a>(places: &[NodePlaces<'a>], node: u32) -> &'a [u32]
+    requires { node < length places.now }
+    ensures { result.now ≡ (place_at (map placed_node places.now) node).escaped }
+{
+    places[node as usize].e
+}
