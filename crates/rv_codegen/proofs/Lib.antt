@@ -53,3 +53,4 @@ pub mod AliasLengths
 pub mod LayoutWords
 pub mod AliasSettings
 pub mod PuttingPlaces
+pub mod HandedTables

@@ -1,5 +1,6 @@
 -- Where nodes find the data that they are given, and where they leave those that they complete with. Nothing is copied from node to node: a part finds its data where its node does, or where the part before it left them, and leaves its own where its node does.
-use Rattle.std.specs.Prelude.{◌≡◌, ◌⊎◌, ℕ, zero, suc, ◌+◌, ◌<◌, ◌≤◌, List, [], ◌∷◌, length, take, drop, nat_eq, if◌then◌else◌, Option, Some, None, slice_index_or, slice_set}
+use Rattle.std.specs.Prelude.{◌≡◌, ◌⊎◌, ℕ, zero, suc, ◌+◌, ◌<◌, ◌≤◌, List, [], ◌∷◌, length, take, drop, nat_eq, if◌then◌else◌, Option, Some, None, map, slice_index_or, slice_set}
+use Rattle.std.specs.Borrow.{Bor}
 use Rattle.action_terms.specs.Actions.{Then, Node, Both, Phases, Trapping, Action, node_at}
 use Rattle.action_terms.specs.Performances.{OneOf}
 use Rattle.sort_rules.specs.Procedures.{procedure_of, whole_of}
@@ -98,3 +99,10 @@ pub record ArePut (count : ℕ) (fs : List Frame) (ns : List PlacedNode) : Type 
 abbrev pub handed_to : List ℕ → (ℕ → List ℕ) → List (List ℕ) → List (List ℕ)
 handed_to [] f xs = xs
 handed_to (k ∷ ks) f xs = handed_to ks f (slice_set xs k (f k))
+
+-- lists without where they lie, and the list of a number
+abbrev pub lists_of : List (Bor (List ℕ)) → List (List ℕ)
+lists_of xs = map (λ x. x.now) xs
+
+abbrev pub list_at : List (List ℕ) → ℕ → List ℕ
+list_at xs k = slice_index_or xs k []

@@ -1,13 +1,16 @@
 //! Where nodes find the data that they are given, and where they leave those that they complete with.
-ghost use Rattle.std.specs.Prelude.{◌≡◌, ◌<◌, length, map};
+ghost use Rattle.std.specs.Prelude.{◌≡◌, ℕ, ◌<◌, IfOk, length, map, vec_len};
 ghost use Rattle.action_terms.specs.Actions.{node_at};
 ghost use Rattle.action_terms.specs.Meaning.{action_of};
 ghost use Rattle.frame_layout.specs.Places.{placed_node};
-ghost use Rattle.rv_codegen.specs.Aliases.{back_places, front_places, given_in, out_in, place_at, whole_places};
+ghost use Rattle.rv_codegen.specs.Aliases.{back_places, front_places, given_in, given_of, handed_to, list_at, lists_of, out_in, out_of, place_at, whole_places};
+ghost use Rattle.sort_rules.specs.Procedures.{parts_at};
 
-use crate::node_places::{own_escaped, own_out};
+use crate::node_places::{own_escaped, own_given, own_out};
+use acg_base::Memory;
 use action_terms::{Chain, Graph, NodeView};
 use frame_layout::NodePlaces;
+use std::alloc::Global;
 
 // the words that a node wants, or its own where these are not as many
 fn whole<'a>(own: &'a [u32], wanted: &'a [u32]) -> &'a [u32]
@@ -111,4 +114,105 @@ fn given_of_part<'a>(
         }
         _ => found,
     }
+}
+
+// the parts of a node leave their data by where the node does
+fn pass_outs<'a>(
+    outs: &mut Vec<&'a [u32]>,
+    places: &[NodePlaces<'a>],
+    graph: &Graph<'_>,
+    node: usize,
+)
+    requires node { node < length graph.now.nodes }
+    requires places { length places.now ≡ length graph.now.nodes }
+    requires len { vec_len outs.old ≡ length graph.now.nodes }
+    ensures outs { let n = node_at (action_of graph.now) node in lists_of outs.new.items
+        ≡ handed_to (parts_at n) (out_in (place_at (map placed_node places.now)) n
+        (list_at (lists_of outs.old.items) node)) (lists_of outs.old.items) }
+    ensures len { vec_len outs.new ≡ vec_len outs.old }
+{
+    let wanted = outs[node];
+    match graph.view(node) {
+        NodeView::Furthermore { part } => {
+            outs[part as usize] = out_of_part(places, graph, node, wanted, part);
+        }
+        NodeView::Both { left, right, .. }
+        | NodeView::Phases { left, right, .. }
+        | NodeView::Either { left, right }
+        | NodeView::Trapping { left, right }
+        | NodeView::Branch { left, right, .. } => {
+            outs[left as usize] = out_of_part(places, graph, node, wanted, left);
+            outs[right as usize] = out_of_part(places, graph, node, wanted, right);
+        }
+        _ => {}
+    }
+}
+
+// the parts of a node find their data by where the node does
+fn pass_givens<'a>(
+    givens: &mut Vec<&'a [u32]>,
+    places: &[NodePlaces<'a>],
+    graph: &Graph<'_>,
+    node: usize,
+)
+    requires node { node < length graph.now.nodes }
+    requires places { length places.now ≡ length graph.now.nodes }
+    requires len { vec_len givens.old ≡ length graph.now.nodes }
+    ensures givens { let n = node_at (action_of graph.now) node in lists_of givens.new.items
+        ≡ handed_to (parts_at n) (given_in (place_at (map placed_node places.now)) n
+        (list_at (lists_of givens.old.items) node)) (lists_of givens.old.items) }
+    ensures len { vec_len givens.new ≡ vec_len givens.old }
+{
+    let found = givens[node];
+    match graph.view(node) {
+        NodeView::Furthermore { part } => {
+            givens[part as usize] = given_of_part(places, graph, node, found, part);
+        }
+        NodeView::Both { left, right, .. }
+        | NodeView::Phases { left, right, .. }
+        | NodeView::Either { left, right }
+        | NodeView::Trapping { left, right }
+        | NodeView::Branch { left, right, .. } => {
+            givens[left as usize] = given_of_part(places, graph, node, found, left);
+            givens[right as usize] = given_of_part(places, graph, node, found, right);
+        }
+        _ => {}
+    }
+}
+
+/// Where nodes find what they are given, and where they leave what they complete with, by their
+/// numbers.
+pub(crate) struct DataTables<'a> {
+    /// Where each finds what it is given.
+    pub(crate) given: Vec<&'a [u32]>,
+    /// Where each leaves what it completes with.
+    pub(crate) out: Vec<&'a [u32]>,
+}
+
+/// The tables of an action, by the places of its nodes, which stand at their numbers.
+pub(crate) fn data_tables<'a>(
+    alloc: Global,
+    graph: &Graph<'_>,
+    places: &[NodePlaces<'a>],
+) -> Result<DataTables<'a>, Memory>
+    requires { length places.now ≡ length graph.now.nodes }
+    ensures given { IfOk result (λ t. (k : ℕ) → k < length graph.now.nodes
+        → list_at (lists_of t.given.items) k
+        ≡ given_of (place_at (map placed_node places.now)) (action_of graph.now) k) }
+    ensures out { IfOk result (λ t. (k : ℕ) → k < length graph.now.nodes
+        → list_at (lists_of t.out.items) k
+        ≡ out_of (place_at (map placed_node places.now)) (action_of graph.now) k) }
+{
+    let count = graph.nodes().len();
+    let mut given = Vec::with_capacity(alloc, count)?;
+    let mut out = Vec::with_capacity(alloc, count)?;
+    for node in 0..count {
+        given.push(own_given(places, node as u32))?;
+        out.push(own_out(places, node as u32))?;
+    }
+    for node in 0..count {
+        pass_givens(&mut given, places, graph, node);
+        pass_outs(&mut out, places, graph, node);
+    }
+    Ok(DataTables { given, out })
 }
