@@ -1,5 +1,5 @@
 -- Tables of places, handed down from nodes to their parts, one node after the other.
-use Rattle.std.proofs.Common.{◌≡◌, ◌⊎◌, ℕ, zero, suc, ◌+◌, ◌<◌, ◌≤◌, Bool, true, false, List, [], ◌∷◌, ◌++◌, length, get_or, map, set, refl, sym, ap, subst, ◌∙◌, arith, inl, inr, length-set, get_or-set_same, get_or-set_other}
+use Rattle.std.proofs.Common.{◌≡◌, ℕ, ◌+◌, ◌<◌, ◌≤◌, Bool, true, false, List, [], ◌∷◌, ◌++◌, length, get_or, map, set, refl, sym, ap, subst, ◌∙◌, arith, inl, inr, length-set, get_or-set_same, get_or-set_other}
 use Rattle.std.specs.Prelude.{Option, Some, None, if◌then◌else◌, nat_eq, ◌||◌}
 use Rattle.std.specs.Borrow.{Bor}
 use Rattle.std.proofs.lemmas.Bool.Decides.{eqb_tells}
@@ -39,9 +39,9 @@ handed_to-at [] f xs c within = refl
 handed_to-at (k ∷ ks) f xs c within =
     handed_to-at ks f (set xs k (f k)) c (omega (arith, length-set xs k (f k))) ∙ elim (eqb_tells c k) [
       | inl same ↦ (let read : list_at (set xs k (f k)) c ≡ f c = ap (λ (i : ℕ). list_at (set xs k (f k)) i) same.1 ∙ get_or-set_same xs k (f k) [] (omega (arith, same.1)) ∙ ap f (sym same.1) in
-      listed (nat_eq c k) (is_listed c ks) (list_at (set xs k (f k)) c) same.0 read)
+          listed (nat_eq c k) (is_listed c ks) (list_at (set xs k (f k)) c) same.0 read)
       | inr other ↦ (let read : list_at (set xs k (f k)) c ≡ list_at xs c = get_or-set_other xs k c (f k) [] other.1 in
-      unlisted (nat_eq c k) (is_listed c ks) (list_at (set xs k (f k)) c) other.0 read)
+          unlisted (nat_eq c k) (is_listed c ks) (list_at (set xs k (f k)) c) other.0 read)
     ]
   where
     listed : (b d : Bool) (x : List ℕ) → b ≡ true → x ≡ f c → (if d then f c else x) ≡ (if b || d then f c else list_at xs c)
@@ -93,7 +93,7 @@ module _ (a : Action) (trees : HasTrees a) (part : Node → List ℕ → ℕ →
         let parts = parts_at (node_at a k) in
         let f : ℕ → List ℕ = part (node_at a k) (list_at xs k) in
         let at : (c : ℕ) → c < length a → list_at (handed_to parts f xs) c ≡ (if is_listed c parts then f c else list_at xs c)
-            = λ c less. handed_to-at parts f xs c (omega (arith, below.long)) in
+        = λ c less. handed_to-at parts f xs c (omega (arith, below.long)) in
         record {
           long = length-handed_to parts f xs ∙ below.long;
           found = λ c j less e early. at c less ∙ found (is_listed c parts) c j less e early (is_listed_of c parts) (λ m. listed_of c parts m);

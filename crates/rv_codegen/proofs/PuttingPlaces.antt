@@ -1,5 +1,5 @@
 -- The places of nodes, each put at its number.
-use Rattle.std.proofs.Common.{◌≡◌, ◌≢◌, ◌⊎◌, ℕ, zero, suc, ◌+◌, ◌<◌, ◌≤◌, List, [], ◌∷◌, drop, get_or, length, map, set, refl, sym, ap, subst, ◌∙◌, arith, inl, inr, get_or-set_other, get_or-set_same, length-set}
+use Rattle.std.proofs.Common.{◌≡◌, ℕ, zero, suc, ◌+◌, ◌<◌, List, [], ◌∷◌, drop, get_or, length, map, set, refl, sym, ap, subst, ◌∙◌, arith, inl, inr, get_or-set_other, get_or-set_same, length-set}
 use Rattle.std.proofs.lemmas.Bool.Decides.{eqb_tells}
 use Rattle.std.proofs.lemmas.List.{drop_more, map-set}
 use Rattle.std.specs.Prelude.{filter, nat_eq, true}
@@ -62,7 +62,7 @@ kept-each : (ms ns : List PlacedNode) (n : PlacedNode) → ((m : PlacedNode) →
 kept-each [] ns n one within at = at
 kept-each (m ∷ ms) ns n one within at = kept-each ms (set ns m.node m) n (λ k x. one k (Later x)) (omega (arith, within, length-set ns m.node m)) (elim (eqb_tells n.node m.node) [
   | inl same ↦ (let is = one m Here (sym same.1) in
-    ap (λ (i : ℕ). get_or (set ns m.node m) i nowhere) same.1 ∙ get_or-set_same ns m.node m nowhere (omega (arith, within, same.1)) ∙ is)
+      ap (λ (i : ℕ). get_or (set ns m.node m) i nowhere) same.1 ∙ get_or-set_same ns m.node m nowhere (omega (arith, within, same.1)) ∙ is)
   | inr other ↦ get_or-set_other ns m.node n.node m nowhere other.1 ∙ at
 ])
 
@@ -118,7 +118,7 @@ module _ (a : Action) (t : MarkedTable) (fs : List Frame) (laid : IsLayout a t f
       let same : g ≡ f = one-frame fs g f roots-rise y x (sym gr ∙ ap (procedure_of a) (sym e) ∙ fr) in
       let frame : IsFrame a t f = All-member (IsFrame a t) f fs x laid.frames in
       let rise : Rising (map (λ (k : PlacedNode). k.node) f.nodes) =
-          subst Rising (sym (frame.listed ∙ ap (filter (λ k. nat_eq (procedure_of a k) f.root)) (node_numbers-range a))) (filter-rising (λ k. nat_eq (procedure_of a k) f.root) 0 (length a)) in
+      subst Rising (sym (frame.listed ∙ ap (filter (λ k. nat_eq (procedure_of a k) f.root)) (node_numbers-range a))) (filter-rising (λ k. nat_eq (procedure_of a k) f.root) 0 (length a)) in
       one-with_key (λ (k : PlacedNode). k.node) f.nodes m n rise mx (subst (λ (h : Frame). OneOf n h.nodes) same ny) e
 
   pub put-by_number : (ns : List PlacedNode) → ArePut (length a) fs ns → AreByNumber a fs ns

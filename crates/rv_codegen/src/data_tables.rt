@@ -16,7 +16,11 @@ use std::alloc::Global;
 fn whole<'a>(own: &'a [u32], wanted: &'a [u32]) -> &'a [u32]
     ensures { result.now ≡ whole_places own.now wanted.now }
 {
-    if own.len() == wanted.len() { wanted } else { own }
+    if own.len() == wanted.len() {
+        wanted
+    } else {
+        own
+    }
 }
 
 // the first words of those that a node wants for two parts, or the own ones of the first part

@@ -1,4 +1,4 @@
-use Rattle.std.proofs.Common.{◌≡◌, length, map, vec_len}
+use Rattle.std.proofs.Common.{◌≡◌, map, vec_len}
 use Rattle.std.specs.List.{range_with_len}
 use Rattle.action_terms.specs.Meaning.{action_of}
 use Rattle.frame_layout.specs.Places.{placed_node}

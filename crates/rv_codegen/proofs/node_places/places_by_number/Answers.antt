@@ -1,4 +1,4 @@
-use Rattle.std.proofs.Common.{arith, drop, get_or, map, sym, ◌∙◌, ◌<◌}
+use Rattle.std.proofs.Common.{arith, get_or, map, ◌∙◌}
 use Rattle.frame_layout.specs.Places.{frame_of, placed_node}
 use Rattle.rv_codegen.proofs.PuttingPlaces.{member-at, no_procedure, put-procedure}
 use Rattle.rv_codegen.proofs.node_places.places_by_number.Goals as goal
