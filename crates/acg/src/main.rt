@@ -1,11 +1,11 @@
 //! The program: serves its arguments over the folder and standard output.
 #![tactic(auto)]
 
-ghost use Rattle.std.specs.Prelude.{◌≡◌, ◌≢◌, [], drop, IfOk, OnErr};
+ghost use Rattle.std.specs.Prelude.{◌≡◌, ◌≢◌, [], drop, IfOk, OnOk, OnErr};
 ghost use Rattle.std.specs.Process.{exit_status};
 ghost use Rattle.std.specs.Vec.Iter.{into_iter_items};
-ghost use Rattle.acg.specs.Arguments.{words_of};
-ghost use Rattle.acg.specs.Exits.{Exits};
+ghost use Rattle.acg.specs.Arguments.{words_of, AreUnkept};
+ghost use Rattle.acg.specs.Exits.{Exits, ExitsUnserved};
 
 use acg_base::{CountingWriter, FolderStore, OutSink, Sink, Status, Store, Words, WorkingFolder};
 use acg_driver::serve;
@@ -32,6 +32,7 @@ fn without_first(alloc: Global, args: Args) -> Result<Vec<String>, AllocError>
 fn words_of(alloc: Global, args: io::Result<Args>) -> Result<Words, AllocError>
     ensures ok { IfOk result (λ words. words ≡ words_of args) }
     ensures err { OnErr result (words_of args ≢ []) }
+    ensures kept { OnOk result (¬ (AreUnkept args)) }
 {
     match args {
         Ok(args) => Ok(Words::new(without_first(alloc, args)?)),
@@ -52,7 +53,11 @@ fn serve_arguments<S: Store, K: Sink>(
     store: &mut S,
     out: &mut K,
 ) -> ExitCode
-    ensures { Exits S.Store K.Sink (words_of args)
+    ensures ends { Exits S.Store K.Sink (words_of args)
+        store.old store.new out.old out.new (exit_status result) }
+
+    // Where there was no memory for the arguments themselves, no words are served.
+    ensures unkept { AreUnkept args → ExitsUnserved (words_of args)
         store.old store.new out.old out.new (exit_status result) }
 {
     match words_of(alloc, args) {

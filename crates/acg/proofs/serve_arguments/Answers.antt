@@ -4,8 +4,8 @@ use Rattle.std.specs.Process.{exit_status}
 use Rattle.acg.specs.Exits.{ExitsServed}
 use Rattle.acg.proofs.serve_arguments.Goals as goal
 
-pub returns-in-Ok : goal.returns-in-Ok
-returns-in-Ok g c =
+pub returns-in-Ok-clause-ends : goal.returns-in-Ok-clause-ends
+returns-in-Ok-clause-ends g c =
     let ServedFor : List (List ℕ) → Type 0 = λ words. ExitsServed g.S.Store g.K.Sink words c.args.store.now c.serve.new.store c.args.out.now c.serve.new.out (exit_status c.from.result) in
     inl (subst ServedFor c.in-Ok.ensures.ok (record {
       answered = c.serve.result;
@@ -16,10 +16,21 @@ returns-in-Ok g c =
       idle = c.serve.ensures.idle;
     }))
 
-pub returns-in-Err : goal.returns-in-Err
-returns-in-Err g c = inr (record {
+pub returns-in-Ok-clause-unkept : goal.returns-in-Ok-clause-unkept
+returns-in-Ok-clause-unkept g c = λ unkept. absurd (c.in-Ok.ensures.kept unkept)
+
+pub returns-in-Err-clause-ends : goal.returns-in-Err-clause-ends
+returns-in-Err-clause-ends g c = inr (record {
   some = c.in-Err.ensures.err;
   number = c.from-in-Err.ensures ∙ c.code-in-Err.ensures;
   store = refl;
   sink = refl;
 })
+
+pub returns-in-Err-clause-unkept : goal.returns-in-Err-clause-unkept
+returns-in-Err-clause-unkept g c = λ _. record {
+  some = c.in-Err.ensures.err;
+  number = c.from-in-Err.ensures ∙ c.code-in-Err.ensures;
+  store = refl;
+  sink = refl;
+}
