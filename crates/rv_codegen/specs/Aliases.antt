@@ -13,20 +13,28 @@ whole_places own wanted = if nat_eq (length own) (length wanted) then wanted els
 
 -- two nodes leave their data one behind the other
 abbrev pub front_places : (first second wanted : List ℕ) → List ℕ
-front_places first second wanted = if nat_eq (length first + length second) (length wanted) then take (length first) wanted else first
+front_places first second wanted =
+    if nat_eq (length first + length second) (length wanted) then take (length first) wanted else first
 
 abbrev pub back_places : (first second wanted : List ℕ) → List ℕ
-back_places first second wanted = if nat_eq (length first + length second) (length wanted) then drop (length first) wanted else second
+back_places first second wanted =
+    if nat_eq (length first + length second) (length wanted) then drop (length first) wanted else second
 
 -- one of two parts
 abbrev pub of_part : {A : Type 0} → (l k : ℕ) → A → A → A
 of_part l k first second = if nat_eq k l then first else second
 
+-- of two parts that leave their data one behind the other
+abbrev pub joined_in : (ℕ → PlacedNode) → (l r : ℕ) → (wanted : List ℕ) → (k : ℕ) → List ℕ
+joined_in p l r os k =
+    of_part l k (front_places (p l).data_out (p r).data_out os)
+    (back_places (p l).data_out (p r).data_out os)
+
 -- where part k of a node leaves its data, where the node leaves its own at these words. What is left for the second part of `then` has words of its own
 abbrev pub out_in : (ℕ → PlacedNode) → Node → (wanted : List ℕ) → (k : ℕ) → List ℕ
-out_in p (Both j l r) os k = of_part l k (front_places (p l).data_out (p r).data_out os) (back_places (p l).data_out (p r).data_out os)
+out_in p (Both j l r) os k = joined_in p l r os k
 out_in p (Phases Then l r) os k = of_part l k (p l).data_out (whole_places (p r).data_out os)
-out_in p (Phases q l r) os k = of_part l k (front_places (p l).data_out (p r).data_out os) (back_places (p l).data_out (p r).data_out os)
+out_in p (Phases q l r) os k = joined_in p l r os k
 out_in p _ os k = whole_places (p k).data_out os
 
 -- where part k of a node finds its data, where the node finds its own at these words
@@ -36,14 +44,17 @@ given_in p (Trapping l r) gs k = of_part l k gs (p l).escaped
 given_in p _ gs k = gs
 
 -- from the node of which k is a part, or its own words where there is none
-abbrev pub from_whole : (Node → List ℕ → ℕ → List ℕ) → Action → (ℕ → List ℕ) → (own : List ℕ) → (k : ℕ) → Option ℕ → List ℕ
+abbrev pub from_whole : (Node → List ℕ → ℕ → List ℕ) → Action → (ℕ → List ℕ) → (own : List ℕ)
+    → (k : ℕ) → Option ℕ → List ℕ
 from_whole part a above own k (Some n) = part (node_at a n) (above n) k
 from_whole part a above own k None = own
 
 -- so it is handed down from the root, by at most so many steps
-abbrev pub handed_at : (Node → List ℕ → ℕ → List ℕ) → (own : ℕ → List ℕ) → Action → (steps k : ℕ) → List ℕ
+abbrev pub handed_at : (Node → List ℕ → ℕ → List ℕ) → (own : ℕ → List ℕ) → Action
+    → (steps k : ℕ) → List ℕ
 handed_at part own a zero k = own k
-handed_at part own a (suc m) k = from_whole part a (handed_at part own a m) (own k) k (whole_of a k)
+handed_at part own a (suc m) k =
+    from_whole part a (handed_at part own a m) (own k) k (whole_of a k)
 
 -- where node k leaves its data, and where it finds what it is given
 abbrev pub out_of : (ℕ → PlacedNode) → Action → ℕ → List ℕ
@@ -54,12 +65,14 @@ given_of p a k = handed_at (given_in p) (λ j. (p j).data_in) a k k
 
 -- the words that the code of a node itself may write: of its data, its bindings and what it escapes with, and of its record
 abbrev pub IsOwn : PlacedNode → ℕ → Type 0
-IsOwn n x = OneOf x n.data_out ⊎ (OneOf x n.binds_out ⊎ (OneOf x n.escaped ⊎ OneOf x (record_words n.keep)))
+IsOwn n x =
+    OneOf x n.data_out ⊎ (OneOf x n.binds_out ⊎ (OneOf x n.escaped ⊎ OneOf x (record_words n.keep)))
 
 -- the words that may be written while node k is performed: those of the nodes in it, those where it leaves its data, and all behind its frame
 abbrev pub MayWrite : (ℕ → PlacedNode) → Action → (words : ℕ → ℕ) → (k x : ℕ) → Type 0
 MayWrite p a words k x =
-    ((j : ℕ) × (j < length a) × IsIn a k j × IsOwn (p j) x) ⊎ (OneOf x (out_of p a k) ⊎ (words (procedure_of a k) ≤ x))
+    ((j : ℕ) × (j < length a) × IsIn a k j × IsOwn (p j) x)
+    ⊎ (OneOf x (out_of p a k) ⊎ (words (procedure_of a k) ≤ x))
 
 -- a node that has no words
 abbrev pub nowhere : PlacedNode
