@@ -1,5 +1,5 @@
 -- Bits of words.
-use Rattle.std.proofs.Common.{◌≡◌, ◌≢◌, max, ◌⊎◌, inl, inr, ℕ, zero, suc, ◌*◌, ◌/◌, ◌%◌, ◌^◌, ◌<◌, List, length, slice_set, get_or, get_or-set_same, get_or-set_other, eqb, true, ◌∙◌, sym, ap, refl, arith, eq-eqb, eqb-true}
+use Rattle.std.proofs.Common.{◌≡◌, ◌≢◌, max, ◌⊎◌, inl, inr, ℕ, zero, suc, ◌*◌, ◌/◌, ◌%◌, ◌^◌, ◌<◌, List, [], length, slice_set, get_or, get_or-set_same, get_or-set_other, eqb, true, ◌∙◌, sym, ap, subst, refl, arith, eq-eqb, eqb-true}
 use Rattle.std.proofs.lemmas.Bool.Decides.{eqb_tells}
 use Rattle.std.proofs.lemmas.Nat.Bits.{bit_at_or, bit_at-zero, shr_and_one, bit_at_set_same, bit_at_set_other}
 use Rattle.std.specs.Prelude.{bit_and, bit_or, ◌↔◌, replicate}
@@ -69,3 +69,19 @@ zeros (suc n) (suc k) = zeros n k
 pub none_there : (n e : ℕ) → Has (replicate n 0) e → ⊥
 unfolding Has
 none_there n e h = absurd (let z : bit_at (get_or (replicate n 0) (e / 64) 0) (e % 64) ≡ 0 = ap (λ x. bit_at x (e % 64)) (zeros n (e / 64)) ∙ bit_at-zero (e % 64) in omega (arith, z, h))
+
+pub none_in : (e : ℕ) → Has [] e → ⊥
+unfolding Has
+none_in e h = absurd (let z : bit_at (get_or [] (e / 64) 0) (e % 64) ≡ 0 = bit_at-zero (e % 64) in omega (arith, z, h))
+
+-- a word to which a row adds nothing has the bits of that row
+pub covered : (row other : List ℕ) (k e : ℕ) → bit_or (get_or row k 0) (get_or other k 0) ≡ get_or other k 0 → e / 64 ≡ k → Has row e → Has other e
+unfolding Has
+covered row other k e same at h =
+    let word : bit_or (get_or row (e / 64) 0) (get_or other (e / 64) 0) ≡ get_or other (e / 64) 0 = subst (λ (j : ℕ). bit_or (get_or row j 0) (get_or other j 0) ≡ get_or other j 0) (sym at) same in
+    (one_of (bit_at (get_or row (e / 64) 0) (e % 64)) (bit_at (get_or other (e / 64) 0) (e % 64)) (bit_at (get_or other (e / 64) 0) (e % 64)) (bit_small _ _) (bit_small _ _)
+    (ap (λ x. bit_at x (e % 64)) (sym word) ∙ bit_at_or _ _ (e % 64))).1 (inl h)
+
+pub has_or_not : (row : List ℕ) (e : ℕ) → Has row e ⊎ (Has row e → ⊥)
+unfolding Has
+has_or_not row e = elim (eqb_tells (bit_at (get_or row (e / 64) 0) (e % 64)) 1) [ inl h ↦ inl h.1 | inr d ↦ inr d.1 ]

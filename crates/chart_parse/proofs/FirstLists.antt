@@ -128,8 +128,9 @@ one_place g w done p v row le first len wide lists one = record {
 stays_there : (g : Numbered) (w : List LexKind) (n e c i : ℕ) → c ≡ n → e ≡ i → Grows g w n e c i
 stays_there g w n e c i p q = subst (λ (m : ℕ). Grows g w m e c i) p (subst (λ (j : ℕ). Grows g w c j c i) (sym q) Stays)
 
-pub first_part : (g : Numbered) (w : List LexKind) (p : Places) → AreFirst g w (length w + 1) p → IsPart g w p
-first_part g w p first = record {
+pub first_part : (g : Numbered) (w : List LexKind) (p : Places) → length g < 4294967296 → AreFirst g w (length w + 1) p → IsPart g w p
+first_part g w p few first = record {
+  few = few;
   count = first.count;
   tables = λ i le. first.tables i (omega arith);
   wide = λ i c. first.wide i c;

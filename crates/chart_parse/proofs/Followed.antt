@@ -1,5 +1,5 @@
 -- The steps of following parts.
-use Rattle.std.proofs.Common.{◌≡◌, ◌⊎◌, inl, inr, ℕ, ◌+◌, ◌<◌, ◌≤◌, List, [], ◌∷◌, ◌++◌, length, refl, sym, subst, arith}
+use Rattle.std.proofs.Common.{◌≡◌, ◌⊎◌, inl, inr, ℕ, ◌+◌, ◌<◌, ◌≤◌, List, [], ◌∷◌, ◌++◌, Contains, length, refl, sym, subst, arith}
 use Rattle.std.specs.Prelude.{◌↔◌}
 use Rattle.std.proofs.lemmas.Bool.Decides.{eqb_tells}
 use Rattle.std.proofs.lemmas.Option.{slice_get_within}
@@ -8,8 +8,9 @@ use Rattle.source_lex.specs.declared.numbered.Symbol.{Symbol}
 use Rattle.source_lex.specs.declared.numbered.Symbol.TheVariants.{Word, Phrase}
 use Rattle.source_lex.specs.declared.lexeme.LexKind.{LexKind}
 use Rattle.chart_parse.specs.declared.rows.Entry.{Entry}
-use Rattle.chart_parse.specs.Rows.{Has, Lists}
-use Rattle.chart_parse.specs.Places.{Places, Advances, AdvancesFrom, RunsTo}
+use Rattle.std.proofs.lemmas.List.Elements.{Contains-append_left, Contains-push, Contains-push_cases}
+use Rattle.chart_parse.specs.Rows.{Has, Lists, IsExtra}
+use Rattle.chart_parse.specs.Places.{Places, Advances, AdvancesFrom, RunsTo, IsNoWord}
 use Rattle.chart_parse.proofs.Lists.{push_lists}
 
 -- one entry more
@@ -25,30 +26,30 @@ ends_more old mid new taken x n e a b = let p = push_lists taken x n e in (
   ],
 )
 
--- the part leads to e from a place below h that the row has
-abbrev pub AdvancesBelow : (g : Numbered) (w : List LexKind) → Places → Symbol → List ℕ → (h e : ℕ) → Type 0
-AdvancesBelow g w p part row h e = (k : ℕ) × (k < h) × Has row k × Advances g w p part k e
+-- the part leads to e from a place of the list
+abbrev pub AdvancesAmong : (g : Numbered) (w : List LexKind) → Places → Symbol → List ℕ → (e : ℕ) → Type 0
+AdvancesAmong g w p part list e = (k : ℕ) × Contains list k × Advances g w p part k e
 
-pub below_none : (g : Numbered) (w : List LexKind) (p : Places) (part : Symbol) (row : List ℕ) (none : List ℕ) (e : ℕ) → (Has none e → ⊥) → Has none e ↔ AdvancesBelow g w p part row 0 e
-below_none g w p part row none e h = (λ x. absurd (h x), λ x. absurd (let y = x.1 in omega arith))
+pub among_none : (g : Numbered) (w : List LexKind) (p : Places) (part : Symbol) (none : List ℕ) (e : ℕ) → (Has none e → ⊥) → Has none e ↔ AdvancesAmong g w p part [] e
+among_none g w p part none e h = (λ x. absurd (h x), λ x. absurd (let lt = x.1.1 in omega arith))
 
 -- one place more
-pub below_next : (g : Numbered) (w : List LexKind) (p : Places) (part : Symbol) (row mid new : List ℕ) (h e : ℕ) → (Has mid e ↔ AdvancesBelow g w p part row h e) → (Has new e ↔ (Has mid e ⊎ (Has row h × Advances g w p part h e))) → Has new e ↔ AdvancesBelow g w p part row (h + 1) e
-below_next g w p part row mid new h e a b = (
+pub among_next : (g : Numbered) (w : List LexKind) (p : Places) (part : Symbol) (list mid new : List ℕ) (h e : ℕ) → (Has mid e ↔ AdvancesAmong g w p part list e) → (Has new e ↔ (Has mid e ⊎ Advances g w p part h e)) → Has new e ↔ AdvancesAmong g w p part (list ++ h ∷ []) e
+among_next g w p part list mid new h e a b = (
   λ x. elim (b.0 x) [
-    | inl m ↦ let q = a.0 m in (q.0, (let lt = q.1 in omega arith), q.2, q.3)
-    | inr q ↦ (h, omega arith, q.0, q.1)
+    | inl m ↦ let q = a.0 m in (q.0, Contains-append_left list (h ∷ []) q.0 q.1, q.2)
+    | inr q ↦ (h, Contains-push list h, q)
   ],
-  λ x. elim (eqb_tells x.0 h) [
-    | inl s ↦ b.1 (inr (subst (λ (k : ℕ). Has row k × Advances g w p part k e) s.1 (x.2, x.3)))
-    | inr d ↦ b.1 (inl (a.1 (x.0, (let lt = x.1 in omega (arith, d.1)), x.2, x.3)))
+  λ x. elim (Contains-push_cases list h x.0 x.1) [
+    | inl o ↦ b.1 (inl (a.1 (x.0, o, x.2)))
+    | inr s ↦ b.1 (inr (subst (λ (k : ℕ). Advances g w p part k e) (sym s) x.2))
   ],
 )
 
-pub below_all : (g : Numbered) (w : List LexKind) (p : Places) (part : Symbol) (row ends : List ℕ) (h e : ℕ) → h ≡ length w + 1 → (Has ends e ↔ AdvancesBelow g w p part row h e) → Has ends e ↔ AdvancesFrom g w p part row e
-below_all g w p part row ends h e q a = (
-  λ x. let y = a.0 x in (y.0, (let lt = y.1 in omega arith), y.2, y.3),
-  λ x. a.1 (x.0, (let le = x.1 in omega arith), x.2, x.3),
+pub among_all : (g : Numbered) (w : List LexKind) (p : Places) (part : Symbol) (row none list ends : List ℕ) (e : ℕ) → ((k : ℕ) → Has none k → ⊥) → ((k : ℕ) → Contains list k ↔ IsExtra (length w + 1) row none k) → (Has ends e ↔ AdvancesAmong g w p part list e) → Has ends e ↔ AdvancesFrom g w p part row e
+among_all g w p part row none list ends e empty each a = (
+  λ x. let y = a.0 x in let q = (each y.0).0 y.1 in (y.0, (let lt = q.0 in omega arith), q.1, y.2),
+  λ x. a.1 (x.0, (each x.0).1 ((let le = x.1 in omega arith), x.2, empty x.0), x.3),
 )
 
 pub advance_within : (g : Numbered) (w : List LexKind) (p : Places) (part : Symbol) (k h : ℕ) → Advances g w p part k h → h ≤ length w
@@ -86,3 +87,9 @@ run_last g w p parts qs start e row le f a = (
   λ h. a.1 (e, le, h, subst (λ (r : Alternative). RunsTo g w p r e e) (sym f) refl),
   λ h. let x = a.0 h in subst (λ (k : ℕ). Has row k) (subst (λ (r : Alternative). RunsTo g w p r x.0 e) f x.3) x.2,
 )
+
+-- a word of another kind leads nowhere
+pub no_word : (g : Numbered) (w : List LexKind) (p : Places) (parts : Alternative) (at e : ℕ) → IsNoWord w parts at → RunsTo g w p parts at e → ⊥
+no_word g w p [] at e h run = h
+no_word g w p (Word c ∷ rest) at e h run = h run.1.0
+no_word g w p (Phrase c ∷ rest) at e h run = h

@@ -10,3 +10,5 @@ pub mod Followed
 pub mod Rounds
 pub mod FirstLists
 pub mod Stored
+pub mod NearRows
+pub mod Collected

@@ -1,5 +1,5 @@
 -- The steps of a round.
-use Rattle.std.proofs.Common.{◌≡◌, inl, inr, ℕ, zero, suc, ◌+◌, ◌<◌, ◌≤◌, List, [], ◌∷◌, length, map, get_or, slice_get, Some, refl, sym, ap, subst, arith, ◌∙◌}
+use Rattle.std.proofs.Common.{◌≡◌, inl, inr, ℕ, zero, suc, ◌+◌, ◌<◌, ◌≤◌, List, [], ◌∷◌, length, map, get_or, slice_get, Some, refl, sym, ap, subst, arith, ◌∙◌, Vec, Global}
 use Rattle.std.specs.Prelude.{◌↔◌}
 use Rattle.std.proofs.lemmas.Bool.Decides.{eqb_tells}
 use Rattle.std.specs.Borrow.{Bor}
@@ -10,7 +10,8 @@ use Rattle.source_lex.specs.declared.numbered.Symbol.TheVariants.{Word, Phrase}
 use Rattle.source_lex.specs.declared.lexeme.LexKind.{LexKind}
 use Rattle.chart_parse.specs.Rows.{Has}
 use Rattle.chart_parse.specs.Growths.{Grows, Steps}
-use Rattle.chart_parse.specs.Places.{Places, IsListed, IsTrueOf, RunsTo, IsPart, IsSame, IsAdded, Follows, IsMet, IsRule, IsClosedAt, BeginsOther, alternatives_in}
+use Rattle.chart_parse.specs.Places.{Places, IsListed, IsTrueOf, RunsTo, IsPart, IsSame, IsAdded, Follows, IsMet, IsRule, IsClosedAt, BeginsOther, AreNear, row_at, alternatives_in}
+use Rattle.chart_parse.proofs.Bits.{has_or_not}
 use Rattle.chart_parse.proofs.LeftCorners.{leaf_there}
 use Rattle.chart_parse.proofs.EndsOfParts.{listed_kept, run_kept, run_true, run_within, closed_kept}
 
@@ -48,21 +49,31 @@ pub met_phrase : (g : Numbered) (w : List LexKind) (p : Places) (k m c : ℕ) (p
 met_phrase g w p k m c parts rest f h = subst (λ (x : Alternative). IsMet g w p k m x) (sym f) h
 
 -- an end where nothing was more has what grows there
-pub end_step : (w : List LexKind) (p q r : Places) (l m k c : ℕ) (row : List ℕ) → IsSame p q → IsSame q r → ((n e : ℕ) → Has row l → IsListed w q l m n e → IsListed w r k c n e) → (n e : ℕ) → Has row l → IsListed w p l m n e → IsListed w p k c n e
-end_step w p q r l m k c row a b h n e has x =
-    listed_kept w r p k c n e (sym (same_more p q r a b k c)) (h n e has (listed_kept w p q l m n e (a l m) x))
+pub growths_step : (w : List LexKind) (p q r : Places) (l m k c n e : ℕ) → IsSame p q → IsSame q r → (IsListed w q l m n e → IsListed w r k c n e) → IsListed w p l m n e → IsListed w p k c n e
+growths_step w p q r l m k c n e a b h x =
+    listed_kept w r p k c n e (sym (same_more p q r a b k c)) (h (listed_kept w p q l m n e (a l m) x))
 
 -- where nothing was more at any end, the rule is followed
-pub run_follows : (g : Numbered) (w : List LexKind) (p q : Places) (k m : ℕ) (parts : Alternative) (c : ℕ) (row : List ℕ) → IsPart g w q → IsSame p q → k ≤ length w
-    → ((l : ℕ) → l ≤ length w → Has row l ↔ RunsTo g w p parts k l) → ((l : ℕ) → l ≤ length w → (n e : ℕ) → Has row l → IsListed w p l m n e → IsListed w p k c n e) → Follows g w q k m parts c
-run_follows g w p q k m parts c row part same le ends each l n e run x =
+pub run_follows : (g : Numbered) (w : List LexKind) (p q : Places) (k m : ℕ) (parts : Alternative) (c : ℕ) → IsPart g w q → IsSame p q → k ≤ length w
+    → ((l n e : ℕ) → l ≤ length w → RunsTo g w p parts k l → IsListed w p l m n e → IsListed w p k c n e) → Follows g w q k m parts c
+run_follows g w p q k m parts c part same le each l n e run x =
     let old : RunsTo g w p parts k l = run_kept g w 0 q p part (λ i d _. sym (same i d)) parts k l (omega arith) run in
     let within : l ≤ length w = run_within g w p parts k l le old in
-    listed_kept w p q k c n e (same k c) (each l within n e ((ends l within).1 old) (listed_kept w q p l m n e (sym (same l m)) x))
+    listed_kept w p q k c n e (same k c) (each l n e within old (listed_kept w q p l m n e (sym (same l m)) x))
+
+-- a list that has the nonterminal itself at an end, and what grows at each end that isn't near, has what grows at that end
+pub near_or_far : (g : Numbered) (w : List LexKind) (p : Places) (k m c l n e first : ℕ) (near : List (Vec ℕ Global)) → AreNear g w p first near → l ≤ length w
+    → IsListed w p k c m l → ((Has (row_at near m) l → ⊥) → IsListed w p l m n e → IsListed w p k c n e) → IsListed w p l m n e → IsListed w p k c n e
+near_or_far g w p k m c l n e first near all le itself far x = elim (has_or_not (row_at near m) l) [
+  | inl h ↦
+      let a = all.alone m l n e le h x in
+      subst (λ (i : ℕ). IsListed w p k c i e) (sym a.0) (subst (λ (i : ℕ). IsListed w p k c m i) (sym a.1) itself)
+  | inr h ↦ far h x
+]
 
 -- where the parts end is true
-pub end_right : (g : Numbered) (w : List LexKind) (p : Places) (k m : ℕ) (parts : Alternative) (c l : ℕ) (row : List ℕ) → IsPart g w p → l ≤ length w → (Has row l ↔ RunsTo g w p parts k l) → IsRule g w k m parts c → (n e : ℕ) → Has row l → Grows g w n e m l → IsTrueOf g w c k n e
-end_right g w p k m parts c l row part le ends right n e has more = right l n e (run_true g w p parts k l part (ends.0 has)) more
+pub end_right : (g : Numbered) (w : List LexKind) (p : Places) (k m : ℕ) (parts : Alternative) (c l : ℕ) → IsPart g w p → RunsTo g w p parts k l → IsRule g w k m parts c → (n e : ℕ) → Grows g w n e m l → IsTrueOf g w c k n e
+end_right g w p k m parts c l part run right n e more = right l n e (run_true g w p parts k l part run) more
 
 slice_get_map : {A B : Type 0} (f : A → B) (xs : List A) (k : ℕ) (d : A) → k < length xs → slice_get (map f xs) k ≡ Some (f (get_or xs k d))
 slice_get_map f [] k d lt = absurd (omega arith)

@@ -7,7 +7,6 @@ use Rattle.source_lex.specs.declared.lexeme.LexKind.{LexKind}
 use Rattle.chart_parse.specs.declared.rows.Entry.{Entry}
 use Rattle.chart_parse.specs.Rows.{Lists, AreWide, ListsBoth}
 use Rattle.chart_parse.specs.Table.{list_at, AllWide}
-use Rattle.chart_parse.specs.Growths.{Grows}
 use Rattle.chart_parse.specs.Places.{Places, lists_of, list_of, width_of, IsListed, IsTrueOf, IsPart, IsSame, IsAdded}
 
 pub place_same : (p : Places) (i : ℕ) (v : Vec (Vec Entry Global) Global) → i < length p → lists_of (slice_set p i v) i ≡ v.items
@@ -31,13 +30,13 @@ place_is (r ∷ rows) (suc i) d h = place_is rows i d (omega arith)
 pub has_bit : (w : List LexKind) (e : ℕ) → e ≤ length w → e < 64 * width_of w
 has_bit w e h = omega arith
 
--- the place k gets the lists v, of which that of c has taken what the list of m at l has
-module _ (g : Numbered) (w : List LexKind) (p : Places) (k c l m : ℕ) (v : Vec (Vec Entry Global) Global)
-    (part : IsPart g w p) (place : k ≤ length w) (number : c ≤ length g) (some : m < length g)
+-- the place k gets the lists v, of which that of c has taken some entries
+module _ (g : Numbered) (w : List LexKind) (p : Places) (k c : ℕ) (taken : List Entry) (v : Vec (Vec Entry Global) Global)
+    (part : IsPart g w p) (place : k ≤ length w) (number : c ≤ length g)
     (len : length v.items ≡ length (lists_of p k))
     (others : (n : ℕ) → n ≢ c → list_at v.items n ≡ list_of p k n)
     (wide : AllWide (width_of w) v.items)
-    (joined : ListsBoth (width_of w) (list_of p k c) (list_of p l m) (list_at v.items c)) where
+    (joined : ListsBoth (width_of w) (list_of p k c) taken (list_at v.items c)) where
   abbrev now : Places
   now = slice_set p k v
 
@@ -57,7 +56,7 @@ module _ (g : Numbered) (w : List LexKind) (p : Places) (k c l m : ℕ) (v : Vec
   here : list_of now k c ≡ list_at v.items c
   here = ap (λ t. list_at t c) at_place
 
-  both : (n e : ℕ) → e ≤ length w → Lists (list_of now k c) n e → Lists (list_of p k c) n e ⊎ Lists (list_of p l m) n e
+  both : (n e : ℕ) → e ≤ length w → Lists (list_of now k c) n e → Lists (list_of p k c) n e ⊎ Lists taken n e
   both n e below h = (joined n e (has_bit w e below)).0 (subst (λ (x : List Entry). Lists x n e) here h)
 
   pub more_listed : (i d n e : ℕ) → IsListed w p i d n e → IsListed w now i d n e
@@ -70,16 +69,16 @@ module _ (g : Numbered) (w : List LexKind) (p : Places) (k c l m : ℕ) (v : Vec
     ],
   )
 
-  pub taken_listed : (n e : ℕ) → IsListed w p l m n e → IsListed w now k c n e
-  taken_listed n e h = (h.0, subst (λ (x : List Entry). Lists x n e) (sym here) ((joined n e (has_bit w e h.0)).1 (inr h.1)))
+  pub taken_listed : (n e : ℕ) → e ≤ length w → Lists taken n e → IsListed w now k c n e
+  taken_listed n e le h = (le, subst (λ (x : List Entry). Lists x n e) (sym here) ((joined n e (has_bit w e le)).1 (inr h)))
 
-  module _ (right : (n e : ℕ) → Grows g w n e m l → IsTrueOf g w c k n e) where
+  module _ (right : (n e : ℕ) → e ≤ length w → Lists taken n e → IsTrueOf g w c k n e) where
     new_true : (i d n e : ℕ) → IsListed w now i d n e → IsTrueOf g w d i n e
     new_true i d n e h = elim (list_cases i d) [
       | inl (s, t) ↦ subst (λ (j : ℕ). IsTrueOf g w d j n e) (sym s) (subst (λ (j : ℕ). IsTrueOf g w j k n e) (sym t)
           (elim (both n e h.0 (subst (λ (j : ℕ). Lists (list_of now j c) n e) s (subst (λ (j : ℕ). Lists (list_of now i j) n e) t h.1))) [
             | inl old ↦ part.sound k c n e (h.0, old)
-            | inr taken ↦ right n e ((part.sound l m n e (h.0, taken)).growth some)
+            | inr more ↦ right n e h.0 more
           ]))
       | inr same ↦ part.sound i d n e (h.0, subst (λ (x : List Entry). Lists x n e) same h.1)
     ]
@@ -99,6 +98,7 @@ module _ (g : Numbered) (w : List LexKind) (p : Places) (k c l m : ℕ) (v : Vec
     pub list_added : IsAdded g w k p now
     list_added = record {
       part = record {
+        few = part.few;
         count = length-set p k v ∙ part.count;
         tables = tables;
         wide = all_wide;
@@ -109,9 +109,9 @@ module _ (g : Numbered) (w : List LexKind) (p : Places) (k c l m : ℕ) (v : Vec
     }
 
 -- the same, by the lists that the place had
-module _ (g : Numbered) (w : List LexKind) (p : Places) (k c l m : ℕ) (was v : Vec (Vec Entry Global) Global) (list : List Entry) (part : IsPart g w p) (place : k ≤ length w) (number : c ≤ length g) (some : m < length g)
-    (is : was ≡ get_or p k was) (from : list ≡ list_of p l m) (len : length v.items ≡ length was.items) (others : (n : ℕ) → n ≢ c → list_at v.items n ≡ list_at was.items n) (wide : AllWide (width_of w) v.items)
-    (joined : ListsBoth (width_of w) (list_at was.items c) list (list_at v.items c)) where
+module _ (g : Numbered) (w : List LexKind) (p : Places) (k c : ℕ) (taken : List Entry) (was v : Vec (Vec Entry Global) Global) (part : IsPart g w p) (place : k ≤ length w) (number : c ≤ length g)
+    (is : was ≡ get_or p k was) (len : length v.items ≡ length was.items) (others : (n : ℕ) → n ≢ c → list_at v.items n ≡ list_at was.items n) (wide : AllWide (width_of w) v.items)
+    (joined : ListsBoth (width_of w) (list_at was.items c) taken (list_at v.items c)) where
   old : lists_of p k ≡ was.items
   old = place_is p k was (omega (arith, part.count)) ∙ sym (ap (λ (x : Vec (Vec Entry Global) Global). x.items) is)
 
@@ -121,16 +121,14 @@ module _ (g : Numbered) (w : List LexKind) (p : Places) (k c l m : ℕ) (was v :
   old_others : (n : ℕ) → n ≢ c → list_at v.items n ≡ list_of p k n
   old_others n ne = others n ne ∙ sym (ap (λ t. list_at t n) old)
 
-  old_joined : ListsBoth (width_of w) (list_of p k c) (list_of p l m) (list_at v.items c)
-  old_joined =
-      subst (λ (x : List Entry). ListsBoth (width_of w) (list_of p k c) x (list_at v.items c)) from
-      (subst (λ (x : List Entry). ListsBoth (width_of w) x list (list_at v.items c)) (sym (ap (λ t. list_at t c) old)) joined)
+  old_joined : ListsBoth (width_of w) (list_of p k c) taken (list_at v.items c)
+  old_joined = subst (λ (x : List Entry). ListsBoth (width_of w) x taken (list_at v.items c)) (sym (ap (λ t. list_at t c) old)) joined
 
-  pub list_taken : ((n e : ℕ) → Grows g w n e m l → IsTrueOf g w c k n e) → IsAdded g w k p (slice_set p k v)
-  list_taken right = list_added g w p k c l m v part place number some old_len old_others wide old_joined right
+  pub list_taken : ((n e : ℕ) → e ≤ length w → Lists taken n e → IsTrueOf g w c k n e) → IsAdded g w k p (slice_set p k v)
+  list_taken right = list_added g w p k c taken v part place number old_len old_others wide old_joined right
 
-  pub then_listed : (n e : ℕ) → IsListed w p l m n e → IsListed w (slice_set p k v) k c n e
-  then_listed n e h = taken_listed g w p k c l m v part place number some old_len old_others wide old_joined n e h
+  pub then_listed : (n e : ℕ) → e ≤ length w → Lists taken n e → IsListed w (slice_set p k v) k c n e
+  then_listed n e le h = taken_listed g w p k c taken v part place number old_len old_others wide old_joined n e le h
 
 -- a list that is as before
 pub same_set : (w : List LexKind) (p : Places) (k c : ℕ) (was v : Vec (Vec Entry Global) Global) → k < length p → was ≡ get_or p k was → ((n : ℕ) → n ≢ c → list_at v.items n ≡ list_at was.items n) → list_at v.items c ≡ list_at was.items c → IsSame p (slice_set p k v)

@@ -70,6 +70,7 @@ RunsTo g w p (part ∷ rest) k l = (h : ℕ) × Advances g w p part k h × RunsT
 
 -- lists of all places that have only what is true, and from each nonterminal itself
 pub record IsPart (g : Numbered) (w : List LexKind) (p : Places) : Type 0 where
+  pub few : length g < 4294967296
   pub count : length p ≡ length w + 1
   pub tables : (i : ℕ) → i ≤ length w → length (lists_of p i) ≡ length g + 1
   pub wide : (i c : ℕ) → AreWide (width_of w) (list_of p i c)
@@ -88,6 +89,19 @@ pub record IsAdded (g : Numbered) (w : List LexKind) (place : ℕ) (p q : Places
 -- the list of c at k has what grows from m where the parts end
 abbrev pub Follows : (g : Numbered) (w : List LexKind) → Places → (k m : ℕ) → Alternative → (c : ℕ) → Type 0
 Follows g w p k m parts c = (l n e : ℕ) → RunsTo g w p parts k l → IsListed w p l m n e → IsListed w p k c n e
+
+-- the row of the number
+abbrev pub row_at : List (Vec ℕ Global) → ℕ → List ℕ
+row_at [] m = []
+row_at (v ∷ vs) zero = v.items
+row_at (v ∷ vs) (suc m) = row_at vs m
+
+-- rows of places, one for each nonterminal, that have only places from a first one on, at which only that nonterminal itself grows from it
+pub record AreNear (g : Numbered) (w : List LexKind) (p : Places) (first : ℕ) (near : List (Vec ℕ Global)) : Type 0 where
+  pub count : length near ≡ length g
+  pub wide : (m : ℕ) → m < length g → length (row_at near m) ≡ width_of w
+  pub behind : (m l : ℕ) → l ≤ length w → rows.Has (row_at near m) l → first ≤ l
+  pub alone : (m l n e : ℕ) → l ≤ length w → rows.Has (row_at near m) l → IsListed w p l m n e → (n ≡ m) × (e ≡ l)
 
 -- the rule of an alternative of m at k: what begins with a phrase grows from it, anything else ends there
 abbrev pub IsMet : (g : Numbered) (w : List LexKind) → Places → (k m : ℕ) → Alternative → Type 0
@@ -112,6 +126,12 @@ abbrev pub BeginsOther : Alternative → Type 0
 BeginsOther [] = Unit {0}
 BeginsOther (Word c ∷ rest) = Unit {0}
 BeginsOther (Phrase c ∷ rest) = ⊥
+
+-- the parts begin with a word of another kind than the lexeme at the place
+abbrev pub IsNoWord : List LexKind → Alternative → ℕ → Type 0
+IsNoWord w [] at = ⊥
+IsNoWord w (Word c ∷ rest) at = slice_get w at ≡ Some c → ⊥
+IsNoWord w (Phrase c ∷ rest) at = ⊥
 
 -- the parts are an alternative of m
 abbrev pub IsAlternative : Numbered → ℕ → Alternative → Type 0

@@ -28,3 +28,7 @@ ListsRow width old new x = (n e : ℕ) → e < 64 * width → Lists new n e ↔ 
 -- the new list has what the two have
 abbrev pub ListsBoth : ℕ → List Entry → List Entry → List Entry → Type 0
 ListsBoth width old added new = (n e : ℕ) → e < 64 * width → Lists new n e ↔ (Lists old n e ⊎ Lists added n e)
+
+-- the number is below the bound, and the row has it, and the other row doesn't
+abbrev pub IsExtra : (below : ℕ) → List ℕ → List ℕ → ℕ → Type 0
+IsExtra below row other e = (e < below) × Has row e × (Has other e → ⊥)

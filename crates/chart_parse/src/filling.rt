@@ -5,6 +5,7 @@ ghost use Rattle.source_lex.specs.Trees.{kinds_of};
 ghost use Rattle.chart_parse.specs.Places.{grammar_of, IsPart, IsClosedAt};
 
 use crate::first::first_places;
+use crate::near::{mark_near, no_near};
 use crate::rows::Entry;
 use crate::rules::close;
 use crate::source::Source;
@@ -40,8 +41,11 @@ fn fill<'a>(
         → IsClosedAt (grammar_of source.now) source.now.kinds.now places.items i) }
 {
     let mut places = first_places(alloc, arena, source)?;
+    let mut near = no_near(alloc, source)?;
     for done in 0..source.kinds.len() + 1 {
-        close(alloc, arena, source, &mut places, source.kinds.len() - done)?;
+        let place = source.kinds.len() - done;
+        close(alloc, arena, source, &near, &mut places, place)?;
+        mark_near(alloc, source, &places, place, &mut near)?;
     }
     Ok(places)
 }

@@ -3,6 +3,8 @@
 
 pub mod filling;
 mod first;
+mod near;
+mod numbers;
 pub mod rows;
 mod rules;
 mod runs;

@@ -59,17 +59,18 @@ pub fn join(into: &mut [u64], from: &[u64]) -> bool
 }
 
 /// Whether the second row has a number that the first doesn't have.
-fn has_more(row: &[u64], other: &[u64]) -> bool
+pub fn has_more(row: &[u64], other: &[u64]) -> bool
     requires { length other.now ≡ length row.now }
     ensures { result ≡ false → (e : ℕ) → e < 64 * length row.now
         → HasMore row.now other.now row.now e }
 {
+    let mut more = false;
     for k in 0..row.len() {
         if row[k] | other[k] != row[k] {
-            return true;
+            more = true;
         }
     }
-    false
+    more
 }
 
 /// What either row has, as a new row in the arena.

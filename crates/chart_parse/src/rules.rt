@@ -1,12 +1,13 @@
 //! One round of the rules by which a place of the chart grows.
-ghost use Rattle.std.specs.Prelude.{◌≡◌, ℕ, ◌≤◌, ◌<◌, ◌∷◌, false, length, drop, slice_get, Some, MatchOption, IfOk, OnOk};
+ghost use Rattle.std.specs.Prelude.{◌≡◌, ℕ, ◌≤◌, ◌<◌, ◌∷◌, ◌+◌, false, length, Contains, drop, slice_get, Some, MatchOption, IfOk, OnOk};
 ghost use Rattle.source_lex.specs.declared.numbered.Symbol.TheVariants.{Phrase};
 ghost use Rattle.chart_parse.specs.Rows.{Has};
 ghost use Rattle.chart_parse.specs.Growths.{Grows};
-ghost use Rattle.chart_parse.specs.Places.{grammar_of, width_of, IsListed, IsTrueOf, IsPart, IsAdded, IsSame, Follows, IsMet, AreMet, IsClosedAt, IsRule, IsAlternative, BeginsOther, alternatives_in};
+ghost use Rattle.chart_parse.specs.Places.{grammar_of, width_of, IsListed, IsTrueOf, IsPart, IsAdded, IsSame, Follows, IsMet, AreMet, IsClosedAt, IsRule, AreNear, IsAlternative, BeginsOther, alternatives_in};
 
-use crate::rows::{Entry, add_at, has};
-use crate::runs::run_ends;
+use crate::numbers::difference;
+use crate::rows::{Entry, add_at};
+use crate::runs::{can_begin, first_phrase, run_ends};
 use crate::source::Source;
 use acg_base::Memory;
 use bumpalo::Bump;
@@ -59,37 +60,77 @@ fn add_list<'a>(
     add_at(arena, width, &mut places[into.place], into.number, &list)
 }
 
-// Adds what grows from the nonterminal at a place, if the parts end there, and tells whether that
-// is more.
-fn add_end<'a>(
-    alloc: Global,
+// Adds the nonterminal itself at the places of the row, and tells whether that is more.
+fn add_itself<'a>(
     arena: &'a Bump,
     source: &Source<'_>,
     places: &mut Vec<Vec<Vec<Entry<'a>>>>,
     ends: &[u64],
-    from: ListAt,
+    nonterminal: usize,
     into: ListAt,
 ) -> Result<bool, Memory>
-    requires from { (from.place ≤ length source.now.kinds.now)
-        × (from.number < length (grammar_of source.now)) }
+    requires nonterminal { nonterminal < 4294967296 }
     requires into { (into.place ≤ length source.now.kinds.now)
         × (into.number ≤ length (grammar_of source.now)) }
     requires part { IsPart (grammar_of source.now) source.now.kinds.now places.old.items }
     requires wide { length ends.now ≡ width_of source.now.kinds.now }
-    requires right { (n e : ℕ) → Has ends.now from.place
-        → Grows (grammar_of source.now) source.now.kinds.now n e from.number from.place
+    requires right { (e : ℕ) → e ≤ length source.now.kinds.now → Has ends.now e
+        → IsTrueOf (grammar_of source.now) source.now.kinds.now into.number into.place
+        nonterminal e }
+    ensures added { OnOk result (IsAdded (grammar_of source.now) source.now.kinds.now into.place
+        places.old.items places.new.items) }
+    ensures same { IfOk result (λ more. more ≡ false → IsSame places.old.items places.new.items) }
+    ensures has { OnOk result ((e : ℕ) → e ≤ length source.now.kinds.now → Has ends.now e
+        → IsListed source.now.kinds.now places.new.items into.place into.number nonterminal e) }
+{
+    let row = match arena.try_alloc_slice_copy(ends) {
+        Ok(copy) => copy,
+        Err(_) => return Err(Memory),
+    };
+    let itself = [Entry {
+        nonterm: nonterminal as u32,
+        row,
+    }];
+    let width = source.kinds.len() / 64 + 1;
+    add_at(arena, width, &mut places[into.place], into.number, &itself)
+}
+
+// Adds what grows from the nonterminal at the places, and tells whether that is more.
+fn add_growths<'a>(
+    alloc: Global,
+    arena: &'a Bump,
+    source: &Source<'_>,
+    places: &mut Vec<Vec<Vec<Entry<'a>>>>,
+    ends: &[usize],
+    nonterminal: usize,
+    into: ListAt,
+) -> Result<bool, Memory>
+    requires nonterminal { nonterminal < length (grammar_of source.now) }
+    requires into { (into.place ≤ length source.now.kinds.now)
+        × (into.number ≤ length (grammar_of source.now)) }
+    requires part { IsPart (grammar_of source.now) source.now.kinds.now places.old.items }
+    requires within { (l : ℕ) → Contains ends.now l → l ≤ length source.now.kinds.now }
+    requires right { (l n e : ℕ) → Contains ends.now l
+        → Grows (grammar_of source.now) source.now.kinds.now n e nonterminal l
         → IsTrueOf (grammar_of source.now) source.now.kinds.now into.number into.place n e }
     ensures added { OnOk result (IsAdded (grammar_of source.now) source.now.kinds.now into.place
         places.old.items places.new.items) }
     ensures same { IfOk result (λ more. more ≡ false → IsSame places.old.items places.new.items) }
-    ensures has { OnOk result ((n e : ℕ) → Has ends.now from.place
-        → IsListed source.now.kinds.now places.old.items from.place from.number n e
-        → IsListed source.now.kinds.now places.new.items into.place into.number n e) }
+    ensures has { IfOk result (λ more. more ≡ false → (l n e : ℕ) → Contains ends.now l
+        → IsListed source.now.kinds.now places.old.items l nonterminal n e
+        → IsListed source.now.kinds.now places.old.items into.place into.number n e) }
 {
-    if !has(ends, from.place) {
-        return Ok(false);
+    let mut more = false;
+    for q in 0..ends.len() {
+        let from = ListAt {
+            place: ends[q],
+            number: nonterminal,
+        };
+        if add_list(alloc, arena, source, places, from, into)? {
+            more = true;
+        }
     }
-    add_list(alloc, arena, source, places, from, into)
+    Ok(more)
 }
 
 // Adds what grows from the nonterminal where the parts end, and tells whether that is more.
@@ -97,6 +138,7 @@ fn add_run<'a>(
     alloc: Global,
     arena: &'a Bump,
     source: &Source<'_>,
+    near: &[Vec<u64>],
     places: &mut Vec<Vec<Vec<Entry<'a>>>>,
     parts: &[Symbol],
     nonterminal: usize,
@@ -106,6 +148,8 @@ fn add_run<'a>(
     requires into { (into.place ≤ length source.now.kinds.now)
         × (into.number ≤ length (grammar_of source.now)) }
     requires part { IsPart (grammar_of source.now) source.now.kinds.now places.old.items }
+    requires near { AreNear (grammar_of source.now) source.now.kinds.now
+        places.old.items (into.place + 1) near.now }
     requires right { IsRule (grammar_of source.now) source.now.kinds.now into.place nonterminal
         parts.now into.number }
     ensures added { OnOk result (IsAdded (grammar_of source.now) source.now.kinds.now into.place
@@ -115,29 +159,14 @@ fn add_run<'a>(
         → Follows (grammar_of source.now) source.now.kinds.now
         places.new.items into.place nonterminal parts.now into.number) }
 {
+    if !can_begin(source, places, parts, into.place) {
+        return Ok(false);
+    }
     let ends = run_ends(alloc, source, places, parts, into.place)?;
-    let mut more = false;
-    for l in 0..source.kinds.len() + 1 {
-        let from = ListAt {
-            place: l,
-            number: nonterminal,
-        };
-        if add_end(alloc, arena, source, places, &ends, from, into)? {
-            more = true;
-        }
-    }
-    Ok(more)
-}
-
-// The nonterminal of the phrase with which the parts begin, if they begin with one.
-fn first_phrase(parts: &[Symbol]) -> Option<u32>
-    ensures { MatchOption result (BeginsOther parts.now) (λ c. parts.now ≡ Phrase c ∷ drop 1
-        parts.now) }
-{
-    match parts.first() {
-        Some(Symbol::Phrase(nonterminal)) => Some(*nonterminal),
-        _ => None,
-    }
+    let itself = add_itself(arena, source, places, &ends, nonterminal, into)?;
+    let far = difference(alloc, &ends, &near[nonterminal], source.kinds.len() + 1)?;
+    let more = add_growths(alloc, arena, source, places, &far, nonterminal, into)?;
+    Ok(itself || more)
 }
 
 // Follows the rule of an alternative at a place, and tells whether anything was more.
@@ -145,6 +174,7 @@ fn add_alternative<'a>(
     alloc: Global,
     arena: &'a Bump,
     source: &Source<'_>,
+    near: &[Vec<u64>],
     places: &mut Vec<Vec<Vec<Entry<'a>>>>,
     place: usize,
     nonterminal: usize,
@@ -152,6 +182,8 @@ fn add_alternative<'a>(
 ) -> Result<bool, Memory>
     requires place { place ≤ length source.now.kinds.now }
     requires part { IsPart (grammar_of source.now) source.now.kinds.now places.old.items }
+    requires near { AreNear (grammar_of source.now) source.now.kinds.now
+        places.old.items (place + 1) near.now }
     requires alternative { IsAlternative (grammar_of source.now) nonterminal parts.now }
     ensures added { OnOk result (IsAdded (grammar_of source.now) source.now.kinds.now place
         places.old.items places.new.items) }
@@ -167,7 +199,7 @@ fn add_alternative<'a>(
                 place,
                 number: count,
             };
-            add_run(alloc, arena, source, places, parts, nonterminal, into)
+            add_run(alloc, arena, source, near, places, parts, nonterminal, into)
         }
         Some(first) => {
             let number = first as usize;
@@ -176,7 +208,7 @@ fn add_alternative<'a>(
             }
             let (_, rest) = parts.split_at(1);
             let into = ListAt { place, number };
-            add_run(alloc, arena, source, places, rest, nonterminal, into)
+            add_run(alloc, arena, source, near, places, rest, nonterminal, into)
         }
     }
 }
@@ -186,6 +218,7 @@ fn add_nonterminal<'a>(
     alloc: Global,
     arena: &'a Bump,
     source: &Source<'_>,
+    near: &[Vec<u64>],
     places: &mut Vec<Vec<Vec<Entry<'a>>>>,
     place: usize,
     nonterminal: usize,
@@ -193,6 +226,8 @@ fn add_nonterminal<'a>(
 ) -> Result<bool, Memory>
     requires place { place ≤ length source.now.kinds.now }
     requires part { IsPart (grammar_of source.now) source.now.kinds.now places.old.items }
+    requires near { AreNear (grammar_of source.now) source.now.kinds.now
+        places.old.items (place + 1) near.now }
     requires alternatives { slice_get (grammar_of source.now) nonterminal ≡ Some (alternatives_in
         alternatives.now) }
     ensures added { OnOk result (IsAdded (grammar_of source.now) source.now.kinds.now place
@@ -205,7 +240,16 @@ fn add_nonterminal<'a>(
     let mut more = false;
     for a in 0..alternatives.len() {
         let parts = alternatives[a];
-        if add_alternative(alloc, arena, source, places, place, nonterminal, parts)? {
+        if add_alternative(
+            alloc,
+            arena,
+            source,
+            near,
+            places,
+            place,
+            nonterminal,
+            parts,
+        )? {
             more = true;
         }
     }
@@ -217,11 +261,14 @@ fn round<'a>(
     alloc: Global,
     arena: &'a Bump,
     source: &Source<'_>,
+    near: &[Vec<u64>],
     places: &mut Vec<Vec<Vec<Entry<'a>>>>,
     place: usize,
 ) -> Result<bool, Memory>
     requires place { place ≤ length source.now.kinds.now }
     requires part { IsPart (grammar_of source.now) source.now.kinds.now places.old.items }
+    requires near { AreNear (grammar_of source.now) source.now.kinds.now
+        places.old.items (place + 1) near.now }
     ensures added { OnOk result (IsAdded (grammar_of source.now) source.now.kinds.now place
         places.old.items places.new.items) }
     ensures closed { IfOk result (λ more. more ≡ false
@@ -234,6 +281,7 @@ fn round<'a>(
             alloc,
             arena,
             source,
+            near,
             places,
             place,
             m,
@@ -250,18 +298,21 @@ pub fn close<'a>(
     alloc: Global,
     arena: &'a Bump,
     source: &Source<'_>,
+    near: &[Vec<u64>],
     places: &mut Vec<Vec<Vec<Entry<'a>>>>,
     place: usize,
 ) -> Result<(), Memory>
     requires place { place ≤ length source.now.kinds.now }
     requires part { IsPart (grammar_of source.now) source.now.kinds.now places.old.items }
+    requires near { AreNear (grammar_of source.now) source.now.kinds.now
+        places.old.items (place + 1) near.now }
     ensures added { OnOk result (IsAdded (grammar_of source.now) source.now.kinds.now place
         places.old.items places.new.items) }
     ensures closed { OnOk result (IsClosedAt (grammar_of source.now) source.now.kinds.now
         places.new.items place) }
 {
     for _ in 0..u64::MAX {
-        if !round(alloc, arena, source, places, place)? {
+        if !round(alloc, arena, source, near, places, place)? {
             return Ok(());
         }
     }

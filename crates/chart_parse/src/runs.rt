@@ -1,9 +1,11 @@
 //! Where parts of an alternative end, by what the chart has so far.
-ghost use Rattle.std.specs.Prelude.{◌≡◌, ◌⊎◌, ℕ, ◌+◌, ◌*◌, ◌/◌, ◌≤◌, ◌<◌, ◌↔◌, false, length, slice_get, Some, IsTrue, IfOk};
+ghost use Rattle.std.specs.Prelude.{◌≡◌, ◌∷◌, drop, MatchOption, ◌⊎◌, ℕ, ◌+◌, ◌*◌, ◌/◌, ◌≤◌, ◌<◌, ◌↔◌, false, length, slice_get, Some, IsTrue, IfOk};
+ghost use Rattle.source_lex.specs.declared.numbered.Symbol.TheVariants.{Phrase};
 ghost use Rattle.chart_parse.specs.Rows.{Has, Lists, AreWide};
-ghost use Rattle.chart_parse.specs.Places.{grammar_of, width_of, Advances, AdvancesFrom, RunsTo, IsPart};
+ghost use Rattle.chart_parse.specs.Places.{grammar_of, width_of, Advances, AdvancesFrom, RunsTo, IsPart, BeginsOther, IsNoWord};
 
-use crate::rows::{Entry, empty, has, insert, join};
+use crate::numbers::difference;
+use crate::rows::{Entry, empty, insert, join};
 use crate::source::Source;
 use acg_base::Memory;
 use source_lex::{LexKind, Symbol};
@@ -78,30 +80,6 @@ fn advance(
     }
 }
 
-// Adds the places to which the part leads from a place, if the row has that place.
-fn advance_from(
-    source: &Source<'_>,
-    places: &[Vec<Vec<Entry<'_>>>],
-    part: Symbol,
-    from: &[u64],
-    at: usize,
-    into: &mut [u64],
-)
-    requires at { at ≤ length source.now.kinds.now }
-    requires wide { (length from.now ≡ width_of source.now.kinds.now)
-        × (length into.old ≡ width_of source.now.kinds.now) }
-    requires part { IsPart (grammar_of source.now) source.now.kinds.now places.now }
-    ensures len { length into.new ≡ length into.old }
-    ensures joined { (e : ℕ) → e ≤ length source.now.kinds.now → Has into.new e ↔ (Has into.old e
-        ⊎ (Has from.now at × Advances (grammar_of source.now) source.now.kinds.now places.now part
-        at e)) }
-{
-    if !has(from, at) {
-        return;
-    }
-    advance(source, places, part, at, into);
-}
-
 // The places to which the part leads from any of the places.
 fn follow(
     alloc: Global,
@@ -117,10 +95,63 @@ fn follow(
         ↔ AdvancesFrom (grammar_of source.now) source.now.kinds.now places.now part from.now e) }
 {
     let mut ends = empty(alloc, from.len())?;
-    for h in 0..source.kinds.len() + 1 {
-        advance_from(source, places, part, from, h, &mut ends);
+    let starts = difference(alloc, from, &ends, source.kinds.len() + 1)?;
+    for q in 0..starts.len() {
+        advance(source, places, part, starts[q], &mut ends);
     }
     Ok(ends)
+}
+
+// Whether the list has an entry of the nonterminal.
+fn is_present(list: &[Entry<'_>], nonterminal: u32) -> bool
+    ensures { result ≡ false → (e : ℕ) → Lists list.now nonterminal e → ⊥ }
+{
+    for entry in list {
+        if entry.nonterm == nonterminal {
+            return true;
+        }
+    }
+    false
+}
+
+/// The nonterminal of the phrase with which the parts begin, if they begin with one.
+pub fn first_phrase(parts: &[Symbol]) -> Option<u32>
+    ensures { MatchOption result (BeginsOther parts.now) (λ c. parts.now ≡ Phrase c ∷ drop 1
+        parts.now) }
+{
+    match parts.first() {
+        Some(Symbol::Phrase(nonterminal)) => Some(*nonterminal),
+        _ => None,
+    }
+}
+
+// Whether parts that don't begin with a phrase can begin at the place.
+fn can_begin_other(kinds: &[LexKind], parts: &[Symbol], at: usize) -> bool
+    requires { BeginsOther parts.now }
+    ensures { result ≡ false → IsNoWord kinds.now parts.now at }
+{
+    match parts.first() {
+        Some(Symbol::Word(kind)) => is_kind(kinds, at, *kind),
+        _ => true,
+    }
+}
+
+/// Whether the parts can begin at the place. Where they can't, they lead nowhere from there.
+pub fn can_begin(
+    source: &Source<'_>,
+    places: &[Vec<Vec<Entry<'_>>>],
+    parts: &[Symbol],
+    at: usize,
+) -> bool
+    requires at { at ≤ length source.now.kinds.now }
+    requires part { IsPart (grammar_of source.now) source.now.kinds.now places.now }
+    ensures { result ≡ false → (e : ℕ)
+        → RunsTo (grammar_of source.now) source.now.kinds.now places.now parts.now at e → ⊥ }
+{
+    match first_phrase(parts) {
+        None => can_begin_other(source.kinds, parts, at),
+        Some(nonterminal) => is_present(&places[at][source.nonterminals.len()], nonterminal),
+    }
 }
 
 /// The places at which the parts end that begin at the start.

@@ -24,5 +24,5 @@ loop-i-preserved c =
 pub returns : goal.returns
 returns c =
     let all : c.loop-i.i ≡ length c.args.source.now.kinds.now + 1 = omega (arith, c.loop-i-test.false, c.loop-i.auto.i-end) in
-    first_part (grammar_of c.args.source.now) c.args.source.now.kinds.now c.loop-i.places.items
+    first_part (grammar_of c.args.source.now) c.args.source.now.kinds.now c.loop-i.places.items (omega (arith, c.requires, length-map c.args.source.now.nonterminals.now plain_alternatives))
     (subst (λ (n : ℕ). AreFirst (grammar_of c.args.source.now) c.args.source.now.kinds.now n c.loop-i.places.items) all c.loop-i.invariant)

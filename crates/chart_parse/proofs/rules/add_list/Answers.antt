@@ -1,6 +1,6 @@
-use Rattle.std.proofs.Common.{◌≡◌, ◌≢◌, ◌∙◌, ◌<◌, ℕ, false, length, slice_set, sym, ap, subst, arith, Vec, Global}
+use Rattle.std.proofs.Common.{◌≡◌, ◌≢◌, ◌∙◌, ◌<◌, ℕ, false, length, List, slice_set, sym, ap, subst, arith, Vec, Global}
 use Rattle.chart_parse.specs.declared.rows.Entry.{Entry}
-use Rattle.chart_parse.specs.Rows.{AreWide, ListsBoth}
+use Rattle.chart_parse.specs.Rows.{Lists, AreWide, ListsBoth}
 use Rattle.chart_parse.specs.Table.{list_at, AllWide}
 use Rattle.chart_parse.specs.Places.{Places, grammar_of, width_of, list_of, IsListed, IsSame, IsAdded}
 use Rattle.chart_parse.proofs.Answered.{on_four, if_on}
@@ -54,8 +54,8 @@ returns-clause-added c =
     let e : list_of p c.args.from.place c.args.from.number ≡ c.index-2.result.now.items = list_there p c.args.from.place c.args.from.number c.index.result.now c.index-2.result.now lt c.index.ensures le c.index-2.ensures in
     on_four c.add_at.result (length v.items ≡ length was.items) ((n : ℕ) → n ≢ c.args.into.number → list_at v.items n ≡ list_at was.items n) (AllWide (width_of w) v.items)
     (ListsBoth (width_of w) (list_at was.items c.args.into.number) c.deref-2.result.now (list_at v.items c.args.into.number)) (IsAdded g w k p (slice_set p k v)) c.add_at.ensures.len c.add_at.ensures.others c.add_at.ensures.wide c.add_at.ensures.joined
-    (λ a b d f. list_taken g w p k c.args.into.number c.args.from.place c.args.from.number was v c.deref-2.result.now c.requires.part c.requires.into.0 c.requires.into.1 c.requires.from.1 c.index_mut.ensures.value
-    (c.deref-2.ensures.value ∙ c.in_ok-list.ensures ∙ c.deref.ensures.value ∙ sym e) a b d f c.requires.right)
+    (λ a b d f. list_taken g w p k c.args.into.number c.deref-2.result.now was v c.requires.part c.requires.into.0 c.requires.into.1 c.index_mut.ensures.value a b d f
+    (λ n x le h. c.requires.right n x ((c.requires.part.sound c.args.from.place c.args.from.number n x (le, subst (λ (t : List Entry). Lists t n x) (c.deref-2.ensures.value ∙ c.in_ok-list.ensures ∙ c.deref.ensures.value ∙ sym e) h)).growth c.requires.from.1)))
 
 pub returns-clause-same : goal.returns-clause-same
 returns-clause-same c =
@@ -83,5 +83,5 @@ returns-clause-has c =
     on_four c.add_at.result (length v.items ≡ length was.items) ((n : ℕ) → n ≢ c.args.into.number → list_at v.items n ≡ list_at was.items n) (AllWide (width_of w) v.items)
     (ListsBoth (width_of w) (list_at was.items c.args.into.number) c.deref-2.result.now (list_at v.items c.args.into.number))
     ((n e : ℕ) → IsListed w p c.args.from.place c.args.from.number n e → IsListed w (slice_set p k v) k c.args.into.number n e) c.add_at.ensures.len c.add_at.ensures.others c.add_at.ensures.wide c.add_at.ensures.joined
-    (λ a b d f. then_listed g w p k c.args.into.number c.args.from.place c.args.from.number was v c.deref-2.result.now c.requires.part c.requires.into.0 c.requires.into.1 c.requires.from.1 c.index_mut.ensures.value
-    (c.deref-2.ensures.value ∙ c.in_ok-list.ensures ∙ c.deref.ensures.value ∙ sym e) a b d f)
+    (λ a b d f n x h. then_listed g w p k c.args.into.number c.deref-2.result.now was v c.requires.part c.requires.into.0 c.requires.into.1 c.index_mut.ensures.value a b d f n x h.0
+    (subst (λ (t : List Entry). Lists t n x) (sym (c.deref-2.ensures.value ∙ c.in_ok-list.ensures ∙ c.deref.ensures.value ∙ sym e)) h.1))

@@ -6,6 +6,7 @@ use Rattle.source_lex.specs.declared.numbered.Symbol.{Symbol}
 use Rattle.chart_parse.specs.Places.{Places, grammar_of, IsMet}
 use Rattle.chart_parse.proofs.EndsOfParts.{met_kept}
 use Rattle.chart_parse.proofs.Rounds.{same_none, same_more, added_none, added_more, alternative_there, alternative_inside, some_same}
+use Rattle.chart_parse.proofs.NearRows.{near_kept}
 use Rattle.chart_parse.proofs.rules.add_nonterminal.Goals as goal
 use Rattle.chart_parse.proofs.rules.add_nonterminal.Goals.{then-branch, else-branch}
 
@@ -24,6 +25,9 @@ add_alternative-requires-clause-alternative c = (c.loop-a.a, alternative_there (
 
 pub add_alternative-requires-clause-part : goal.add_alternative-requires-clause-part
 add_alternative-requires-clause-part c = c.loop-a.invariant.added.part
+
+pub add_alternative-requires-clause-near : goal.add_alternative-requires-clause-near
+add_alternative-requires-clause-near c = near_kept (grammar_of c.args.source.now) c.args.source.now.kinds.now c.args.place c.args.places.now.items c.loop-a.places.items c.args.near.now c.requires.near c.loop-a.invariant.added
 
 pub loop-a-preserved : goal.loop-a-preserved
 loop-a-preserved c =

@@ -1,60 +1,66 @@
-use Rattle.std.proofs.Common.{inl, inr, ◌≡◌, ◌≤◌, ℕ, List, true, false, length, sym, subst, ◌∙◌, arith}
-use Rattle.std.specs.Prelude.{◌↔◌}
-use Rattle.std.proofs.lemmas.Bool.Decides.{eqb_tells}
+use Rattle.std.proofs.Common.{◌≡◌, ◌∙◌, ◌≤◌, ◌<◌, ◌+◌, ℕ, List, Contains, true, false, length, sym, ap, subst, arith}
 use Rattle.chart_parse.specs.Rows.{Has}
-use Rattle.chart_parse.specs.Places.{Places, grammar_of, RunsTo, IsListed}
-use Rattle.chart_parse.proofs.Rounds.{same_none, same_more, added_none, added_more, end_step, end_right, run_follows}
+use Rattle.chart_parse.specs.Growths.{Stays}
+use Rattle.chart_parse.specs.Places.{Places, grammar_of, row_at, RunsTo, IsListed, IsSame}
+use Rattle.chart_parse.proofs.EndsOfParts.{listed_kept}
+use Rattle.chart_parse.proofs.NearRows.{row_there}
+use Rattle.chart_parse.proofs.Rounds.{same_more, end_right, run_follows, near_or_far}
 use Rattle.chart_parse.proofs.rules.add_run.Goals as goal
-use Rattle.chart_parse.proofs.rules.add_run.Goals.{then-branch, else-branch}
+use Rattle.chart_parse.proofs.rules.add_run.Goals.{then-itself, else-itself}
 
-pub loop-l-init : goal.loop-l-init
-loop-l-init c = record {
-  added = added_none (grammar_of c.args.source.now) c.args.source.now.kinds.now c.args.into.place c.args.places.now.items c.requires.part;
-  same = λ _. same_none c.args.places.now.items;
-  has = λ _ j lt. absurd (omega arith);
-}
-
-pub add_end-requires-clause-part : goal.add_end-requires-clause-part
-add_end-requires-clause-part c = c.loop-l.invariant.added.part
-
-pub add_end-requires-clause-right : goal.add_end-requires-clause-right
-add_end-requires-clause-right c n e has more =
+pub add_itself-requires-clause-right : goal.add_itself-requires-clause-right
+add_itself-requires-clause-right c e le h =
     let g = grammar_of c.args.source.now in
     let w = c.args.source.now.kinds.now in
-    let within : c.loop-l.l ≤ length w = omega (arith, c.loop-l-test.true) in
-    end_right g w c.args.places.now.items c.args.into.place c.args.nonterminal c.args.parts.now c.args.into.number c.loop-l.l c.in_ok-ends.ends.items c.requires.part within
-    (subst (λ (p : Places). Has c.in_ok-ends.ends.items c.loop-l.l ↔ RunsTo g w p c.args.parts.now c.args.into.place c.loop-l.l) c.deref.ensures.value (c.in_ok-ends.ensures.ends c.loop-l.l within))
-    c.requires.right n e (subst (λ (r : List ℕ). Has r c.loop-l.l) c.deref-in-loop-l.ensures.value has) more
+    let run = subst (λ (p : Places). RunsTo g w p c.args.parts.now c.args.into.place e) c.deref-2.ensures.value ((c.in_ok-ends.ensures.ends e le).0 (subst (λ (r : List ℕ). Has r e) c.deref-3.ensures.value h)) in
+    end_right g w c.args.places.now.items c.args.into.place c.args.nonterminal c.args.parts.now c.args.into.number e c.requires.part run c.requires.right c.args.nonterminal e Stays
 
-pub loop-l-preserved : goal.loop-l-preserved
-loop-l-preserved c =
+pub difference-requires-clause-len : goal.difference-requires-clause-len
+difference-requires-clause-len c =
+    let lt : c.args.nonterminal < length c.args.near.now = omega (arith, c.requires.near.count, c.requires.nonterminal) in
+    ap length c.deref-5.ensures.value ∙ sym (ap length (row_there c.args.near.now c.args.nonterminal c.index-near-nonterminal.result lt c.index-near-nonterminal.is))
+    ∙ c.requires.near.wide c.args.nonterminal c.requires.nonterminal ∙ sym (ap length c.deref-4.ensures.value ∙ c.in_ok-ends.ensures.len)
+
+pub add_growths-requires-clause-within : goal.add_growths-requires-clause-within
+add_growths-requires-clause-within c l h =
+    let x = (c.in_ok-far.ensures l).0 (subst (λ (t : List ℕ). Contains t l) c.deref-6.ensures.value h) in
+    (let lt = x.0 in omega arith)
+
+pub add_growths-requires-clause-right : goal.add_growths-requires-clause-right
+add_growths-requires-clause-right c l n e h more =
+    let g = grammar_of c.args.source.now in
     let w = c.args.source.now.kinds.now in
-    let old : Places = c.args.places.now.items in
-    let mid : Places = c.loop-l.places.items in
-    let new : Places = c.add_end.new.places.items in
-    record {
-      added = added_more (grammar_of c.args.source.now) w c.args.into.place old mid new c.loop-l.invariant.added c.in_ok-add_end.ensures.added;
-      same = λ q. elim c.if-branch.branch [
-        | then-branch v ↦ absurd (let y : true ≡ false = sym v.more-is ∙ q in cc)
-        | else-branch v ↦ same_more old mid new (c.loop-l.invariant.same (sym v.more-is ∙ q)) (c.in_ok-add_end.ensures.same v.if-branch.false)
-      ];
-      has = λ q j lt n e here x. elim c.if-branch.branch [
-        | then-branch v ↦ absurd (let y : true ≡ false = sym v.more-is ∙ q in cc)
-        | else-branch v ↦ elim (eqb_tells j c.loop-l.l) [
-          | inl s ↦
-              subst (λ (i : ℕ). Has c.in_ok-ends.ends.items i → IsListed w old i c.args.nonterminal n e → IsListed w old c.args.into.place c.args.into.number n e) (sym s.1)
-              (end_step w old mid new c.loop-l.l c.args.nonterminal c.args.into.place c.args.into.number c.in_ok-ends.ends.items (c.loop-l.invariant.same (sym v.more-is ∙ q)) (c.in_ok-add_end.ensures.same v.if-branch.false)
-              (λ a b h y. c.in_ok-add_end.ensures.has a b (subst (λ (r : List ℕ). Has r c.loop-l.l) (sym c.deref-in-loop-l.ensures.value) h) y) n e) here x
-          | inr d ↦ c.loop-l.invariant.has (sym v.more-is ∙ q) j (omega (arith, d.1, lt)) n e here x
-        ]
-      ];
-    }
+    let x = (c.in_ok-far.ensures l).0 (subst (λ (t : List ℕ). Contains t l) c.deref-6.ensures.value h) in
+    let le : l ≤ length w = (let lt = x.0 in omega arith) in
+    let run = subst (λ (p : Places). RunsTo g w p c.args.parts.now c.args.into.place l) c.deref-2.ensures.value ((c.in_ok-ends.ensures.ends l le).0 (subst (λ (r : List ℕ). Has r l) c.deref-4.ensures.value x.1)) in
+    end_right g w c.args.places.now.items c.args.into.place c.args.nonterminal c.args.parts.now c.args.into.number l c.requires.part run c.requires.right n e more
 
 pub returns-clause-follows : goal.returns-clause-follows
 returns-clause-follows c q =
     let g = grammar_of c.args.source.now in
     let w = c.args.source.now.kinds.now in
     let old : Places = c.args.places.now.items in
-    run_follows g w old c.loop-l.places.items c.args.into.place c.args.nonterminal c.args.parts.now c.args.into.number c.in_ok-ends.ends.items c.loop-l.invariant.added.part (c.loop-l.invariant.same q) c.requires.into.0
-    (λ l within. subst (λ (p : Places). Has c.in_ok-ends.ends.items l ↔ RunsTo g w p c.args.parts.now c.args.into.place l) c.deref.ensures.value (c.in_ok-ends.ensures.ends l within))
-    (λ l within n e has x. c.loop-l.invariant.has q l (omega (arith, within, c.loop-l-test.false)) n e has x)
+    let mid : Places = c.add_itself.new.places.items in
+    let new : Places = c.add_growths.new.places.items in
+    let k : ℕ = c.args.into.place in
+    let d : ℕ = c.args.into.number in
+    let m : ℕ = c.args.nonterminal in
+    let near = c.args.near.now in
+    let lt : m < length near = omega (arith, c.requires.near.count, c.requires.nonterminal) in
+    let row : c.deref-5.result.now ≡ row_at near m = c.deref-5.ensures.value ∙ sym (row_there near m c.index-near-nonterminal.result lt c.index-near-nonterminal.is) in
+    elim c.if-itself.branch [
+      | then-itself v ↦ (let t : true ≡ false = sym v.if-itself.true ∙ (sym v.result-is ∙ q) in absurd (cc))
+      | else-itself v ↦
+          let first : IsSame old mid = c.in_ok-itself.ensures.same v.if-itself.false in
+          let second : IsSame mid new = c.in_ok-more.ensures.same (sym v.result-is ∙ q) in
+          run_follows g w old new k m c.args.parts.now d c.in_ok-more.ensures.added.part (same_more old mid new first second) c.requires.into.0
+          (λ l n e within run x.
+              let has : Has c.in_ok-ends.ends.items l = (c.in_ok-ends.ensures.ends l within).1 (subst (λ (p : Places). RunsTo g w p c.args.parts.now k l) (sym c.deref-2.ensures.value) run) in
+              near_or_far g w old k m d l n e (k + 1) near c.requires.near within
+              (listed_kept w mid old k d m l (sym (first k d)) (c.in_ok-itself.ensures.has l within (subst (λ (r : List ℕ). Has r l) (sym c.deref-3.ensures.value) has)))
+              (λ no y.
+                  let far = (c.in_ok-far.ensures l).1 (omega (arith, within), subst (λ (r : List ℕ). Has r l) (sym c.deref-4.ensures.value) has, λ z. no (subst (λ (r : List ℕ). Has r l) row z)) in
+                  listed_kept w mid old k d n e (sym (first k d))
+                  (c.in_ok-more.ensures.has (sym v.result-is ∙ q) l n e (subst (λ (t : List ℕ). Contains t l) (sym c.deref-6.ensures.value) far) (listed_kept w old mid l m n e (first l m) y)))
+              x)
+    ]

@@ -5,6 +5,7 @@ use Rattle.source_lex.specs.Numbered.{plain_alternatives}
 use Rattle.chart_parse.specs.Places.{Places, grammar_of, AreMet}
 use Rattle.chart_parse.proofs.EndsOfParts.{are_kept, alternative_within}
 use Rattle.chart_parse.proofs.Rounds.{added_none, added_more, alternatives_there}
+use Rattle.chart_parse.proofs.NearRows.{near_kept}
 use Rattle.chart_parse.proofs.rules.round.Goals as goal
 use Rattle.chart_parse.proofs.rules.round.Goals.{then-branch, else-branch}
 
@@ -19,6 +20,9 @@ add_nonterminal-requires-clause-part c = c.loop-m.invariant.added.part
 
 pub add_nonterminal-requires-clause-alternatives : goal.add_nonterminal-requires-clause-alternatives
 add_nonterminal-requires-clause-alternatives c = alternatives_there c.args.source.now.nonterminals.now c.loop-m.m (record { ref_ptr = (0, 0); now = [] }) c.loop-m-test.true
+
+pub add_nonterminal-requires-clause-near : goal.add_nonterminal-requires-clause-near
+add_nonterminal-requires-clause-near c = near_kept (grammar_of c.args.source.now) c.args.source.now.kinds.now c.args.place c.args.places.now.items c.loop-m.places.items c.args.near.now c.requires.near c.loop-m.invariant.added
 
 pub loop-m-preserved : goal.loop-m-preserved
 loop-m-preserved c =
