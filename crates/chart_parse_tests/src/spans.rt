@@ -128,3 +128,32 @@ fn grows_where_a_phrase_can_begin_another(rt: HostRuntime) -> Result<(), Fail> {
     assert!(rt; ends.as_slice() == [1, 3].as_slice());
     Ok(())
 }
+
+// More than 64 places, so that a row has more than one word.
+const MANY: &[u8] = b"x x x x x x x x x x x x x x x x x x x x x x x x x x x x x x x x x \
+    x x x x x x x x x x x x x x x x x x x x x x x x x x x x x x x x x";
+
+#[test]
+fn lists_on_the_right_reach_over_words_of_a_row(rt: HostRuntime) -> Result<(), Fail> {
+    let alloc = rt.alloc();
+    let arena = Bump::new(alloc);
+    let list = [
+        Production {
+            name: b"S",
+            alternatives: &[&[Part::Nonterm(b"L")]],
+        },
+        Production {
+            name: b"L",
+            alternatives: &[&[], &[Part::Literal(b"x"), Part::Nonterm(b"L")]],
+        },
+    ];
+    let grammar = Grammar::build(alloc, &arena, &list)?;
+    let many = charted(alloc, &arena, &grammar, MANY)?;
+    assert_eq!(rt; many.count(), 66);
+    assert!(rt; spans(&many, 0, 0, 66));
+    assert!(rt; spans(&many, 0, 0, 64));
+    assert!(rt; spans(&many, 1, 63, 65));
+    assert!(rt; spans(&many, 1, 66, 66));
+    assert!(rt; !spans(&many, 1, 65, 64));
+    Ok(())
+}

@@ -1,7 +1,7 @@
-use Rattle.std.proofs.Common.{◌≡◌, ◌∙◌, ◌+◌, ◌*◌, ◌<◌, ◌++◌, inl, inr, ℕ, List, [], ◌∷◌, take, take_all, get_or, add-one, sym, subst, length}
+use Rattle.std.proofs.Common.{◌≡◌, ◌∙◌, ◌+◌, ◌++◌, inl, inr, ℕ, List, [], ◌∷◌, take, get_or, add-one, sym, subst, length}
 use Rattle.std.proofs.Math.Seq.{take-suc}
 use Rattle.chart_parse.specs.declared.rows.Entry.{Entry}
-use Rattle.chart_parse.specs.Rows.{Has, Lists}
+use Rattle.chart_parse.specs.Rows.{Lists}
 use Rattle.chart_parse.proofs.Lists.{wide_at, push_lists}
 use Rattle.chart_parse.proofs.near.is_alone.Goals as goal
 

@@ -1,9 +1,9 @@
-use Rattle.std.proofs.Common.{◌≡◌, ◌≢◌, ◌⊎◌, ◌∙◌, inl, inr, true, ℕ, ◌+◌, ◌*◌, ◌<◌, List, ◌++◌, take, drop, length, slice_set, get_or, sym, ap, subst, arith, Vec, Global}
+use Rattle.std.proofs.Common.{◌≡◌, ◌∙◌, inl, inr, ℕ, ◌<◌, List, ◌++◌, take, drop, length, sym, ap, subst, arith, Vec, Global}
 use Rattle.std.proofs.lemmas.List.{length-map}
 use Rattle.source_lex.specs.Numbered.{plain_alternatives}
 use Rattle.chart_parse.specs.declared.rows.Entry.{Entry}
 use Rattle.chart_parse.specs.Rows.{Has, Lists, AreWide}
-use Rattle.chart_parse.specs.Places.{grammar_of, width_of, list_of, row_at, AreNear}
+use Rattle.chart_parse.specs.Places.{grammar_of, width_of, list_of, AreNear}
 use Rattle.chart_parse.proofs.NearRows.{near_from, near_marked, row_there}
 use Rattle.chart_parse.proofs.Stored.{lists_there, list_there, written_back}
 use Rattle.chart_parse.proofs.Updated.{has_bit}
@@ -75,10 +75,12 @@ loop-m-preserved c =
             | inr q ↦ inr q
           ])
           (λ n e x.
-              let a = c.is_alone.ensures v.if-is_alone.true n e (omega (arith, ap length one_is, one_len, c.in_ok-one.ensures.len, has_bit w e x.0)) (subst (λ (t : List Entry). Lists t n e) there x.1) in
-              (a.0, elim ((c.insert.ensures.one e).0 (subst (λ (r : List ℕ). Has r e) one_is a.1)) [
-                | inl o ↦ absurd (c.in_ok-one.ensures.none e (subst (λ (r : List ℕ). Has r e) c.deref_mut.ensures.value o))
-                | inr q ↦ q
-              ])))
+          let a = c.is_alone.ensures v.if-is_alone.true n e (omega (arith, ap length one_is, one_len, c.in_ok-one.ensures.len, has_bit w e x.0)) (subst (λ (t : List Entry). Lists t n e) there x.1) in (
+            a.0,
+            elim ((c.insert.ensures.one e).0 (subst (λ (r : List ℕ). Has r e) one_is a.1)) [
+              | inl o ↦ absurd (c.in_ok-one.ensures.none e (subst (λ (r : List ℕ). Has r e) c.deref_mut.ensures.value o))
+              | inr q ↦ q
+            ],
+          )))
       | else-is_alone v ↦ subst (λ (rows : List (Vec ℕ Global)). AreNear g w p c.args.place rows) (sym (ap (λ (y : Vec (Vec ℕ Global) Global). y.items) v.near-is)) c.loop-m.invariant
     ]

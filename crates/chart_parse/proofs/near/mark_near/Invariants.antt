@@ -1,4 +1,3 @@
-use Rattle.std.proofs.Common.{ℕ}
 use Rattle.chart_parse.specs.Places.{grammar_of, AreNear}
 use Rattle.chart_parse.proofs.near.mark_near.Given as goal
 

@@ -1,4 +1,4 @@
-use Rattle.std.proofs.Common.{◌≡◌, ◌∙◌, inl, inr, true, false, ℕ, ◌+◌, ◌<◌, List, Contains, sym, ap, subst, arith}
+use Rattle.std.proofs.Common.{◌≡◌, ◌∙◌, inl, inr, true, false, ℕ, ◌+◌, List, sym, ap, subst, arith}
 use Rattle.chart_parse.specs.Rows.{IsExtra}
 use Rattle.chart_parse.proofs.Collected.{Collects, collect_one, collect_none}
 use Rattle.chart_parse.proofs.numbers.add_word.Goals as goal

@@ -1,4 +1,4 @@
-use Rattle.std.proofs.Common.{ℕ, ◌+◌, ◌≤◌, ◌<◌}
+use Rattle.std.proofs.Common.{ℕ, ◌+◌, ◌≤◌}
 use Rattle.chart_parse.specs.Rows.{IsExtra}
 use Rattle.chart_parse.proofs.Collected.{Collects}
 use Rattle.chart_parse.proofs.numbers.add_word.Given as goal

@@ -1,4 +1,4 @@
-use Rattle.std.proofs.Common.{◌≡◌, ◌∙◌, ℕ, ◌+◌, ◌*◌, ◌<◌, List, Contains, sym, ap, subst, arith}
+use Rattle.std.proofs.Common.{ℕ, ◌+◌, ◌*◌, ◌<◌, List, Contains, sym, ap, subst, arith}
 use Rattle.std.specs.Prelude.{◌↔◌}
 use Rattle.chart_parse.specs.Rows.{IsExtra}
 use Rattle.chart_parse.proofs.Bits.{covered}

@@ -1,6 +1,6 @@
-use Rattle.std.proofs.Common.{◌≡◌, ◌≢◌, ◌∙◌, ◌<◌, ◌≤◌, ℕ, false, inl, inr, refl, [], ◌∷◌, length, List, slice_set, sym, ap, subst, arith, Vec, Global}
+use Rattle.std.proofs.Common.{◌≡◌, ◌≢◌, ◌<◌, ◌≤◌, ℕ, false, inl, inr, refl, [], ◌∷◌, length, List, slice_set, sym, ap, subst, arith, Vec, Global}
 use Rattle.chart_parse.specs.declared.rows.Entry.{Entry}
-use Rattle.chart_parse.specs.Rows.{Has, Lists, AreWide, ListsBoth}
+use Rattle.chart_parse.specs.Rows.{Has, ListsBoth}
 use Rattle.chart_parse.specs.Table.{list_at, AllWide}
 use Rattle.chart_parse.specs.Places.{Places, grammar_of, width_of, IsListed, IsTrueOf, IsSame, IsAdded}
 use Rattle.chart_parse.proofs.Answered.{on_four, if_on}

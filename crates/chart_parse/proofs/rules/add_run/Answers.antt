@@ -1,7 +1,7 @@
 use Rattle.std.proofs.Common.{◌≡◌, ◌∙◌, ◌≤◌, ◌<◌, ◌+◌, ℕ, List, Contains, true, false, length, sym, ap, subst, arith}
 use Rattle.chart_parse.specs.Rows.{Has}
 use Rattle.chart_parse.specs.Growths.{Stays}
-use Rattle.chart_parse.specs.Places.{Places, grammar_of, row_at, RunsTo, IsListed, IsSame}
+use Rattle.chart_parse.specs.Places.{Places, grammar_of, row_at, RunsTo, IsSame}
 use Rattle.chart_parse.proofs.EndsOfParts.{listed_kept}
 use Rattle.chart_parse.proofs.NearRows.{row_there}
 use Rattle.chart_parse.proofs.Rounds.{same_more, end_right, run_follows, near_or_far}
@@ -55,12 +55,12 @@ returns-clause-follows c q =
           let second : IsSame mid new = c.in_ok-more.ensures.same (sym v.result-is ∙ q) in
           run_follows g w old new k m c.args.parts.now d c.in_ok-more.ensures.added.part (same_more old mid new first second) c.requires.into.0
           (λ l n e within run x.
-              let has : Has c.in_ok-ends.ends.items l = (c.in_ok-ends.ensures.ends l within).1 (subst (λ (p : Places). RunsTo g w p c.args.parts.now k l) (sym c.deref-2.ensures.value) run) in
-              near_or_far g w old k m d l n e (k + 1) near c.requires.near within
-              (listed_kept w mid old k d m l (sym (first k d)) (c.in_ok-itself.ensures.has l within (subst (λ (r : List ℕ). Has r l) (sym c.deref-3.ensures.value) has)))
-              (λ no y.
-                  let far = (c.in_ok-far.ensures l).1 (omega (arith, within), subst (λ (r : List ℕ). Has r l) (sym c.deref-4.ensures.value) has, λ z. no (subst (λ (r : List ℕ). Has r l) row z)) in
-                  listed_kept w mid old k d n e (sym (first k d))
-                  (c.in_ok-more.ensures.has (sym v.result-is ∙ q) l n e (subst (λ (t : List ℕ). Contains t l) (sym c.deref-6.ensures.value) far) (listed_kept w old mid l m n e (first l m) y)))
-              x)
+          let has : Has c.in_ok-ends.ends.items l = (c.in_ok-ends.ensures.ends l within).1 (subst (λ (p : Places). RunsTo g w p c.args.parts.now k l) (sym c.deref-2.ensures.value) run) in
+          near_or_far g w old k m d l n e (k + 1) near c.requires.near within
+          (listed_kept w mid old k d m l (sym (first k d)) (c.in_ok-itself.ensures.has l within (subst (λ (r : List ℕ). Has r l) (sym c.deref-3.ensures.value) has)))
+          (λ no y.
+          let far = (c.in_ok-far.ensures l).1 (omega (arith, within), subst (λ (r : List ℕ). Has r l) (sym c.deref-4.ensures.value) has, λ z. no (subst (λ (r : List ℕ). Has r l) row z)) in
+          listed_kept w mid old k d n e (sym (first k d))
+          (c.in_ok-more.ensures.has (sym v.result-is ∙ q) l n e (subst (λ (t : List ℕ). Contains t l) (sym c.deref-6.ensures.value) far) (listed_kept w old mid l m n e (first l m) y)))
+          x)
     ]

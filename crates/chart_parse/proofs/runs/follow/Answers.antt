@@ -1,4 +1,4 @@
-use Rattle.std.proofs.Common.{◌≡◌, ◌∙◌, ℕ, ◌+◌, ◌<◌, List, ◌++◌, ◌∷◌, [], take, take_all, drop, get_or, Contains, add-one, length, sym, ap, subst, arith}
+use Rattle.std.proofs.Common.{◌≡◌, ◌∙◌, ℕ, ◌+◌, ◌<◌, List, ◌++◌, ◌∷◌, [], take, take_all, drop, Contains, add-one, length, sym, ap, subst, arith}
 use Rattle.std.specs.Prelude.{◌↔◌}
 use Rattle.std.proofs.Math.Seq.{take-suc}
 use Rattle.std.proofs.lemmas.List.Elements.{Contains-get_or}
@@ -6,7 +6,6 @@ use Rattle.chart_parse.specs.Rows.{Has}
 use Rattle.chart_parse.specs.Places.{grammar_of}
 use Rattle.chart_parse.proofs.Followed.{AdvancesAmong, among_none, among_next, among_all}
 use Rattle.chart_parse.proofs.Stored.{written_back}
-use Rattle.chart_parse.proofs.Updated.{has_bit}
 use Rattle.chart_parse.proofs.runs.follow.Goals as goal
 
 pub loop-q-init : goal.loop-q-init
