@@ -106,8 +106,14 @@ fn checks(rt: HostRuntime) -> Result<(), Fail> {
 // Actions with no admissible table, those whose nodes have no code among them.
 const ILL_SORTED: [(&[u8], &[u8]); 7] = [
     (b"enact 1", b"ill-sorted 0\n"),
-    (b"unfolding ((give 1 and then unfold) or complete)", b"ill-sorted 0\n"),
-    (b"(give true) then (send the given integer)", b"ill-sorted 2\n"),
+    (
+        b"unfolding ((give 1 and then unfold) or complete)",
+        b"ill-sorted 0\n",
+    ),
+    (
+        b"(give true) then (send the given integer)",
+        b"ill-sorted 2\n",
+    ),
     (b"(give 1) or (give (1, 2))", b"ill-sorted 0\n"),
     (b"bind \"x\" to 1 and bind \"x\" to 2", b"ill-sorted 0\n"),
     (b"complete and send sum(1, true)", b"ill-sorted 2\n"),
@@ -138,7 +144,14 @@ fn too_many_places(rt: HostRuntime) -> Result<(), Fail> {
 fn refusals(rt: HostRuntime) -> Result<(), Fail> {
     let alloc = rt.alloc();
     assert!(rt; acts(alloc, b"give 1", b"unbuilt 0\n", Status::Action)?);
-    assert!(rt; acts(alloc, b"complete and give 1", b"unbuilt 2\n", Status::Action)?);
+    assert!(rt;
+        acts(
+            alloc,
+            b"complete and give 1",
+            b"unbuilt 2\n",
+            Status::Action
+        )?
+    );
     assert!(rt; acts(alloc, b"send ?", b"action byte 5\n", Status::Action)?);
     assert!(rt; acts(alloc, b"send 1 and", b"action text 10\n", Status::Action)?);
     assert!(rt; acts(alloc, b"unfold", b"stray unfold 0\n", Status::Action)?);
