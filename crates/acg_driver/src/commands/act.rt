@@ -40,7 +40,8 @@ fn least_table<'a>(alloc: Global, arena: &'a Bump, graph: &Graph<'a>) -> Result<
 // Compiles and loads the action that the bytes spell, or answers the line with which it is refused.
 fn load_text(alloc: Global, bytes: &[u8]) -> Result<Loaded, Line>
     ensures loads { IfOk result (λ loaded. LoadsAct (bytes.now ∷ []) loaded) }
-    ensures refused { IfErr result (λ line. RefusesText bytes.now line ⊎ IsUncompiled bytes.now line) }
+    ensures refused { IfErr result (λ line. RefusesText bytes.now line
+        ⊎ IsUncompiled bytes.now line) }
 {
     let arena = Bump::new(alloc);
     let graph = read_graph(alloc, &arena, bytes)?;
