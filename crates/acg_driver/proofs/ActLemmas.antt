@@ -15,7 +15,7 @@ use Rattle.acg_driver.specs.Texts.{RefusesText}
 use Rattle.acg_driver.specs.Says.{Said}
 use Rattle.acg_driver.specs.Runs.{instruction_limit, IsRun, IsLoaded}
 use Rattle.acg_driver.specs.Files.{read_status}
-use Rattle.acg_driver.specs.Commands.Act.{IsUnbuilt, LoadsAct, RunsAct}
+use Rattle.acg_driver.specs.Commands.Act.{IsUncompiled, LoadsAct, RunsAct}
 use Rattle.acg_driver.proofs.Asking.{text-other}
 use Rattle.acg_driver.proofs.RunLemmas.{run-other}
 
@@ -24,16 +24,16 @@ pub nothing-first : (xs : List ℕ) → None ≡ slice_get xs 0 → xs ≡ []
 nothing-first [] none = refl
 nothing-first (x ∷ xs) none = absurd (cc)
 
-unbuilt-other : (bytes : List ℕ) (line : Line) → IsUnbuilt bytes line → status_of line ≢ status.ReadFault
-unbuilt-other bytes (ReadFault name) is = absurd is
-unbuilt-other bytes _ is = λ e. cc
+uncompiled-other : (bytes : List ℕ) (line : Line) → IsUncompiled bytes line → status_of line ≢ status.ReadFault
+uncompiled-other bytes (ReadFault name) is = absurd is
+uncompiled-other bytes _ is = λ e. cc
 
 -- no refusal behind the read is a read fault
-pub load-other : (bytes : List ℕ) (line : Line) → RefusesText bytes line ⊎ IsUnbuilt bytes line → status_of line ≢ status.ReadFault
+pub load-other : (bytes : List ℕ) (line : Line) → RefusesText bytes line ⊎ IsUncompiled bytes line → status_of line ≢ status.ReadFault
 load-other bytes line (inl refused) = text-other bytes line refused
-load-other bytes line (inr unbuilt) = unbuilt-other bytes line unbuilt
+load-other bytes line (inr uncompiled) = uncompiled-other bytes line uncompiled
 
-pub loaded-other : {A : Type 0} (bytes : List ℕ) (result : Result A Line) → IfErr result (λ line. RefusesText bytes line ⊎ IsUnbuilt bytes line) → read_status result ≢ status.ReadFault
+pub loaded-other : {A : Type 0} (bytes : List ℕ) (result : Result A Line) → IfErr result (λ line. RefusesText bytes line ⊎ IsUncompiled bytes line) → read_status result ≢ status.ReadFault
 loaded-other bytes (Ok a) refused = λ e. cc
 loaded-other bytes (Err line) refused = load-other bytes line refused
 
@@ -43,7 +43,7 @@ act-loaded [] loaded loads = absurd loads
 act-loaded (bytes ∷ more ∷ others) loaded loads = absurd loads
 
 is_run-other : (g : Listed) (text : List ℕ) (s : Status) → IsRun g text s → s ≢ status.ReadFault
-is_run-other g text s (image, right, (rest, is, runs)) = run-other (run instruction_limit (started image [])) rest s runs
+is_run-other g text s (t, least, (image, right, (rest, is, runs))) = run-other (run instruction_limit (started image [])) rest s runs
 
 module _ {K : Type 0} {sink : Ghosts K} where
   -- the run of what was loaded is what the command says

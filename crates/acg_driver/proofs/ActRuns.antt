@@ -1,4 +1,4 @@
--- An action that reads, and whose nodes have code, is run.
+-- An action that reads, is well-sorted, and whose nodes have code, is run.
 use Rattle.std.proofs.Common.{◌≡◌, ◌≢◌, inl, inr, ℕ, zero, suc, List, [], ◌∷◌, Some, slice_get, refl, sym, ap, ◌∙◌, subst}
 use Rattle.acg_base.specs.Outside.{Contents}
 use Rattle.acg_base.specs.declared.limits.TheConstants.{LIMIT_ACTION}
@@ -8,15 +8,16 @@ use Rattle.action_terms.specs.Numbering.{Listed, listed}
 use Rattle.action_terms.specs.Meaning.{action_of}
 use Rattle.rv_code.specs.Machine.{Outcome, Ran, Exited, Trapped, run}
 use Rattle.rv_code.specs.Images.{started}
+use Rattle.sort_rules.specs.Admissible.{IsAdmissible, IsWellSorted}
 use Rattle.rv_codegen.specs.Built.{unbuilt}
 use Rattle.acg_words.specs.Commands.{Act}
 use Rattle.acg_words.specs.Lines.{status_of}
 use Rattle.acg_words.specs.declared.line.Line.{Line}
-use Rattle.acg_words.specs.declared.line.Line.TheVariants.{Memory, ReadFault, Unbuilt}
+use Rattle.acg_words.specs.declared.line.Line.TheVariants.{IllSorted, Memory, ReadFault, Unbuilt}
 use Rattle.acg_driver.specs.Texts.{Reads, IsUnread}
 use Rattle.acg_driver.specs.Files.{files_if, readings_of, AreGiven}
 use Rattle.acg_driver.specs.Runs.{instruction_limit, IsExit, IsRunOf, IsRun}
-use Rattle.acg_driver.specs.Commands.Act.{IsBuilt, IsUnbuilt}
+use Rattle.acg_driver.specs.Commands.Act.{IsBuilt, IsUncompiled}
 use Rattle.acg_driver.specs.Serving.{Replies, IsOfRun, PerformsAsked}
 use Rattle.acg_driver.proofs.Fronts.{given-is}
 use Rattle.acg_driver.proofs.TextErrors.{one_text, content-refused, reads-whole}
@@ -26,14 +27,16 @@ one-graph : (bytes : List ℕ) (g h : Listed) → Reads bytes g → Reads bytes 
 one-graph bytes g h (small, (t, text, graph)) (less, (u, other, same)) =
     graph.numbered ∙ ap listed (one_text bytes t u text other) ∙ sym same.numbered
 
--- no node of an action that has code is named as one that has none
-built-unbuilt : (bytes : List ℕ) (g : Listed) (line : Line) → IsBuilt bytes g → IsUnbuilt bytes line → ⊥
-built-unbuilt bytes g (Unbuilt node) (reads, built) (h, others, first) =
+-- an action that is well-sorted and has code isn't refused
+built-compiled : (bytes : List ℕ) (g : Listed) (line : Line) → IsBuilt bytes g → IsWellSorted (action_of g) → IsUncompiled bytes line → ⊥
+built-compiled bytes g (IllSorted node) (reads, built) (t, admissible) (h, others, ill) =
+    ill.none_is t (subst (λ x. IsAdmissible (action_of x) t) (one-graph bytes g h reads others) admissible)
+built-compiled bytes g (Unbuilt node) (reads, built) sorted (h, others, well, first) =
     let none : unbuilt (action_of h) ≡ [] =
     subst (λ x. unbuilt (action_of x) ≡ []) (one-graph bytes g h reads others) built in
     let at : slice_get [] 0 ≡ Some node = sym (ap (λ ks. slice_get ks 0) none) ∙ first in
     absurd (cc)
-built-unbuilt bytes g _ built is = absurd is
+built-compiled bytes g _ built sorted is = absurd is
 
 memory-runs : (line : Line) → line ≡ Memory → IsOfRun (status_of line)
 memory-runs line is = subst (λ l. IsOfRun (status_of l)) (sym is) tt
@@ -56,23 +59,23 @@ outcome-runs (Exited code sent) text s (line, exit, says) = subst IsOfRun (sym s
 outcome-runs (Trapped cause) text s says = absurd says
 
 run-runs : (g : Listed) (text : List ℕ) (s : Status) → IsRun g text s → IsOfRun s
-run-runs g text s (image, right, (rest, is, runs)) = outcome-runs (run instruction_limit (started image [])) rest s runs
+run-runs g text s (t, least, (image, right, (rest, is, runs))) = outcome-runs (run instruction_limit (started image [])) rest s runs
 
 -- what is replied to `act` over a store that tells its contents
 pub act-performs :
     (contents : Contents) (action : List ℕ) (givens : List (List ℕ)) (text : List ℕ) (s : Status) →
     AreGiven contents (readings_of (files_if (Some (Act action))) givens) → Replies (Act action) givens text s →
     s ≢ status.ReadFault → PerformsAsked contents (Some (Act action)) s
-act-performs contents action [] text s given (inl (line, unread, says)) not content g there built =
+act-performs contents action [] text s given (inl (line, unread, says)) not content g there built sorted =
     subst IsOfRun (sym says.1) (unread-runs action line unread (λ e. not (says.1 ∙ e)))
-act-performs contents action [] text s given (inr none) not content g there built = absurd none
-act-performs contents action (b ∷ []) text s given (inl (line, inl refused, says)) not content g there built =
+act-performs contents action [] text s given (inr none) not content g there built sorted = absurd none
+act-performs contents action (b ∷ []) text s given (inl (line, inl refused, says)) not content g there built sorted =
     let front_of = given-is contents action content b LIMIT_ACTION there given.0 in
     subst IsOfRun (sym says.1) (memory-runs line (content-refused content b g line front_of built.0 refused))
-act-performs contents action (b ∷ []) text s given (inl (line, inr is, says)) not content g there built =
+act-performs contents action (b ∷ []) text s given (inl (line, inr is, says)) not content g there built sorted =
     let front_of = given-is contents action content b LIMIT_ACTION there given.0 in
     let whole = reads-whole content b g front_of built.0 in
-    absurd (built-unbuilt content g line built (subst (λ x. IsUnbuilt x line) whole is))
-act-performs contents action (b ∷ []) text s given (inr (h, is, runs)) not content g there built = run-runs h text s runs
-act-performs contents action (b ∷ more ∷ others) text s given (inl (line, none, says)) not content g there built = absurd none
-act-performs contents action (b ∷ more ∷ others) text s given (inr none) not content g there built = absurd none
+    absurd (built-compiled content g line built sorted (subst (λ x. IsUncompiled x line) whole is))
+act-performs contents action (b ∷ []) text s given (inr (h, is, runs)) not content g there built sorted = run-runs h text s runs
+act-performs contents action (b ∷ more ∷ others) text s given (inl (line, none, says)) not content g there built sorted = absurd none
+act-performs contents action (b ∷ more ∷ others) text s given (inr none) not content g there built sorted = absurd none

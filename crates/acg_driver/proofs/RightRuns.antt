@@ -1,13 +1,10 @@
 -- Runs of a right image can be printed as they go.
 use Rattle.std.proofs.Common.{◌≡◌, ℕ, zero, suc, ◌+◌, ℤ, List, [], ◌∷◌, length, refl, ap, ◌∙◌, arith}
 use Rattle.std.proofs.lemmas.List.{length-append}
-use Rattle.action_terms.specs.Numbering.{Listed}
 use Rattle.action_terms.specs.Performances.{message_bytes, messages_bytes}
 use Rattle.rv_code.specs.Machine.{Outcome, Ran, Exited, Trapped, run}
 use Rattle.rv_code.specs.Images.{Image, started}
-use Rattle.rv_codegen.specs.RightImage.{Subject, Shows}
-use Rattle.sort_rules.specs.Parts.{Unreached}
-use Rattle.acg_driver.specs.Runs.{IsRightFor}
+use Rattle.rv_codegen.specs.RightImage.{Subject, Shows, IsRight}
 use Rattle.acg_driver.specs.Sending.{IsWhole, SendsMessages}
 
 messages-whole : (ms : List ℤ) → IsWhole (messages_bytes ms)
@@ -30,7 +27,6 @@ shows-messages x m (Exited (suc (suc (suc zero))) output) h = (output-whole outp
 shows-messages x m (Exited (suc (suc (suc (suc code)))) output) h = absurd h
 shows-messages x m (Trapped cause) h = absurd h
 
--- an image that is right for a graph's action sends whole messages, exits with a code of 0 to 3 and doesn't trap
-pub right-sends : (g : Listed) (image : Image) → IsRightFor g image → (m : ℕ) → SendsMessages (run m (started image []))
-right-sends g image right m =
-    shows-messages _ m (run m (started image [])) ((right (λ entry. Unreached)).shows [] (λ k d below. absurd (omega arith)) m)
+-- a right image sends whole messages, exits with a code of 0 to 3 and doesn't trap
+pub right-sends : (image : Image) (x : Subject) → IsRight image x → (m : ℕ) → SendsMessages (run m (started image []))
+right-sends image x right m = shows-messages x m (run m (started image [])) (right.shows [] (λ k d below. absurd (omega arith)) m)

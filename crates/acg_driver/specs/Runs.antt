@@ -3,13 +3,13 @@ use Rattle.std.specs.Prelude.{◌≡◌, ℕ, zero, suc, List, [], ◌++◌}
 use Rattle.acg_base.specs.declared.capacity.TheConstants.{DEFAULT_STACK, DEFAULT_UNITS}
 use Rattle.acg_base.specs.declared.status.Status.{Status}
 use Rattle.action_terms.specs.Numbering.{Listed}
-use Rattle.action_terms.specs.Actions.{Action}
 use Rattle.action_terms.specs.Meaning.{action_of}
-use Rattle.action_terms.specs.Need.{most_yielders, factor}
 use Rattle.action_terms.specs.Performances.{records}
 use Rattle.rv_code.specs.Machine.{Outcome, Ran, Exited, Trapped, run}
 use Rattle.rv_code.specs.Images.{Image, started}
-use Rattle.rv_codegen.specs.RightImage.{IsRight}
+use Rattle.rv_codegen.specs.Measures.{factor_by}
+use Rattle.rv_codegen.specs.RightImage.{Subject, IsRight}
+use Rattle.sort_rules.specs.Admissible.{IsLeast}
 use Rattle.sort_rules.specs.Tables.{MarkedTable}
 use Rattle.rv_machine.specs.Machines.{MachineValue, loaded_machine}
 use Rattle.acg_words.specs.Lines.{header_line, message_lines}
@@ -40,28 +40,27 @@ IsRunOf (Ran s) text status = SaysBehind (output_lines s.output) Running text st
 IsRunOf (Exited code output) text status = (line : Line) × IsExit code line × SaysBehind (output_lines output) line text status
 IsRunOf (Trapped cause) text status = ⊥
 
--- the image is right for the action of the graph, with the default capacity, whatever table measures it
-abbrev pub IsRightFor : Listed → Image → Type 0
-IsRightFor g image =
-    (t : MarkedTable) → IsRight image (record { action = action_of g; table = t; stack = DEFAULT_STACK; units = DEFAULT_UNITS })
+-- what an image of the graph's action is compared with: a table of its sorts, and the default capacity
+abbrev pub subject_of : Listed → MarkedTable → Subject
+subject_of g t = record { action = action_of g; table = t; stack = DEFAULT_STACK; units = DEFAULT_UNITS }
 
--- the factor of an action none of whose nodes has data or bindings
-abbrev pub factor_of : Action → ℕ
-factor_of a = factor 0 (most_yielders a)
-
--- some image is right for the action of the graph, with the default capacity; behind the header line, with the factor,
--- stands its run, on no input, for at most so many instructions
+-- the action of the graph is well-sorted, and some image is right for it by its least table, with the default capacity;
+-- behind the header line, with the factor by that table, stands the image's run, on no input, for at most so many
+-- instructions
 abbrev pub IsRun : Listed → (text : List ℕ) → Status → Type 0
 IsRun g text status =
-    (image : Image) × IsRightFor g image
-    × ((rest : List ℕ) × (text ≡ header_line DEFAULT_STACK DEFAULT_UNITS (factor_of (action_of g)) ++ rest)
-    × IsRunOf (run instruction_limit (started image [])) rest status)
+    (t : MarkedTable) × IsLeast (action_of g) t
+    × ((image : Image) × IsRight image (subject_of g t)
+    × ((rest : List ℕ) × (text ≡ header_line DEFAULT_STACK DEFAULT_UNITS (factor_by (action_of g) t) ++ rest)
+    × IsRunOf (run instruction_limit (started image [])) rest status))
 
--- the machine stands before the first instruction of an image that is right for the graph's action, with the default
--- capacity
-abbrev pub IsRightStart : Listed → MachineValue → Type 0
-IsRightStart g machine = (image : Image) × IsRightFor g image × (machine ≡ loaded_machine image)
+-- the machine stands before the first instruction of an image that is right for the graph's action by this table, with
+-- the default capacity
+abbrev pub IsRightStart : Listed → MarkedTable → MachineValue → Type 0
+IsRightStart g t machine = (image : Image) × IsRight image (subject_of g t) × (machine ≡ loaded_machine image)
 
--- so does the machine that is loaded, and the factor is that of the action
+-- so does the machine that is loaded, by the least table, and the factor is that of the action by this table
 abbrev pub IsLoaded : Listed → Loaded → Type 0
-IsLoaded g loaded = IsRightStart g loaded.machine × (loaded.factor ≡ factor_of (action_of g))
+IsLoaded g loaded =
+    (t : MarkedTable) × IsLeast (action_of g) t
+    × (IsRightStart g t loaded.machine × (loaded.factor ≡ factor_by (action_of g) t))

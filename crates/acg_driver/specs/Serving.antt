@@ -7,6 +7,8 @@ use Rattle.acg_base.specs.declared.status.Status.{Status}
 use Rattle.acg_base.specs.declared.status.Status.TheVariants as status
 use Rattle.acg_base.specs.declared.store.Store.{Ghosts as Store}
 use Rattle.action_terms.specs.Numbering.{Listed}
+use Rattle.action_terms.specs.Meaning.{action_of}
+use Rattle.sort_rules.specs.Admissible.{IsWellSorted}
 use Rattle.acg_words.specs.Commands.{Command, Act, Perform, Help, Version, command_of}
 use Rattle.acg_words.specs.Lines.{read_fault_line}
 use Rattle.acg_words.specs.Prints.{Answered}
@@ -86,11 +88,11 @@ abbrev pub IsOfRun : Status → Type 0
 IsOfRun status.Full = Unit {0}
 IsOfRun status = IsOfPerformance status
 
--- nothing is refused, unless memory runs out: an action that reads and whose nodes have code is run, and an action that
--- reads is performed with an input within its limit
+-- nothing is refused, unless memory runs out: an action that reads, is well-sorted and whose nodes have code is run, and
+-- an action that reads is performed with an input within its limit
 abbrev pub PerformsAsked : Contents → Option Command → Status → Type 0
 PerformsAsked contents (Some (Act action)) result =
-    (content : List ℕ) (g : Listed) → contents action ≡ Some content → IsBuilt content g → IsOfRun result
+    (content : List ℕ) (g : Listed) → contents action ≡ Some content → IsBuilt content g → IsWellSorted (action_of g) → IsOfRun result
 PerformsAsked contents (Some (Perform n action input)) result =
     (content : List ℕ) (g : Listed) (bytes : List ℕ) → contents action ≡ Some content → Reads content g
     → IsInput contents input bytes → length bytes ≤ LIMIT_INPUT → IsOfPerformance result

@@ -4,6 +4,8 @@ ghost use Rattle.std.specs.Prelude.{◌≡◌, [], IfOk, IfErr};
 ghost use Rattle.action_terms.specs.Numbering.{Listed};
 ghost use Rattle.action_terms.specs.Meaning.{action_of};
 ghost use Rattle.rv_codegen.specs.Built.{unbuilt};
+ghost use Rattle.sort_rules.specs.Admissible.{IsLeast};
+ghost use Rattle.sort_rules.specs.Rows.{IsTableOf, unmarked};
 ghost use Rattle.acg_driver.specs.Says.{Said};
 ghost use Rattle.acg_driver.specs.Runs.{IsRun, IsLoaded};
 
@@ -12,8 +14,9 @@ use crate::machine_run::run_machine;
 use acg_base::{DEFAULT_BUDGET, DEFAULT_STACK, DEFAULT_UNITS, Memory, Sink, SinkError, Status};
 use acg_words::print_header;
 use action_terms::Graph;
-use rv_codegen::{generate, instructions_per_step};
+use rv_codegen::generate;
 use rv_machine::Machine;
+use sort_rules::{Table, factor};
 use std::alloc::Global;
 
 /// An action that is compiled and loaded.
@@ -23,15 +26,18 @@ pub struct Loaded {
     factor: u64,
 }
 
-/// Compiles the graph's action for the default capacity, and loads its image. Takes all memory of the run.
-pub fn load(alloc: Global, graph: &Graph<'_>) -> Result<Loaded, Memory>
-    requires { unbuilt (action_of graph.now) ≡ [] }
+/// Compiles the graph's action for the default capacity, and loads its image. The table is the least of the action's
+/// sorts: the factor is taken from it. Takes all memory of the run.
+pub fn load(alloc: Global, graph: &Graph<'_>, table: &Table<'_>) -> Result<Loaded, Memory>
+    requires built { unbuilt (action_of graph.now) ≡ [] }
+    requires least { IsLeast (action_of graph.now) (unmarked table.now) }
+    requires proper { IsTableOf (action_of graph.now) table.now }
     ensures { IfOk result (λ loaded. IsLoaded graph.now loaded) }
 {
     let code = generate(alloc, graph)?;
     let image = compiled_image(alloc, &code.words)?;
     let machine = Machine::load(alloc, image)?;
-    let factor = instructions_per_step(alloc, graph)?;
+    let factor = factor(alloc, graph, table)?;
     Ok(Loaded { machine, factor })
 }
 

@@ -103,6 +103,43 @@ fn checks(rt: HostRuntime) -> Result<(), Fail> {
     Ok(())
 }
 
+// Actions with no admissible table, those whose nodes have no code among them.
+const ILL_SORTED: [(&[u8], &[u8]); 7] = [
+    (b"enact 1", b"ill-sorted 0\n"),
+    (
+        b"unfolding ((give 1 and then unfold) or complete)",
+        b"ill-sorted 0\n",
+    ),
+    (
+        b"(give true) then (send the given integer)",
+        b"ill-sorted 2\n",
+    ),
+    (b"(give 1) or (give (1, 2))", b"ill-sorted 0\n"),
+    (b"bind \"x\" to 1 and bind \"x\" to 2", b"ill-sorted 0\n"),
+    (b"complete and send sum(1, true)", b"ill-sorted 2\n"),
+    (b"send 1 and then send not(true)", b"ill-sorted 2\n"),
+];
+
+#[test]
+fn ill_sorted(rt: HostRuntime) -> Result<(), Fail> {
+    for (action, printed) in ILL_SORTED {
+        assert!(rt; acts(rt.alloc(), action, printed, Status::IllSorted)?);
+    }
+    Ok(())
+}
+
+// Each `then` gives twice as many data: the last one of six would give 128, and 64 is the most.
+#[test]
+fn too_many_places(rt: HostRuntime) -> Result<(), Fail> {
+    let mut action = Vec::from_slice(rt.alloc(), b"give (1, 1)")?;
+    for _turn in 0..6 {
+        action.extend_from_slice(b" then give (them, them)")?;
+    }
+    action.extend_from_slice(b" then complete")?;
+    assert!(rt; acts(rt.alloc(), &action, b"ill-sorted 1\n", Status::IllSorted)?);
+    Ok(())
+}
+
 #[test]
 fn refusals(rt: HostRuntime) -> Result<(), Fail> {
     let alloc = rt.alloc();
@@ -110,7 +147,7 @@ fn refusals(rt: HostRuntime) -> Result<(), Fail> {
     assert!(rt;
         acts(
             alloc,
-            b"complete and send sum(1, true)",
+            b"complete and give 1",
             b"unbuilt 2\n",
             Status::Action
         )?

@@ -5,7 +5,7 @@ use Rattle.acg_base.specs.declared.limits.TheConstants.{LIMIT_ACTION, LIMIT_INPU
 use Rattle.acg_base.specs.declared.status.Status.{Status}
 use Rattle.acg_base.specs.declared.status.Status.TheVariants as status
 use Rattle.acg_words.specs.declared.line.Line.{Line}
-use Rattle.acg_words.specs.declared.line.Line.TheVariants.{Words, ReadFault, LimitAction, LimitInput, LimitNodes, ActionByte, ActionText, StrayUnfold, Unbuilt, Memory, Completed, Failed, Escaped, Full, Running}
+use Rattle.acg_words.specs.declared.line.Line.TheVariants.{Words, ReadFault, LimitAction, LimitInput, LimitNodes, ActionByte, ActionText, StrayUnfold, IllSorted, Unbuilt, Memory, Completed, Failed, Escaped, Full, Running}
 
 -- a text, a number and a line feed
 abbrev pub numbered_line : List ℕ → ℕ → List ℕ
@@ -25,6 +25,7 @@ bytes_of LimitNodes = numbered_line (codes "limit nodes ") LIMIT_NODES
 bytes_of (ActionByte offset) = numbered_line (codes "action byte ") offset
 bytes_of (ActionText offset) = numbered_line (codes "action text ") offset
 bytes_of (StrayUnfold node) = numbered_line (codes "stray unfold ") node
+bytes_of (IllSorted node) = numbered_line (codes "ill-sorted ") node
 bytes_of (Unbuilt node) = numbered_line (codes "unbuilt ") node
 bytes_of Memory = codes "memory\n"
 bytes_of Completed = codes "completed\n"
@@ -43,6 +44,7 @@ status_of LimitNodes = status.Limit
 status_of (ActionByte offset) = status.Action
 status_of (ActionText offset) = status.Action
 status_of (StrayUnfold node) = status.Action
+status_of (IllSorted node) = status.IllSorted
 status_of (Unbuilt node) = status.Action
 status_of Memory = status.Memory
 status_of Completed = status.Done

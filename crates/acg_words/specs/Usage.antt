@@ -62,7 +62,7 @@ status_line status = concat (codes "status " ∷ unsigned_decimal_of (code_of st
 
 -- the statuses with which commands end
 abbrev pub statuses : List Status
-statuses = Done ∷ Failed ∷ Escaped ∷ Full ∷ Running ∷ Words ∷ ReadFault ∷ WriteFault ∷ Limit ∷ Memory ∷ Action ∷ []
+statuses = Done ∷ Failed ∷ Escaped ∷ Full ∷ Running ∷ Words ∷ ReadFault ∷ WriteFault ∷ IllSorted ∷ Limit ∷ Memory ∷ Action ∷ []
 
 -- each command that there is, and then each status with which they end
 unfoldable pub usage : List ℕ

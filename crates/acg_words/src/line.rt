@@ -39,6 +39,11 @@ pub enum Line {
         /// The least such node.
         node: u32,
     },
+    /// No table of sorts is admissible for the action.
+    IllSorted {
+        /// The least node with a clash in the least marked table.
+        node: u32,
+    },
     /// A node has no code yet.
     Unbuilt {
         /// The least such node.
@@ -87,6 +92,7 @@ impl Line {
             | Line::ActionText { .. }
             | Line::StrayUnfold { .. }
             | Line::Unbuilt { .. } => Status::Action,
+            Line::IllSorted { .. } => Status::IllSorted,
             Line::Memory => Status::Memory,
             Line::Completed => Status::Done,
             Line::Failed => Status::Failed,
@@ -113,6 +119,7 @@ impl Line {
             Line::ActionByte { offset } => print_numbered(out, b"action byte ", *offset),
             Line::ActionText { offset } => print_numbered(out, b"action text ", *offset),
             Line::StrayUnfold { node } => print_numbered(out, b"stray unfold ", *node),
+            Line::IllSorted { node } => print_numbered(out, b"ill-sorted ", *node),
             Line::Unbuilt { node } => print_numbered(out, b"unbuilt ", *node),
             Line::Memory => print(out, b"memory\n"),
             Line::Completed => print(out, b"completed\n"),

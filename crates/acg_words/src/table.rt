@@ -84,7 +84,7 @@ pub(crate) fn kind_named(name: &str) -> Option<Kind>
 }
 
 /// The statuses with which the commands end.
-pub(crate) static STATUSES: [Status; 11] = [
+pub(crate) static STATUSES: [Status; 12] = [
     Status::Done,
     Status::Failed,
     Status::Escaped,
@@ -93,6 +93,7 @@ pub(crate) static STATUSES: [Status; 11] = [
     Status::Words,
     Status::ReadFault,
     Status::WriteFault,
+    Status::IllSorted,
     Status::Limit,
     Status::Memory,
     Status::Action,

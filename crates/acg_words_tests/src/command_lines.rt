@@ -87,6 +87,7 @@ status 4: the instructions or steps of a run were taken without an end
 status 10: the words are no command line
 status 11: a file can't be read
 status 12: the output can't be written
+status 17: the action isn't well-sorted
 status 18: a file or an action is too large
 status 19: memory ran out
 status 22: the file holds no action, or one that can't be compiled

@@ -24,7 +24,7 @@ use Rattle.rv_codegen.specs.Built.{unbuilt}
 use Rattle.rv_codegen.proofs.Compiling.{IsCompilable}
 use Rattle.rv_codegen.proofs.Loading.{code_bytes-small, compiled-loads}
 use Rattle.rv_codegen.proofs.Right.{image-shows}
-use Rattle.rv_codegen.proofs.Yielders.{node-yielders_few}
+use Rattle.sort_rules.proofs.YielderCounts.{node-few}
 use Rattle.rv_codegen.proofs.GraphNodes.{tree-of-graph, built-of-graph, length-action_of}
 
 -- what holds of the value of an `Ok`, with what an `Ok` tells
@@ -57,7 +57,7 @@ module _ (g : Listed) (graph : IsGraph g) (numbers : NumbersFit (action_of g)) (
     tree = tree-of-graph g graph;
     built = λ k n e. built-of-graph (action_of g) none k n e;
     numbers = numbers;
-    few = node-yielders_few g graph;
+    few = node-few g graph;
     some = omega (arith, length-action_of g, length-nodes_some g graph);
   }
 

@@ -7,7 +7,6 @@ mod conditions;
 mod data_tables;
 mod entries;
 mod exits;
-mod factor;
 mod generation;
 mod labels;
 mod node;
@@ -15,5 +14,4 @@ mod node_places;
 mod plan;
 
 pub use built::first_unbuilt;
-pub use factor::instructions_per_step;
 pub use generation::generate;

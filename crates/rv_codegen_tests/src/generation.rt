@@ -4,7 +4,7 @@ use acg_base::ListSink;
 use action_terms::pushed::Pushed;
 use action_terms::{Graph, GraphBuilder, Kind, NewAction, NewYielder, YKind};
 use bumpalo::Bump;
-use rv_codegen::{first_unbuilt, generate, instructions_per_step};
+use rv_codegen::{first_unbuilt, generate};
 use rv_machine::{Image, Input, Machine, Run, Segment};
 use std::alloc::Global;
 use std::process::Abort;
@@ -193,34 +193,5 @@ fn first_of_two_unbuilt_nodes(rt: HostRuntime) -> Result<(), Fail> {
     ];
     let graph = graph_of(&rt, rt.alloc(), &arena, &nodes)?;
     assert_eq!(rt; first_unbuilt(rt.alloc(), &graph)?, Some(3));
-    Ok(())
-}
-
-#[test]
-fn factors_by_yielders(rt: HostRuntime) -> Result<(), Fail> {
-    let arena = Bump::new(rt.alloc());
-    let nodes = [action(Kind::Send), yielder(YKind::Number(7))];
-    let sends = graph_of(&rt, rt.alloc(), &arena, &nodes)?;
-    assert!(rt; first_unbuilt(rt.alloc(), &sends)?.is_none());
-    assert_eq!(rt; instructions_per_step(rt.alloc(), &sends)?, 448);
-
-    let completes = graph_of(&rt, rt.alloc(), &arena, &[action(Kind::Complete)])?;
-    assert!(rt; first_unbuilt(rt.alloc(), &completes)?.is_none());
-    assert_eq!(rt; instructions_per_step(rt.alloc(), &completes)?, 424);
-
-    // send 7 and send negation(sum(7, 8)): the second node has more
-    let nodes = [
-        action(Kind::And),
-        action(Kind::Send),
-        yielder(YKind::Number(7)),
-        action(Kind::Send),
-        yielder(YKind::Negation),
-        yielder(YKind::Sum),
-        yielder(YKind::Number(7)),
-        yielder(YKind::Number(8)),
-    ];
-    let computes = graph_of(&rt, rt.alloc(), &arena, &nodes)?;
-    assert!(rt; first_unbuilt(rt.alloc(), &computes)?.is_none());
-    assert_eq!(rt; instructions_per_step(rt.alloc(), &computes)?, 520);
     Ok(())
 }

@@ -2,23 +2,37 @@
 use Rattle.std.specs.Prelude.{◌≡◌, ◌⊎◌, ℕ, List, [], ◌∷◌, Some, slice_get}
 use Rattle.acg_base.specs.declared.status.Status.{Status}
 use Rattle.action_terms.specs.Numbering.{Listed}
+use Rattle.action_terms.specs.Actions.{Action}
 use Rattle.action_terms.specs.Meaning.{action_of}
 use Rattle.rv_codegen.specs.Built.{unbuilt}
 use Rattle.acg_words.specs.declared.line.Line.{Line}
-use Rattle.acg_words.specs.declared.line.Line.TheVariants.{Unbuilt}
+use Rattle.sort_rules.specs.Admissible.{IsIllSorted, IsWellSorted}
+use Rattle.acg_words.specs.declared.line.Line.TheVariants.{IllSorted, Memory, Unbuilt}
 use Rattle.acg_driver.specs.Texts.{Reads, RefusesText, IsUnread}
 use Rattle.acg_driver.specs.Runs.{IsRun, IsLoaded}
 use Rattle.acg_driver.specs.declared.running.Loaded.{Loaded}
 
--- the node is the least of the action's that have no code yet
-abbrev pub IsUnbuilt : (bytes : List ℕ) → Line → Type 0
-IsUnbuilt bytes (Unbuilt node) = (g : Listed) × Reads bytes g × (slice_get (unbuilt (action_of g)) 0 ≡ Some node)
-IsUnbuilt bytes _ = ⊥
+-- the line with which an action is refused where a table of its sorts is wanted: it has no admissible one, and the node is
+-- the least with a clash in the least marked table; or memory ran out
+abbrev pub IsSortLine : Action → Line → Type 0
+IsSortLine a (IllSorted node) = IsIllSorted a node
+IsSortLine a Memory = Unit {0}
+IsSortLine a _ = ⊥
 
--- the line with which it is refused, from what its file gave: the file isn't read, is no action, or has no code yet
+-- the line with which an action that reads isn't compiled: no table of sorts is admissible for it, and the node is the
+-- least with a clash in the least marked table; or it is well-sorted, and the node is the least of those that have no code
+-- yet
+abbrev pub IsUncompiled : (bytes : List ℕ) → Line → Type 0
+IsUncompiled bytes (IllSorted node) = (g : Listed) × Reads bytes g × IsIllSorted (action_of g) node
+IsUncompiled bytes (Unbuilt node) =
+    (g : Listed) × Reads bytes g × IsWellSorted (action_of g) × (slice_get (unbuilt (action_of g)) 0 ≡ Some node)
+IsUncompiled bytes _ = ⊥
+
+-- the line with which it is refused, from what its file gave: the file isn't read, is no action, or one that isn't
+-- compiled
 abbrev pub RefusesAct : (action : List ℕ) → (givens : List (List ℕ)) → Line → Type 0
 RefusesAct action [] line = IsUnread action line
-RefusesAct action (bytes ∷ []) line = RefusesText bytes line ⊎ IsUnbuilt bytes line
+RefusesAct action (bytes ∷ []) line = RefusesText bytes line ⊎ IsUncompiled bytes line
 RefusesAct action _ line = ⊥
 
 -- the bytes are the text of the graph, and all nodes of its action have code

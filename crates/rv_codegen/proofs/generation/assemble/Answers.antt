@@ -10,7 +10,7 @@ use Rattle.rv_codegen.proofs.ExitLaws.{exits-made}
 use Rattle.rv_codegen.proofs.GraphNodes.{length-action_of, tree-of-graph}
 use Rattle.rv_codegen.specs.Measures.{node_count}
 use Rattle.rv_codegen.proofs.Generated.{count-few}
-use Rattle.rv_codegen.proofs.Yielders.{node-yielders_few}
+use Rattle.sort_rules.proofs.YielderCounts.{node-few}
 use Rattle.rv_codegen.proofs.generation.assemble.Goals as goal
 
 pub returns-clause-words : goal.returns-clause-words
@@ -30,7 +30,7 @@ invariant_of-plan-clause-made c =
     exits-made (action_of graph) (tree-of-graph graph c.nodes-count.ensures.of_an_action) c.deref-3.result.now _ (ap (λ xs. xs) c.deref-3.ensures.value ∙ c.in_ok-exits.ensures.exits) (omega (arith, c.in_ok-row.ensures.len, c.deref.ensures.len, length-map c.nodes-count.result.now listed_node, ap length c.nodes-count.ensures.nodes, length-action_of graph))
 
 pub invariant_of-plan-clause-few : goal.invariant_of-plan-clause-few
-invariant_of-plan-clause-few c = node-yielders_few c.args.graph.now c.nodes-count.ensures.of_an_action
+invariant_of-plan-clause-few c = node-few c.args.graph.now c.nodes-count.ensures.of_an_action
 
 pub finish-requires : goal.finish-requires
 finish-requires c = omega (arith, c.in_ok-append_action.ensures.short, count-few c.args.graph.now c.nodes-count.ensures.of_an_action)

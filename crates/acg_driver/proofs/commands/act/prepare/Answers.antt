@@ -5,7 +5,7 @@ use Rattle.acg_words.specs.Lines.{status_of}
 use Rattle.acg_words.specs.declared.line.Line.{Line}
 use Rattle.acg_driver.specs.Texts.{RefusesText}
 use Rattle.acg_driver.specs.Files.{file, Action, readings_of, ReadOnly}
-use Rattle.acg_driver.specs.Commands.Act.{IsUnbuilt, LoadsAct, RefusesAct}
+use Rattle.acg_driver.specs.Commands.Act.{IsUncompiled, LoadsAct, RefusesAct}
 use Rattle.acg_driver.proofs.ActLemmas.{load-other}
 use Rattle.acg_driver.proofs.Asking.{reads-as}
 use Rattle.acg_driver.proofs.commands.act.prepare.Goals as goal
@@ -23,7 +23,7 @@ pub returns-clause-refused : goal.returns-clause-refused
 returns-clause-refused g c =
     let bytes = c.in_ok-bytes.bytes.items in
     let action = c.args.command.action.now in
-    let Refuses : List ℕ → Line → Type 0 = λ b line. RefusesText b line ⊎ IsUnbuilt b line in
+    let Refuses : List ℕ → Line → Type 0 = λ b line. RefusesText b line ⊎ IsUncompiled b line in
     IfErr-weaker c.load_text.result (Refuses c.deref.result.now)
     (λ line. (givens : List (List ℕ)) × RefusesAct action givens line × ReadOnly g.S.Store (readings_of (file Action action ∷ []) givens) (status_of line) c.args.store.now c.read_file.new.store)
     (λ line refused.
