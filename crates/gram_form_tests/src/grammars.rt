@@ -46,6 +46,40 @@ fn names_the_first_undefined_part(rt: HostRuntime) {
     assert!(rt; first);
 }
 
+// The sums of expressions, where a summand has a name without a production.
+#[test]
+fn names_an_undefined_summand(rt: HostRuntime) {
+    let alloc = rt.alloc();
+    let arena = Bump::new(alloc);
+    let list = [
+        Production {
+            name: b"P",
+            alternatives: &[&[Part::Nonterm(b"E")]],
+        },
+        Production {
+            name: b"E",
+            alternatives: &[
+                &[
+                    Part::Nonterm(b"E"),
+                    Part::Literal(b"+"),
+                    Part::Nonterm(b"F"),
+                ],
+                &[Part::Numeral],
+            ],
+        },
+    ];
+    let answer = Grammar::build(alloc, &arena, &list);
+    let summand = matches!(
+        answer,
+        Err(GramError::Undefined {
+            production: 1,
+            alternative: 0,
+            part: 2
+        })
+    );
+    assert!(rt; summand);
+}
+
 #[test]
 fn refuses_no_productions(rt: HostRuntime) {
     let alloc = rt.alloc();

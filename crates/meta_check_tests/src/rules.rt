@@ -54,6 +54,32 @@ fn names_the_rule_that_an_edit_breaks(rt: HostRuntime) -> Result<(), Fail> {
     Ok(())
 }
 
+// The other ways to break the rules that have more than one.
+#[test]
+fn names_the_rule_that_another_edit_breaks(rt: HostRuntime) -> Result<(), Fail> {
+    let alloc = rt.alloc();
+    let edits: [(&[u8], &[u8], Verdict); 6] = [
+        (b"evaluate _ : E", b"evaluate _ : F", Verdict::Breaks(2, 3)),
+        (b"run [[ X:E ]]", b"run [[ X:F ]]", Verdict::Breaks(2, 4)),
+        (
+            b"evaluate [[ N:numeral ]]",
+            b"count [[ N:numeral ]]",
+            Verdict::Breaks(3, 6),
+        ),
+        (b"\"+\" Y:E", b"\"+\" X:E", Verdict::Breaks(7, 5)),
+        (b"give value of N", b"evaluate N", Verdict::Breaks(8, 6)),
+        (
+            b"give value of N",
+            b"bind token of N to 1",
+            Verdict::Breaks(8, 6),
+        ),
+    ];
+    for (old, new, verdict) in edits {
+        assert_eq!(rt; verdict_with(alloc, old, new)?, verdict);
+    }
+    Ok(())
+}
+
 #[test]
 fn keeps_what_meets_the_rules(rt: HostRuntime) {
     assert_eq!(rt; verdict_on(rt.alloc(), &SUMS), Verdict::Holds(2, 2, 3));

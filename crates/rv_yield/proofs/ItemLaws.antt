@@ -1,10 +1,11 @@
--- How much code there is for a yielder, and that it places no label.
-use Rattle.std.proofs.Common.{◌≡◌, ⊎_elim, ℕ, ◌+◌, ◌*◌, ◌≤◌, Bool, true, false, if◌then◌else◌, List, [], ◌∷◌, ◌++◌, map, Option, Some, None, ℤ, pos, int_lt, refl, sym, ap, ◌∙◌, arith, append_assoc, append-nil, ltb}
+-- How much code there is for a yielder, and that it places no label and calls nothing.
+use Rattle.std.proofs.Common.{◌≡◌, ⊎_elim, ℕ, zero, suc, ◌+◌, ◌-◌, ◌*◌, ◌^◌, ◌≤◌, Bool, true, false, ◌||◌, if◌then◌else◌, List, [], ◌∷◌, ◌++◌, map, Option, Some, None, ℤ, pos, int_lt, refl, sym, ap, ◌∙◌, arith, append_assoc, append-nil, ltb, leb}
+use Rattle.std.proofs.lemmas.List.Sums.{sum_by-append}
 use Rattle.rv_code.proofs.Bools.{true-or-false}
 use Rattle.rv_code.specs.declared.instruction.Inst.{Inst}
 use Rattle.rv_asm.specs.Assembly.{total, is_placed, is_mark}
 use Rattle.rv_asm.specs.Conventions.{integer_word, truth_word}
-use Rattle.rv_asm.specs.Pieces.{load_constant}
+use Rattle.rv_asm.specs.Pieces.{high_part, load_parts, parts_of, load_constant}
 use Rattle.rv_asm.specs.declared.item.Item.{Item}
 use Rattle.rv_asm.specs.declared.item.Item.TheVariants.{Plain}
 use Rattle.rv_asm.proofs.Constants.{length-load_constant}
@@ -13,30 +14,73 @@ use Rattle.rv_asm.proofs.LabelsKept.{placed-push}
 use Rattle.rv_asm.proofs.Sending.{total-plain}
 use Rattle.action_terms.specs.Actions.{Two, Sum, Difference, Product, Quotient, Remainder, Is, Less, BothOf, EitherOf, One, Negation, Not, Yielder, NumberLiteral, TruthLiteral, Given, GivenAt, BoundTo, StoredIn, OnTwo, OnOne, ClosureOf}
 use Rattle.action_terms.specs.Need.{yielder_count}
+use Rattle.rv_yield.specs.Calls.{is_call, calls}
 use Rattle.rv_yield.specs.Holding.{only_offset, nth_offset}
 use Rattle.rv_yield.specs.Registers.{registers_needed}
-use Rattle.rv_yield.specs.YielderCode.{operation_items, one_items, addition_items, load_items, placed_items, in_order, second_constant, first_constant, of_literal, addend_for, either_adding, value_items}
+use Rattle.rv_yield.specs.YielderCode.{operation_items, one_items, addition_items, load_items, placed_items, store_items, in_order, second_constant, first_constant, of_literal, addend_for, either_adding, value_items}
 use Rattle.rv_yield.proofs.Given.{length-load}
 
--- no label is placed
+-- no label is placed, and nothing is called
 abbrev pub Unmarked : List Item → Type 0
 Unmarked [] = Unit {0}
-Unmarked (x ∷ xs) = (is_mark x ≡ false) × Unmarked xs
+Unmarked (x ∷ xs) = ((is_mark x || is_call x) ≡ false) × Unmarked xs
 
 unmarked-append : (a b : List Item) → Unmarked a → Unmarked b → Unmarked (a ++ b)
 unmarked-append [] b h k = k
 unmarked-append (x ∷ a) b h k = (h.0, unmarked-append a b h.1 k)
 
-pub unmarked-plain : (is : List Inst) → Unmarked (map Plain is)
-unmarked-plain [] = tt
-unmarked-plain (i ∷ is) = (refl, unmarked-plain is)
+neither : (p q : Bool) → (p || q) ≡ false → (p ≡ false) × (q ≡ false)
+neither false false h = (refl, refl)
+neither true q h = absurd (let r : true ≡ false = h in cc)
+neither false true h = absurd (let r : true ≡ false = h in cc)
 
 pub placed-unmarked : (a b : List Item) (l : ℕ) → Unmarked b → is_placed (a ++ b) l ≡ is_placed a l
 placed-unmarked a [] l h = ap (λ i. is_placed i l) (append-nil a)
 placed-unmarked a (x ∷ b) l h =
-    ap (λ i. is_placed i l) (sym (append_assoc a (x ∷ []) b)) ∙ placed-unmarked (a ++ x ∷ []) b l h.1 ∙ placed-push a x l h.0
+    ap (λ i. is_placed i l) (sym (append_assoc a (x ∷ []) b)) ∙ placed-unmarked (a ++ x ∷ []) b l h.1 ∙ placed-push a x l (neither (is_mark x) (is_call x) h.0).0
 
--- so few instructions, and no label
+no-calls : (b : List Item) → Unmarked b → calls b ≡ 0
+no-calls [] h = refl
+no-calls (x ∷ b) h = rw (neither (is_mark x) (is_call x) h.0).1 (no-calls b h.1)
+
+-- behind what is unmarked there are as many calls as before
+pub calls-unmarked : (a b : List Item) → Unmarked b → calls (a ++ b) ≡ calls a
+calls-unmarked a b h =
+    let both : calls (a ++ b) ≡ calls a + calls b = sum_by-append _ a b in
+    omega (arith, both, no-calls b h)
+
+-- ---- instructions that call nothing
+
+abbrev pub AreQuiet : List Inst → Type 0
+AreQuiet [] = Unit {0}
+AreQuiet (i ∷ is) = (is_call (Plain i) ≡ false) × AreQuiet is
+
+pub unmarked-plain : (is : List Inst) → AreQuiet is → Unmarked (map Plain is)
+unmarked-plain [] h = tt
+unmarked-plain (i ∷ is) h = (h.0, unmarked-plain is h.1)
+
+quiet-append : (a b : List Inst) → AreQuiet a → AreQuiet b → AreQuiet (a ++ b)
+quiet-append [] b h k = k
+quiet-append (i ∷ a) b h k = (h.0, quiet-append a b h.1 k)
+
+quiet-if : (b : Bool) (x y : List Inst) → AreQuiet x → AreQuiet y → AreQuiet (if b then x else y)
+quiet-if true x y h k = h
+quiet-if false x y h k = k
+
+quiet-parts : (n to w : ℕ) → AreQuiet (load_parts n to w)
+quiet-parts zero to w = (refl, (refl, tt))
+quiet-parts (suc n) to w = quiet-append (load_parts n to (high_part w)) _ (quiet-parts n to (high_part w)) (refl, (refl, tt))
+
+quiet-constant : (to w : ℕ) → AreQuiet (load_constant to w)
+quiet-constant to w = quiet-if (ltb w 2048) _ _ (refl, tt) (quiet-if (leb (2 ^ 64 - 2048) w) _ _ (refl, tt) (quiet-parts (parts_of w) to w))
+
+quiet-load : (to offset : ℕ) → AreQuiet (load_items to offset)
+quiet-load to offset = quiet-if (ltb offset 256) _ _ (refl, tt) (quiet-append (load_constant to (8 * offset)) _ (quiet-constant to (8 * offset)) (refl, (refl, tt)))
+
+pub quiet-store : (offset : ℕ) → AreQuiet (store_items offset)
+quiet-store offset = quiet-if (ltb offset 256) _ _ (refl, tt) (quiet-append (load_constant 11 (8 * offset)) _ (quiet-constant 11 (8 * offset)) (refl, (refl, tt)))
+
+-- so few instructions, no label and no call
 pub record IsShort (limit : ℕ) (items : List Item) : Type 0 where
   pub few : total items ≤ limit
   pub unmarked : Unmarked items
@@ -65,10 +109,10 @@ one-short Negation to a l = record { few = omega arith; unmarked = (refl, (refl,
 one-short Not to a l = record { few = omega arith; unmarked = (refl, tt) }
 
 constant-short : (to w : ℕ) → IsShort 12 (map Plain (load_constant to w))
-constant-short to w = record { few = omega (arith, total-plain (load_constant to w), length-load_constant to w); unmarked = unmarked-plain (load_constant to w) }
+constant-short to w = record { few = omega (arith, total-plain (load_constant to w), length-load_constant to w); unmarked = unmarked-plain (load_constant to w) (quiet-constant to w) }
 
 placed-short : (o : Option ℕ) (to l : ℕ) → IsShort 12 (placed_items o to l)
-placed-short (Some offset) to l = record { few = omega (arith, total-plain (load_items to offset), length-load to offset); unmarked = unmarked-plain (load_items to offset) }
+placed-short (Some offset) to l = record { few = omega (arith, total-plain (load_items to offset), length-load to offset); unmarked = unmarked-plain (load_items to offset) (quiet-load to offset) }
 placed-short None to l = record { few = omega arith; unmarked = (refl, tt) }
 
 pub order-short :

@@ -1,6 +1,7 @@
 pub mod Registers
 pub mod Holding
 pub mod Fronts
+pub mod Calls
 pub mod Conditions
 pub mod YielderCode
 pub mod Evaluates

@@ -7,6 +7,7 @@ ghost use Rattle.action_terms.specs.Actions.{Yielder, OnOne, Not};
 ghost use Rattle.action_terms.specs.Forms.{yielder_at, IsDatum};
 ghost use Rattle.action_terms.specs.Need.{yielder_count};
 ghost use Rattle.action_terms.specs.Numbering.{node_limit};
+ghost use Rattle.rv_yield.specs.Calls.{calls};
 ghost use Rattle.rv_yield.specs.Conditions.{turned, literal_condition, compared, tested, condition_items};
 ghost use Rattle.rv_yield.specs.Evaluates.{Decides};
 ghost use Rattle.rv_yield.specs.Fronts.{extended, AppendsFrontOf};
@@ -240,6 +241,7 @@ pub fn condition_code(
     ensures short { OnOk result (total asm.new.items ≤ total asm.old.items
         + 15 * yielder_count (yielder_at source.now.graph.now.yielders yielder)) }
     ensures placed { OnOk result ((l : ℕ) → is_placed asm.new.items l ≡ is_placed asm.old.items l) }
+    ensures quiet { OnOk result (calls asm.new.items ≡ calls asm.old.items) }
     ensures err { OnErr result (AppendsFrontOf (condition_items source.now.given.now true otherwise
         source.now.nothing (yielder_at source.now.graph.now.yielders yielder)) asm.old asm.new) }
 {

@@ -5,6 +5,7 @@ ghost use Rattle.rv_asm.specs.Assembly.{total, is_placed};
 ghost use Rattle.action_terms.specs.Forms.{yielder_at, IsDatum};
 ghost use Rattle.action_terms.specs.Need.{yielder_count};
 ghost use Rattle.action_terms.specs.Numbering.{node_limit};
+ghost use Rattle.rv_yield.specs.Calls.{calls};
 ghost use Rattle.rv_yield.specs.Evaluates.{Evaluates, Stores};
 ghost use Rattle.rv_yield.specs.Fronts.{extended, AppendsFrontOf};
 ghost use Rattle.rv_yield.specs.Registers.{HasWords, registers_needed, is_built, first_register, registers_end};
@@ -61,6 +62,7 @@ pub fn value_code(
     ensures short { OnOk result (total asm.new.items ≤ total asm.old.items
         + 12 * yielder_count (yielder_at source.now.graph.now.yielders yielder)) }
     ensures placed { OnOk result ((l : ℕ) → is_placed asm.new.items l ≡ is_placed asm.old.items l) }
+    ensures quiet { OnOk result (calls asm.new.items ≡ calls asm.old.items) }
     ensures words { OnOk result (HasWords
         (yielder_at source.now.graph.now.yielders yielder)) }
     ensures err { OnErr result (AppendsFrontOf (value_items source.now.given.now register register
@@ -96,6 +98,7 @@ pub fn stored_code(
     ensures short { OnOk result (total asm.new.items ≤ total asm.old.items
         + 22 * yielder_count (yielder_at source.now.graph.now.yielders yielder)) }
     ensures placed { OnOk result ((l : ℕ) → is_placed asm.new.items l ≡ is_placed asm.old.items l) }
+    ensures quiet { OnOk result (calls asm.new.items ≡ calls asm.old.items) }
     ensures err { OnErr result (AppendsFrontOf (stored_items source.now.given.now target
         source.now.nothing (yielder_at source.now.graph.now.yielders yielder)) asm.old asm.new) }
 {
@@ -126,6 +129,7 @@ pub fn yield_code(
     ensures short { OnOk result (total asm.new.items ≤ total asm.old.items
         + 22 * yielder_count (yielder_at graph.now.yielders yielder)) }
     ensures placed { OnOk result ((l : ℕ) → is_placed asm.new.items l ≡ is_placed asm.old.items l) }
+    ensures quiet { OnOk result (calls asm.new.items ≡ calls asm.old.items) }
     ensures err { OnErr result (AppendsFrontOf (stored_items slots.now.given.now slots.now.target
         slots.now.nothing (yielder_at graph.now.yielders yielder)) asm.old asm.new) }
 {

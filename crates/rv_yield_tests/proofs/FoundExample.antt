@@ -1,14 +1,18 @@
--- What is asked before the code of a yielder can be met: the words of a frame stand for two data, and a comparison of them is of
--- the sorts that it wants.
-use Rattle.std.proofs.Common.{◌≡◌, ◌+◌, ◌<◌, [], ◌∷◌, Some, None, pos, refl, arith}
+-- What is asked before the code of a yielder can be met: the words of a frame stand for two data, a comparison of them is of
+-- the sorts that it wants, and its code is ready to run.
+use Rattle.std.proofs.Common.{◌≡◌, ◌+◌, ◌<◌, [], ◌∷◌, List, ℕ, false, Some, None, pos, refl, arith}
 use Rattle.std.proofs.lemmas.List.Elements.{All-cons, All-nil}
+use Rattle.rv_asm.specs.Assembly.{Listing}
 use Rattle.rv_asm.specs.DataWords.{Heap}
 use Rattle.rv_asm.specs.WordMachine.{WordState}
-use Rattle.action_terms.specs.Information.{Data, Number, NoBinds}
+use Rattle.action_terms.specs.Information.{Data, Number, Truth, NoBinds}
 use Rattle.action_terms.specs.Actions.{Yielder, Less, GivenAt, OnTwo}
-use Rattle.action_terms.specs.Suited.{IsSuited}
+use Rattle.action_terms.specs.Suited.{IsSuited, IsOfSort}
+use Rattle.action_terms.specs.Yielding.{yields}
 use Rattle.action_terms.specs.declared.kinds.Sort.TheVariants as sort
-use Rattle.rv_yield.specs.Evaluates.{Finds}
+use Rattle.rv_yield.specs.Evaluates.{Finds, CanEvaluate}
+use Rattle.rv_yield.specs.Fronts.{extended}
+use Rattle.rv_yield.specs.YielderCode.{value_items}
 
 -- no cell and no closure
 abbrev no_heap : Heap
@@ -38,3 +42,25 @@ first_is_less = OnTwo Less (GivenAt sort.Integer 1) (GivenAt sort.Integer 2)
 
 pub less-suited : IsSuited first_is_less data_given NoBinds []
 less-suited = (refl, refl, (refl, refl))
+
+-- where the data stand
+abbrev offsets : List ℕ
+offsets = 2 ∷ 1 ∷ []
+
+-- an assembler with a label, and nothing emitted
+abbrev empty : Listing
+empty = record { items = []; labels = 1 }
+
+-- with the code of the comparison
+abbrev compared : Listing
+compared = extended empty (value_items offsets 10 10 0 first_is_less)
+
+pub less-ready : CanEvaluate offsets first_is_less empty compared [] 131072 0 no_heap data_given NoBinds [] state
+less-ready = record { near = omega arith; before = refl; finds = two-found; suited = less-suited }
+
+-- the comparison yields a truth-value, as is asked of a condition: 9 isn't less than 7
+pub less-decides : IsOfSort sort.Truth (yields first_is_less data_given NoBinds [])
+less-decides = refl
+
+pub less-false : yields first_is_less data_given NoBinds [] ≡ Some (Truth false)
+less-false = refl

@@ -5,12 +5,13 @@ use Rattle.std.specs.declared.result.Result.{Result}
 use Rattle.rv_asm.specs.Assembly.{total, is_placed}
 use Rattle.rv_asm.proofs.Labels.{total-append}
 use Rattle.action_terms.specs.Forms.{yielder_at}
+use Rattle.rv_yield.specs.Calls.{calls}
 use Rattle.rv_yield.specs.Conditions.{condition_items}
 use Rattle.rv_yield.specs.Evaluates.{Decides}
 use Rattle.rv_yield.specs.Fronts.{extended}
 use Rattle.rv_yield.proofs.ConditionLaws.{condition-short}
 use Rattle.rv_yield.proofs.Decided.{decides}
-use Rattle.rv_yield.proofs.ItemLaws.{placed-unmarked}
+use Rattle.rv_yield.proofs.ItemLaws.{placed-unmarked, calls-unmarked}
 use Rattle.rv_yield.proofs.NeedLaws.{registers-enough}
 use Rattle.rv_yield.proofs.conditions.condition_code.Goals as goal
 
@@ -52,4 +53,16 @@ returns-clause-placed c =
     (λ e l.
     let all = e ∙ ap (extended c.args.asm.now) (sym (c.without_negations-wanted.ensures.items o)) in
     ap (λ i. is_placed i.items l) all ∙ placed-unmarked c.args.asm.now.items piece l (condition-short s.given.now o s.nothing y true).unmarked)
+    c.append_condition.ensures.ok
+
+pub returns-clause-quiet : goal.returns-clause-quiet
+returns-clause-quiet c =
+    let s = c.args.source.now in
+    let o = c.args.otherwise in
+    let y = yielder_at s.graph.now.yielders c.args.yielder in
+    let piece = condition_items s.given.now true o s.nothing y in
+    on_ok_weaker c.append_condition.result
+    (λ e.
+    let all = e ∙ ap (extended c.args.asm.now) (sym (c.without_negations-wanted.ensures.items o)) in
+    ap (λ i. calls i.items) all ∙ calls-unmarked c.args.asm.now.items piece (condition-short s.given.now o s.nothing y true).unmarked)
     c.append_condition.ensures.ok

@@ -6,11 +6,12 @@ use Rattle.rv_asm.specs.declared.item.Item.TheVariants.{Plain}
 use Rattle.rv_asm.proofs.Labels.{total-append}
 use Rattle.rv_asm.proofs.Sending.{total-plain}
 use Rattle.action_terms.specs.Forms.{yielder_at}
+use Rattle.rv_yield.specs.Calls.{calls}
 use Rattle.rv_yield.specs.Evaluates.{Stores}
 use Rattle.rv_yield.specs.Fronts.{extended}
 use Rattle.rv_yield.specs.YielderCode.{value_items, store_items}
 use Rattle.rv_yield.proofs.Fronts.{extended-twice, front-first, front-second}
-use Rattle.rv_yield.proofs.ItemLaws.{placed-unmarked, unmarked-plain}
+use Rattle.rv_yield.proofs.ItemLaws.{placed-unmarked, calls-unmarked, unmarked-plain, quiet-store}
 use Rattle.rv_yield.proofs.NeedLaws.{registers-enough}
 use Rattle.rv_yield.proofs.Stored.{length-store}
 use Rattle.rv_yield.proofs.Storing.{stores}
@@ -55,7 +56,15 @@ returns-clause-placed c =
     let mid = c.value_code.new.asm in
     let piece = store_items c.args.target in
     on_ok_weaker c.append_store.result
-    (λ e l. ap (λ s. is_placed s.items l) e ∙ placed-unmarked mid.items (map Plain piece) l (unmarked-plain piece) ∙ c.in_ok-value_code.ensures.placed l)
+    (λ e l. ap (λ s. is_placed s.items l) e ∙ placed-unmarked mid.items (map Plain piece) l (unmarked-plain piece (quiet-store c.args.target)) ∙ c.in_ok-value_code.ensures.placed l)
+    c.append_store.ensures.ok
+
+pub returns-clause-quiet : goal.returns-clause-quiet
+returns-clause-quiet c =
+    let mid = c.value_code.new.asm in
+    let piece = store_items c.args.target in
+    on_ok_weaker c.append_store.result
+    (λ e. ap (λ s. calls s.items) e ∙ calls-unmarked mid.items (map Plain piece) (unmarked-plain piece (quiet-store c.args.target)) ∙ c.in_ok-value_code.ensures.quiet)
     c.append_store.ensures.ok
 
 pub returns-clause-err : goal.returns-clause-err

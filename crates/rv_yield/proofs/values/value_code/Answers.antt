@@ -4,6 +4,7 @@ use Rattle.std.proofs.lemmas.Grind.{common_steps}
 use Rattle.rv_asm.specs.Assembly.{total, is_placed}
 use Rattle.rv_asm.proofs.Labels.{total-append}
 use Rattle.action_terms.specs.Forms.{yielder_at}
+use Rattle.rv_yield.specs.Calls.{calls}
 use Rattle.rv_yield.specs.Evaluates.{Evaluates}
 use Rattle.rv_yield.specs.Fronts.{extended, IsAppended}
 use Rattle.rv_yield.specs.Registers.{HasWords}
@@ -11,7 +12,7 @@ use Rattle.rv_yield.specs.Tasks.{items_of, HaveWords}
 use Rattle.rv_yield.specs.YielderCode.{value_items}
 use Rattle.rv_yield.proofs.Evaluated.{evaluates}
 use Rattle.rv_yield.proofs.Fronts.{appended-whole, front-none}
-use Rattle.rv_yield.proofs.ItemLaws.{value-short, placed-unmarked}
+use Rattle.rv_yield.proofs.ItemLaws.{value-short, placed-unmarked, calls-unmarked}
 use Rattle.rv_yield.proofs.TaskLaws.{turn-items, turn-front, turn-words, turn-smaller}
 use Rattle.rv_yield.proofs.values.value_code.Goals as goal
 
@@ -82,6 +83,18 @@ returns-clause-placed c l =
     let all : c.loop-task.asm ≡ extended c.args.asm.now piece =
     appended-whole piece c.args.asm.now c.loop-task.asm (subst (λ ts. IsAppended piece (items_of s.graph.now.yielders s.given.now n ts) c.args.asm.now c.loop-task.asm) none c.loop-task.invariant.items) in
     ap (λ i. is_placed i.items l) all ∙ placed-unmarked c.args.asm.now.items piece l (value-short s.given.now y r r n).unmarked
+
+pub returns-clause-quiet : goal.returns-clause-quiet
+returns-clause-quiet c =
+    let s = c.args.source.now in
+    let r = c.args.register in
+    let n = s.nothing in
+    let y = yielder_at s.graph.now.yielders c.args.yielder in
+    let piece = value_items s.given.now r r n y in
+    let none : c.loop-task.tasks.items ≡ [] = first_of (search rules, grind (arith, common_steps)) in
+    let all : c.loop-task.asm ≡ extended c.args.asm.now piece =
+    appended-whole piece c.args.asm.now c.loop-task.asm (subst (λ ts. IsAppended piece (items_of s.graph.now.yielders s.given.now n ts) c.args.asm.now c.loop-task.asm) none c.loop-task.invariant.items) in
+    ap (λ i. calls i.items) all ∙ calls-unmarked c.args.asm.now.items piece (value-short s.given.now y r r n).unmarked
 
 pub returns-in_err-push-clause-err : goal.returns-in_err-push-clause-err
 returns-in_err-push-clause-err c =
