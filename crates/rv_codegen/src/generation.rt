@@ -13,7 +13,6 @@ ghost use Rattle.sort_rules.specs.Tables.{MarkedTable};
 ghost use Rattle.rv_codegen.specs.Blocks.{first_label, blocks_from, action_items};
 ghost use Rattle.rv_codegen.specs.Marks.{extended, AreFresh};
 ghost use Rattle.rv_codegen.specs.Built.{unbuilt};
-ghost use Rattle.rv_codegen.specs.Measures.{node_count};
 ghost use Rattle.rv_codegen.specs.RightImage.{compiled_image, IsRight};
 
 use crate::entries::{append_entries, append_prelude, make_entries};
@@ -51,7 +50,8 @@ fn append_action(asm: &mut Asm, plan: Plan<'_, '_>) -> Result<(), Memory>
     requires made { first_label + length plan.labels.row.now ≤ asm.old.labels }
     ensures items { OnOk result (asm.new.items ≡ action_items (action_of plan.entry.graph.now)) }
     ensures short { OnOk result
-        (total asm.new.items ≤ 25 + 15 * node_count (action_of plan.entry.graph.now)) }
+        (total asm.new.items ≤ 25 + 6 * length (action_of plan.entry.graph.now)
+        + 15 * sum_by node_yielder_count (action_of plan.entry.graph.now)) }
 {
     append_prelude(asm, plan.entries)?;
     append_nodes(asm, plan)?;
@@ -65,7 +65,8 @@ fn assemble(alloc: Global, graph: &Graph<'_>) -> Result<Code, Memory>
         ≡ map encode (code_of (action_items (action_of graph.now)))) }
     ensures labels { OnOk result (LabelsStand (action_items (action_of graph.now))) }
     ensures short { OnOk result
-        (total (action_items (action_of graph.now)) ≤ 25 + 15 * node_count (action_of graph.now)) }
+        (total (action_items (action_of graph.now)) ≤ 25 + 6 * length (action_of graph.now)
+        + 15 * sum_by node_yielder_count (action_of graph.now)) }
     ensures graph { OnOk result (IsGraph graph.now) }
     ensures numbers { OnOk result (NumbersFit (action_of graph.now)) }
 {
