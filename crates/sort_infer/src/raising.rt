@@ -15,6 +15,7 @@ use acg_base::Memory;
 use action_terms::Graph;
 use bumpalo::Bump;
 use sort_rules::demands::{Demand, is_met};
+use sort_rules::holding::holds_at;
 use sort_rules::judging::joined;
 use sort_rules::named::Named;
 use sort_rules::nodes::demands_at;
@@ -98,8 +99,8 @@ fn raise_unmet<'a>(
     Ok(true)
 }
 
-/// Raises the table by the demands of a node that aren't met. Answers whether one wasn't.
-pub fn visit<'a>(
+// raises the table by the demands of a node that aren't met; answers whether one wasn't
+fn raise_all<'a>(
     alloc: Global,
     arena: &'a Bump,
     graph: &Graph<'a>,
@@ -150,4 +151,57 @@ fn demands_of<'a>(
         node,
     };
     demands_at(graph, &site)
+}
+
+// whether the demands of a node hold; what is found for the test isn't kept, so that the arena of the
+// table gets parts only where a node raises it
+fn holds(
+    alloc: Global,
+    graph: &Graph<'_>,
+    named: &Named,
+    node: u32,
+    rows: &[MarkedRow<'_>],
+) -> Result<bool, Memory>
+    requires node { node < length graph.now.nodes }
+    requires cells { named.now.cells.items ≡ allocate_nodes (action_of graph.now) }
+    requires bodies { reverse named.now.bodies.items ≡ closure_bodies (action_of graph.now) }
+    ensures { IfOk result (λ b. b ≡ true
+        → Holds (action_of graph.now) (marked_table rows.now) node) }
+{
+    let scratch = Bump::new(alloc);
+    let site = Site {
+        alloc,
+        arena: &scratch,
+        rows,
+        cells: named.cells.as_slice(),
+        bodies: named.bodies.as_slice(),
+        node,
+    };
+    holds_at(graph, &site)
+}
+
+/// Raises the table by the demands of a node that aren't met. Answers whether one wasn't.
+pub fn visit<'a>(
+    alloc: Global,
+    arena: &'a Bump,
+    graph: &Graph<'a>,
+    named: &Named,
+    node: u32,
+    rows: &mut Vec<MarkedRow<'a>>,
+) -> Result<bool, Memory>
+    requires node { node < length graph.now.nodes }
+    requires cells { named.now.cells.items ≡ allocate_nodes (action_of graph.now) }
+    requires bodies { reverse named.now.bodies.items ≡ closure_bodies (action_of graph.now) }
+    requires action { IsProper (action_of graph.now) }
+    requires table { IsProperTable (action_of graph.now) rows.now.items }
+    ensures grows { IfOk result (λ grew. Grows (action_of graph.now) grew
+        rows.old.items rows.new.items) }
+    ensures holds { IfOk result (λ grew. grew ≡ false
+        → Holds (action_of graph.now) (marked_table rows.old.items) node) }
+{
+    let met = holds(alloc, graph, named, node, rows.as_slice())?;
+    if met {
+        return Ok(false);
+    }
+    raise_all(alloc, arena, graph, named, node, rows)
 }

@@ -4,7 +4,7 @@ use Rattle.sort_rules.specs.DemandViews.{demands_of}
 use Rattle.sort_rules.specs.MarkedRows.{marked_table}
 use Rattle.sort_rules.specs.Tests.{are_met}
 use Rattle.sort_infer.specs.Raised.{Grows}
-use Rattle.sort_infer.proofs.raising.visit.Given as goal
+use Rattle.sort_infer.proofs.raising.raise_all.Given as goal
 
 -- the table is raised by the demands so far; where it didn't grow, they were met
 abbrev pub invariant-loop-demand : goal.invariant-loop-demand
