@@ -22,3 +22,7 @@ on_four (Err e) A B C D E x y z u f = tt
 pub if_on : (r : Result Bool Memory) (P Q : Bool → Type 0) (A : Type 0) → IfOk r P → OnOk r A → ((b : Bool) → P b → A → Q b) → IfOk r Q
 if_on (Ok b) P Q A p a f = f b p a
 if_on (Err e) P Q A p a f = tt
+
+pub if_ok : {A : Type 0} (r : Result A Memory) (P Q : A → Type 0) → IfOk r P → ((a : A) → P a → Q a) → IfOk r Q
+if_ok (Ok a) P Q p f = f a p
+if_ok (Err e) P Q p f = tt

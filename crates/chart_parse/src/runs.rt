@@ -41,8 +41,8 @@ fn join_entry(entry: Entry<'_>, nonterminal: u32, into: &mut [u64])
     join(into, entry.row);
 }
 
-// Adds the places at which the nonterminal ends by the list.
-fn join_ends(list: &[Entry<'_>], nonterminal: u32, into: &mut [u64])
+/// Adds the places at which the nonterminal ends by the list.
+pub fn join_ends(list: &[Entry<'_>], nonterminal: u32, into: &mut [u64])
     requires { AreWide (length into.old) list.now }
     ensures len { length into.new ≡ length into.old }
     ensures joined { (e : ℕ) → e < 64 * length into.old → Has into.new e

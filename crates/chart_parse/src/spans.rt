@@ -1,11 +1,13 @@
 //! Charts of sources.
-ghost use Rattle.std.specs.Prelude.{◌≡◌, ℕ, ◌<◌, ◌≤◌, ◌↔◌, length, IsTrue, IfOk, Contains};
+ghost use Rattle.std.specs.Prelude.{◌≡◌, ℕ, ◌+◌, ◌/◌, ◌<◌, ◌≤◌, ◌↔◌, length, IsTrue, IfOk, Contains};
 ghost use Rattle.source_lex.specs.Trees.{Has};
-ghost use Rattle.chart_parse.specs.Rows.{Lists};
+ghost use Rattle.chart_parse.specs.Rows.{Lists, AreWide};
 ghost use Rattle.chart_parse.specs.Growths.{Grows};
 ghost use Rattle.chart_parse.specs.Places.{grammar_of, HaveRoom, IsExact};
 
+use crate::numbers::difference;
 use crate::rows::{self, Entry};
+use crate::runs::join_ends;
 use crate::source::Source;
 use acg_base::Memory;
 use std::alloc::Global;
@@ -41,6 +43,36 @@ fn is_listed(list: &[Entry<'_>], nonterminal: u32, e: usize) -> bool
         }
     }
     false
+}
+
+// The numbers up to the last one that the entries of the nonterminal have, in order.
+fn listed(
+    alloc: Global,
+    list: &[Entry<'_>],
+    nonterminal: u32,
+    last: usize,
+) -> Result<Vec<usize>, Memory>
+    requires wide { AreWide (last / 64 + 1) list.now }
+    requires small { last < 4294967296 }
+    ensures { IfOk result (λ r. (e : ℕ) → Contains r.items e
+        ↔ ((e ≤ last) × Lists list.now nonterminal e)) }
+{
+    let mut row = rows::empty(alloc, last / 64 + 1)?;
+    join_ends(list, nonterminal, &mut row);
+    let none = rows::empty(alloc, last / 64 + 1)?;
+    difference(alloc, &row, &none, last + 1)
+}
+
+// The numbers as those of places.
+fn as_places(alloc: Global, list: &[usize]) -> Result<Vec<u32>, Memory>
+    requires { (e : ℕ) → Contains list.now e → e < 4294967296 }
+    ensures { IfOk result (λ r. r.items ≡ list.now) }
+{
+    let mut places = Vec::new(alloc);
+    for k in 0..list.len() {
+        places.push(list[k] as u32)?;
+    }
+    Ok(places)
 }
 
 impl<'a> Chart<'a> {
@@ -100,12 +132,9 @@ impl Chart<'_> {
         ensures { IfOk result (λ ends. (j : ℕ) → Contains ends.items j
             ↔ Has self.now.grammar self.now.kinds nonterminal i j) }
     {
-        let mut ends = Vec::new(alloc);
-        for j in i as usize..self.source.kinds.len() + 1 {
-            if self.has(nonterminal, i, j as u32) {
-                ends.push(j as u32)?;
-            }
-        }
-        Ok(ends)
+        let lists = &self.places[i as usize];
+        let list = &lists[self.source.nonterminals.len()];
+        let ends = listed(alloc, list, nonterminal, self.source.kinds.len())?;
+        as_places(alloc, &ends)
     }
 }
