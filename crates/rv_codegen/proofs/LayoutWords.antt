@@ -9,7 +9,7 @@ use Rattle.action_terms.specs.Performances.{OneOf, Here, Later}
 use Rattle.action_terms.proofs.AllLaws.{All-member}
 use Rattle.sort_rules.specs.Procedures.{procedure_of, whole_of}
 use Rattle.sort_rules.specs.Measures.{node_numbers, slots}
-use Rattle.sort_rules.specs.Tables.{DataIn, DataOut, MarkedTable}
+use Rattle.sort_rules.specs.Tables.{DataIn, DataOut, Escaped, MarkedTable}
 use Rattle.sort_rules.specs.Shapes.{part_length}
 use Rattle.sort_rules.proofs.Choices.{either, member_cases}
 use Rattle.frame_layout.specs.Places.{Frame, PlacedNode, record_words, words_of}
@@ -188,3 +188,8 @@ module _ (a : Action) (trees : HasTrees a) where
     in-fits k within =
         let f = has-frame k within in
         (placed-node k within f).lengths.data_in ∙ ap (λ j. part_length (t (DataIn j))) f.node
+
+    pub escaped-fits : (k : ℕ) → k < length a → length (place_at ns k).escaped ≡ part_length (t (Escaped k))
+    escaped-fits k within =
+        let f = has-frame k within in
+        (placed-node k within f).lengths.escaped ∙ ap (λ j. part_length (t (Escaped j))) f.node

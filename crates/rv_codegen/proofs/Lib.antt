@@ -54,3 +54,13 @@ pub mod LayoutWords
 pub mod AliasSettings
 pub mod PuttingPlaces
 pub mod HandedTables
+pub mod Suited
+pub mod SuitedPlaces
+pub mod SuitedJoins
+pub mod MovedWords
+pub mod GivenItems
+pub mod SuitedExample
+pub mod SuitedLayout
+pub mod FindsGiven
+pub mod WrittenTurns
+pub mod Giving

@@ -38,7 +38,7 @@ has-words (OnOne f y) fits = has-words y fits
 has-words _ fits = tt
 
 -- a run from one place to another, further on, has an instruction
-moves-on : (base : ℕ) (code : List Inst) (n : ℕ) (c e : WordState) (p q : ℕ) → run_words base code n c ≡ Goes e → c.pc ≡ address_of p → e.pc ≡ address_of q → p < q → 0 < n
+pub moves-on : (base : ℕ) (code : List Inst) (n : ℕ) (c e : WordState) (p q : ℕ) → run_words base code n c ≡ Goes e → c.pc ≡ address_of p → e.pc ≡ address_of q → p < q → 0 < n
 moves-on base code zero c e p q runs at there less =
     let stays : Goes c ≡ Goes e = runs in
     let same : c.pc ≡ e.pc = cc in

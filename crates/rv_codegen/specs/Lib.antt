@@ -4,3 +4,4 @@ pub mod Blocks
 pub mod Marks
 pub mod Built
 pub mod Aliases
+pub mod GivenItems
