@@ -64,3 +64,5 @@ pub mod SuitedLayout
 pub mod FindsGiven
 pub mod WrittenTurns
 pub mod Giving
+pub mod Pointing
+pub mod EscapingWith
