@@ -85,7 +85,7 @@ module _ (base : ℕ) (code : List Inst) (heap : Heap) (f : ℕ) where
       go None h g = written-then base code f l1 l2 limit t r (t ++ r) c p nothing a g few (λ o m. one_of-first t r o m) (λ o m. one_of-second t r o m)
 
   -- the first item yields nothing
-  gave-nothing : (l limit : ℕ) (out : List ℕ) (c : WordState) (nothing : ℕ) → l ≤ limit → Arrives base code l 10 10 c nothing → HasWritten base code f limit out c nothing
+  pub gave-nothing : (l limit : ℕ) (out : List ℕ) (c : WordState) (nothing : ℕ) → l ≤ limit → Arrives base code l 10 10 c nothing → HasWritten base code f limit out c nothing
   gave-nothing l limit out c nothing few a = record {
     count = a.count;
     few = omega (arith, a.few, few);

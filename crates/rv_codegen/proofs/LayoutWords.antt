@@ -13,7 +13,7 @@ use Rattle.sort_rules.specs.Tables.{DataIn, DataOut, Escaped, MarkedTable}
 use Rattle.sort_rules.specs.Shapes.{part_length}
 use Rattle.sort_rules.proofs.Choices.{either, member_cases}
 use Rattle.frame_layout.specs.Places.{Frame, PlacedNode, record_words, words_of}
-use Rattle.frame_layout.specs.Layouts.{HasApartNodes, IsFrame, IsLayout, IsPlacedNode, front_words}
+use Rattle.frame_layout.specs.Layouts.{AreConsecutive, HasApartNodes, IsFrame, IsLayout, IsPlacedNode, front_words}
 use Rattle.frame_layout.proofs.GraphParts.{HasTrees}
 use Rattle.frame_layout.proofs.NodeLists.{filter-member, member-filter, member-range, node_numbers-range}
 use Rattle.frame_layout.proofs.ProcedureRoots.{procedure-below, procedure-own, procedure-part, whole-part}
@@ -193,3 +193,7 @@ module _ (a : Action) (trees : HasTrees a) where
     escaped-fits k within =
         let f = has-frame k within in
         (placed-node k within f).lengths.escaped ∙ ap (λ j. part_length (t (Escaped j))) f.node
+
+    -- what a node escapes with has consecutive words
+    pub escaped-row : (k : ℕ) → k < length a → AreConsecutive (place_at ns k).escaped
+    escaped-row k within = (placed-node k within (has-frame k within)).consecutive 4 [] (omega arith)

@@ -66,3 +66,5 @@ pub mod WrittenTurns
 pub mod Giving
 pub mod Pointing
 pub mod EscapingWith
+pub mod CheckingWith
+pub mod PlacedData
