@@ -42,7 +42,7 @@ module _ (s : Setting) (laid : Laid s) (x : Starting s) where
     pub rank : from.rank ≤ (start s x.k).rank
     pub leave : Way (code s) from (escape s)
 
-  first-inside : (escaped : List ℕ) → EscapesPlaces escaped → (first_of escaped < 33554432) × (first_of escaped < frame_words s x.k)
+  pub first-inside : (escaped : List ℕ) → EscapesPlaces escaped → (first_of escaped < 33554432) × (first_of escaped < frame_words s x.k)
   first-inside [] places = (omega arith, places.some_words)
   first-inside (o ∷ os) places = (places.near_escaped o Here, places.own.inside o Here)
 

@@ -68,3 +68,4 @@ pub mod Pointing
 pub mod EscapingWith
 pub mod CheckingWith
 pub mod PlacedData
+pub mod EscapingItems

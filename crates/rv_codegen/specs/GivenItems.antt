@@ -44,3 +44,8 @@ point_items (o ∷ os) = load_constant first_register (8 * o) ++ Op Add first_re
 -- what is given is put in a row, and the row's address goes to register 10
 abbrev pub escape_items : (given escaped : List ℕ) → List Inst
 escape_items given escaped = moves_items given escaped ++ point_items escaped
+
+-- the data of items are put in a row, and the row's address goes to register 10; where one yields nothing, the code goes to the label `nothing`
+abbrev pub escape_with_items : (given escaped : List ℕ) → (nothing : ℕ) → List DataItem → List Item
+escape_with_items given escaped nothing is =
+    give_items given escaped nothing is ++ map Plain (point_items escaped)
