@@ -17,9 +17,8 @@ use Rattle.rv_yield.proofs.Deciding.{Chosen, condition-comes}
 use Rattle.rv_yield.proofs.Steps.{Arrives}
 use Rattle.rv_codegen.specs.Blocks.{fail_label}
 use Rattle.rv_codegen.proofs.FindsGiven.{all-members, finds-given}
-use Rattle.rv_codegen.proofs.GivenItems.{gave-nothing}
+use Rattle.rv_codegen.proofs.GivenItems.{gave-nothing, holds-none}
 use Rattle.rv_codegen.proofs.Giving.{LeavesBehind, LeavesData}
-use Rattle.rv_codegen.proofs.Holding.{Holds}
 use Rattle.rv_codegen.proofs.Nothing.{nothing-did}
 use Rattle.rv_codegen.proofs.Performing.{step-done, step-failed}
 use Rattle.rv_codegen.proofs.RestPoints.{Laid, Starting, StartGoesOn, near, open-run}
@@ -53,11 +52,6 @@ module _ (s : Setting) (laid : Laid s) (x : Starting s) (y : Yielder) (e : node_
       let same : making (closures_in y) x.b (silent (checked (yields y x.d x.b x.world.cells))) ≡ n = ap (λ cs. making cs x.b (silent (checked (yields y x.d x.b x.world.cells)))) none ∙ ap (λ v. silent (checked v)) is in
       open-run s x.k x.d x.b x.world (Simple (Check y)) n e (subst (λ m. OneOf n (m ∷ [])) (sym same) Here)
 
-  -- no data are left at no places
-  none-left : (words os : List ℕ) → length {A = Datum} [] ≡ length os → Holds s.base x.runs.here.heap words x.runs.here.f os []
-  none-left words [] same = tt
-  none-left words (o ∷ os) same = absurd (omega (arith, same))
-
   module _ (escaped : ℕ → List ℕ) (suits : SuitsAt s.action s.places.out escaped x.k x.d x.b x.world) (ok : CanCheck y) (places : LeavesData s laid x) (behind : LeavesBehind s laid x size) where
     -- `true`
     passes : yields y x.d x.b x.world.cells ≡ Some (Truth true) → Arrives s.base (code s) limit 10 10 x.state next → StartGoesOn s x
@@ -65,7 +59,7 @@ module _ (s : Setting) (laid : Laid s) (x : Starting s) (y : Yielder) (e : node_
         let o = open-checked ok.none_made (Some (Truth true)) is in
         let w = gave-nothing s.base (code s) x.runs.here.heap x.runs.here.f limit limit (s.places.out x.k) x.state next (omega arith) a in
         let did = written-did s laid x limit (s.places.out x.k) places.own next w done behind.from (exit s x.k) (ap address_of (sym behind.from_is)) behind.within (near s laid (get_or s.exits x.k 0)) behind.rank (omega (arith, paid)) behind.leave in
-        step-done s laid x (silent done) [] NoBinds o refl did (none-left did.words (s.places.out x.k) (suits.completes (silent done) [] NoBinds o refl)) (places.binds did.words)
+        step-done s laid x (silent done) [] NoBinds o refl did (holds-none s.base did.heap did.words x.runs.here.f (s.places.out x.k) (suits.completes (silent done) [] NoBinds o refl)) (places.binds did.words)
 
     fails : (o : Option Datum) → yields y x.d x.b x.world.cells ≡ o → checked o ≡ failed → Arrives s.base (code s) limit 10 10 x.state (address_of (failure s).place) → StartGoesOn s x
     fails o is none a =

@@ -69,3 +69,4 @@ pub mod EscapingWith
 pub mod CheckingWith
 pub mod PlacedData
 pub mod EscapingItems
+pub mod SendingWith
