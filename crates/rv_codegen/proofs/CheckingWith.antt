@@ -1,10 +1,10 @@
 -- Nodes that check what they are given: the code goes on where the yielder yields `true`, and else to the entry for failures.
-use Rattle.std.proofs.Common.{◌≡◌, ℕ, suc, ◌+◌, ◌*◌, ◌^◌, ◌<◌, ◌≤◌, true, false, All, List, [], ◌∷◌, length, get_or, Option, Some, None, refl, sym, ap, ◌∙◌, subst, arith}
+use Rattle.std.proofs.Common.{◌≡◌, ℕ, ◌+◌, ◌*◌, ◌<◌, ◌≤◌, true, false, List, [], ◌∷◌, get_or, Option, Some, None, refl, sym, ap, ◌∙◌, subst, arith}
 use Rattle.rv_asm.specs.Assembly.{address_of, spot, total, code_from}
-use Rattle.rv_asm.specs.WordMachine.{WordState, Has}
+use Rattle.rv_asm.specs.WordMachine.{Has}
 use Rattle.action_terms.specs.Information.{Datum, NoBinds, Truth}
 use Rattle.action_terms.specs.Actions.{Check, Simple, Yielder, node_at}
-use Rattle.action_terms.specs.Acting.{Done, Ended, Run}
+use Rattle.action_terms.specs.Acting.{Run}
 use Rattle.action_terms.specs.Need.{node_yielder_count, yielder_count}
 use Rattle.action_terms.specs.Performances.{OneOf, Here}
 use Rattle.action_terms.specs.Steps.{checked, closures_in, done, failed, making, open_steps, silent}

@@ -1,20 +1,14 @@
 -- What the turns of nodes with data ask of places, where parts share the places of their node, as a layout has them.
-use Rattle.std.proofs.Common.{◌≡◌, ℕ, ◌<◌, ◌≤◌, List, [], length, None, Some, Option, ap, arith, inl, inr}
-use Rattle.std.specs.Prelude.{All}
-use Rattle.rv_asm.specs.DataWords.{Heap}
-use Rattle.action_terms.specs.Actions.{node_at}
-use Rattle.action_terms.specs.Information.{Datum, NoBinds}
+use Rattle.std.proofs.Common.{◌≡◌, ℕ, ◌<◌, ◌≤◌, length, None, Some, arith, inl, inr}
 use Rattle.action_terms.specs.Performances.{OneOf}
 use Rattle.sort_rules.specs.Procedures.{procedure_of}
-use Rattle.sort_rules.specs.Tables.{MarkedTable}
-use Rattle.frame_layout.specs.Layouts.{AreConsecutive, HasApartNodes, IsIn, IsLayout, Itself}
-use Rattle.frame_layout.specs.Places.{Frame, PlacedNode}
+use Rattle.frame_layout.specs.Layouts.{AreConsecutive, Itself}
+use Rattle.frame_layout.specs.Places.{PlacedNode}
 use Rattle.frame_layout.proofs.GraphParts.{HasTrees}
-use Rattle.rv_codegen.specs.Aliases.{AreByNumber, given_of, out_of, place_at, words_at}
+use Rattle.rv_codegen.specs.Aliases.{out_of}
 use Rattle.rv_codegen.proofs.AliasPlaces.{HasOwnWords, given-apart, given-not_out, given-within, out-once, out-within}
 use Rattle.rv_codegen.proofs.AliasSettings.{placed}
 use Rattle.rv_codegen.proofs.AliasWords.{own-word}
-use Rattle.rv_codegen.proofs.Around.{BindsLeft}
 use Rattle.rv_codegen.proofs.EscapingWith.{EscapesPlaces}
 use Rattle.rv_codegen.proofs.Giving.{LeavesData}
 use Rattle.rv_codegen.proofs.RestPoints.{Laid, Starting}

@@ -1,10 +1,10 @@
 -- The address of a word of the frame in register 10, and data that stand in a row from there on.
-use Rattle.std.proofs.Common.{◌≡◌, ℕ, zero, suc, ◌+◌, ◌*◌, ◌^◌, ◌<◌, ◌≤◌, List, [], ◌∷◌, ◌++◌, length, pos, refl, sym, ap, subst, ◌∙◌, arith, length-append}
+use Rattle.std.proofs.Common.{◌≡◌, ℕ, zero, suc, ◌+◌, ◌*◌, ◌<◌, List, [], ◌∷◌, length, pos, refl, subst, ◌∙◌, arith, length-append}
 use Rattle.std.specs.List.{range_with_len}
 use Rattle.std.specs.Prelude.{slice_index}
 use Rattle.rv_code.specs.Arithmetic.{wrap, unsigned}
 use Rattle.rv_code.specs.declared.instruction.Inst.{Inst}
-use Rattle.rv_code.specs.declared.instruction.Inst.TheVariants.{Op, OpImm}
+use Rattle.rv_code.specs.declared.instruction.Inst.TheVariants.{Op}
 use Rattle.rv_code.specs.declared.instruction.OpOp.TheVariants.{Add}
 use Rattle.rv_code.specs.declared.instruction.OpImmOp.TheVariants.{Addi}
 use Rattle.rv_asm.specs.DataWords.{Heap, StandsFor}
@@ -17,7 +17,7 @@ use Rattle.rv_asm.proofs.Stretches.{then-runs}
 use Rattle.action_terms.specs.Information.{Data}
 use Rattle.frame_layout.specs.Layouts.{AreConsecutive}
 use Rattle.rv_yield.specs.Evaluates.{HasFrame}
-use Rattle.rv_yield.specs.Holding.{Holds, word_at}
+use Rattle.rv_yield.specs.Holding.{Holds}
 use Rattle.rv_yield.proofs.Steps.{immediate-runs, op-runs, written}
 use Rattle.rv_codegen.specs.GivenItems.{point_items}
 use Rattle.rv_codegen.proofs.Holding.{in_row}
