@@ -40,6 +40,10 @@ pub mod Checking
 pub mod SendEntry
 pub mod Sending
 pub mod NumberWords
+pub mod Failing
+pub mod Alternating
+pub mod ArmsDone
+pub mod Committing
 pub mod Turns
 pub mod Compiling
 pub mod Right
