@@ -1,0 +1,4 @@
+pub mod SegmentLaws
+pub mod FieldLaws
+pub mod FileLaws
+pub mod WrittenLaws
