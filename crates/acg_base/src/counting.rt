@@ -1,21 +1,25 @@
-//! Readers and writers that count their failures.
+//! Readers and writers that count their calls. Those of the library are called in `give` and `take` alone.
 
 ghost use Rattle.std.specs.Prelude.{◌≡◌, ℕ, ◌<◌, ◌≤◌, Bool, List, length, Option, IsErrOf, IfOk, OnOk, OnErr};
 ghost use Rattle.std.specs.Result.{is_err};
 ghost use Rattle.std.specs.Io.KnownBytes.{ReadConsumes, WriteAppends};
 ghost use Rattle.acg_base.specs.Outside.{counted};
 
+use crate::calls::Calls;
 use crate::sink::SinkError;
 use crate::store::StoreError;
 use std::io::{Read, Write};
 
-/// A reader that counts its failed reads, and knows whether its last one failed.
+/// A reader that counts its reads and those that failed, and knows whether its last one failed.
 pub trait CountingRead {
     // The bytes that reads will give from here on, where they are known.
     ghost remaining: { Self → Option (List ℕ) };
 
     // The name that the reader was opened for, where it is known.
     ghost source: { Self → Option (List ℕ) };
+
+    // How many reads there were.
+    ghost reads: { Self → ℕ };
 
     // How many reads failed.
     ghost faults: { Self → ℕ };
@@ -30,7 +34,8 @@ pub trait CountingRead {
         ensures bound { IfOk result (λ count. count ≤ length buffer.new) }
         ensures error { OnErr result (IsErrOf result StoreError.Failed) }
 
-        // A fault is counted, and nothing else is.
+        // Each read is counted, and each fault, and nothing else is.
+        ensures once { reads self.new ≡ counted (reads self.old) }
         ensures failed { OnErr result (faults self.new ≡ counted (faults self.old)) }
         ensures passed { OnOk result (faults self.new ≡ faults self.old) }
         ensures last { last_failed self.new ≡ is_err result }
@@ -38,7 +43,7 @@ pub trait CountingRead {
         ensures source_still { source self.new ≡ source self.old };
 }
 
-/// A writer that counts its failed writes, and knows whether its last one failed.
+/// A writer that counts its writes and those that failed, and knows whether its last one failed.
 ///
 /// So where the last one failed and the failed ones are one more than before some writes, the failed one
 /// was the last of them, and no other failed.
@@ -48,6 +53,9 @@ pub trait CountingWrite {
 
     // The name that the writer was created for, where it is known.
     ghost target: { Self → Option (List ℕ) };
+
+    // How many writes there were.
+    ghost writes: { Self → ℕ };
 
     // How many writes failed.
     ghost faults: { Self → ℕ };
@@ -64,7 +72,8 @@ pub trait CountingWrite {
         ensures some { IfOk result (λ count. 0 < count) }
         ensures bound { IfOk result (λ count. count ≤ length bytes.now) }
 
-        // A fault is counted, and nothing else is.
+        // Each write is counted, and each fault, and nothing else is.
+        ensures once { writes self.new ≡ counted (writes self.old) }
         ensures failed { OnErr result (faults self.new ≡ counted (faults self.old)) }
         ensures passed { OnOk result (faults self.new ≡ faults self.old) }
         ensures last { last_failed self.new ≡ is_err result }
@@ -72,25 +81,37 @@ pub trait CountingWrite {
         ensures target_still { target self.new ≡ target self.old };
 }
 
-/// A reader of the library, with the count of its failed reads. What it was opened for isn't known.
+/// A reader of the library, with the counts of its reads. What it was opened for isn't known.
 #[derive(Drop)]
 pub struct CountingReader<R: Read + Drop> {
-    pub(crate) reader: R,
-    faults: u64,
-    last_failed: bool,
+    reader: R,
+    calls: Calls,
 }
 
 impl<R: Read + Drop> CountingReader<R> {
     /// The reader, with no read so far.
     pub fn new(reader: R) -> CountingReader<R>
         ensures remaining { ⟦<CountingReader<R> as CountingRead>⟧.remaining result ≡ R.remaining reader }
+        ensures reads { ⟦<CountingReader<R> as CountingRead>⟧.reads result ≡ 0 }
         ensures faults { ⟦<CountingReader<R> as CountingRead>⟧.faults result ≡ 0 }
     {
         CountingReader {
             reader,
-            faults: 0,
-            last_failed: false,
+            calls: Calls::none(),
         }
+    }
+
+    /// Drops the reader, and answers how often it was called.
+    pub(crate) fn close(self) -> Calls
+        ensures { result ≡ self.calls }
+    {
+        self.calls
+    }
+
+    /// Lends the reader.
+    #[cfg(test)]
+    pub(crate) fn reader(&self) -> &R {
+        &self.reader
     }
 }
 
@@ -101,42 +122,53 @@ impl<R: Read + Drop> CountingRead for CountingReader<R> {
 
     ghost source = { λ _. None };
 
-    ghost faults = { λ counting. counting.faults };
+    ghost reads = { λ counting. counting.calls.made };
 
-    ghost last_failed = { λ counting. counting.last_failed };
+    ghost faults = { λ counting. counting.calls.failed };
+
+    ghost last_failed = { λ counting. counting.calls.last_failed };
 
     fn give(&mut self, buffer: &mut [u8]) -> Result<usize, StoreError> {
         let given = self.reader.read(buffer);
-        self.last_failed = given.is_err();
+        self.calls.count(given.is_err());
         match given {
             Ok(count) => Ok(count),
-            Err(_) => {
-                self.faults = self.faults.saturating_add(1);
-                Err(StoreError::Failed)
-            }
+            Err(_) => Err(StoreError::Failed),
         }
     }
 }
 
-/// A writer of the library, with the count of its failed writes. What it was created for isn't known.
+/// A writer of the library, with the counts of its writes. What it was created for isn't known.
 #[derive(Drop)]
 pub struct CountingWriter<W: Write + Drop> {
-    pub(crate) writer: W,
-    faults: u64,
-    last_failed: bool,
+    writer: W,
+    calls: Calls,
 }
 
 impl<W: Write + Drop> CountingWriter<W> {
     /// The writer, with no write so far.
     pub fn new(writer: W) -> CountingWriter<W>
         ensures contents { ⟦<CountingWriter<W> as CountingWrite>⟧.contents result ≡ W.contents writer }
+        ensures writes { ⟦<CountingWriter<W> as CountingWrite>⟧.writes result ≡ 0 }
         ensures faults { ⟦<CountingWriter<W> as CountingWrite>⟧.faults result ≡ 0 }
     {
         CountingWriter {
             writer,
-            faults: 0,
-            last_failed: false,
+            calls: Calls::none(),
         }
+    }
+
+    /// Drops the writer, and answers how often it was called.
+    pub(crate) fn close(self) -> Calls
+        ensures { result ≡ self.calls }
+    {
+        self.calls
+    }
+
+    /// Lends the writer.
+    #[cfg(test)]
+    pub(crate) fn writer(&self) -> &W {
+        &self.writer
     }
 }
 
@@ -147,19 +179,18 @@ impl<W: Write + Drop> CountingWrite for CountingWriter<W> {
 
     ghost target = { λ _. None };
 
-    ghost faults = { λ counting. counting.faults };
+    ghost writes = { λ counting. counting.calls.made };
 
-    ghost last_failed = { λ counting. counting.last_failed };
+    ghost faults = { λ counting. counting.calls.failed };
+
+    ghost last_failed = { λ counting. counting.calls.last_failed };
 
     fn take(&mut self, bytes: &[u8]) -> Result<usize, SinkError> {
         let taken = self.writer.write(bytes);
-        self.last_failed = !matches!(&taken, Ok(1..));
+        self.calls.count(!matches!(&taken, Ok(1..)));
         match taken {
             Ok(count) if count > 0 => Ok(count),
-            _ => {
-                self.faults = self.faults.saturating_add(1);
-                Err(SinkError::Failed)
-            }
+            _ => Err(SinkError::Failed),
         }
     }
 }

@@ -2,9 +2,11 @@
 #![tactic(auto)]
 
 mod call_numbers;
+mod calls;
 mod capacity;
 mod counting;
 mod decimal;
+mod folder;
 mod folder_store;
 mod limits;
 mod list_sink;
@@ -17,11 +19,13 @@ mod status;
 mod store;
 mod transfer;
 mod words;
+mod working_folder;
 
 pub use capacity::{Capacity, DEFAULT_BUDGET, DEFAULT_STACK, DEFAULT_UNITS};
 pub use counting::{CountingRead, CountingReader, CountingWrite, CountingWriter};
 pub use decimal::{decimal_into, read_decimal, unsigned_into};
-pub use folder_store::{Folder, FolderStore, WorkingFolder};
+pub use folder::Folder;
+pub use folder_store::FolderStore;
 pub use limits::{
     LIMIT_ACTION, LIMIT_DESCRIPTION, LIMIT_IMAGE, LIMIT_INPUT, LIMIT_LEXEMES, LIMIT_NODES,
     LIMIT_SOURCE,
@@ -36,6 +40,7 @@ pub use status::Status;
 pub use store::{Store, StoreError};
 pub use transfer::{append_front, hand_on};
 pub use words::Words;
+pub use working_folder::WorkingFolder;
 
 #[cfg(test)]
 mod callers;

@@ -18,6 +18,7 @@ use std::test::Fail;
 struct Leaf<'a> {
     name: &'a [u8],
     rest: &'a [u8],
+    reads: u64,
 }
 
 impl CountingRead for Leaf<'_> {
@@ -27,6 +28,8 @@ impl CountingRead for Leaf<'_> {
 
     ghost source = { λ leaf. Some leaf.name.now };
 
+    ghost reads = { λ leaf. leaf.reads };
+
     ghost faults = { λ _. 0 };
 
     ghost last_failed = { λ _. false };
@@ -35,6 +38,7 @@ impl CountingRead for Leaf<'_> {
         let count = buffer.len().min(self.rest.len()).min(2);
         buffer[..count].copy_from_slice(&self.rest[..count]);
         self.rest = &self.rest[count..];
+        self.reads = self.reads.saturating_add(1);
         Ok(count)
     }
 }
@@ -94,6 +98,7 @@ struct Sheet<'a> {
     name: &'a [u8],
     tape: &'a Tape,
     bytes: Vec<u8>,
+    writes: u64,
     faults: u64,
     last_failed: bool,
 }
@@ -105,12 +110,15 @@ impl CountingWrite for Sheet<'_> {
 
     ghost target = { λ sheet. Some sheet.name.now };
 
+    ghost writes = { λ sheet. sheet.writes };
+
     ghost faults = { λ sheet. sheet.faults };
 
     ghost last_failed = { λ sheet. sheet.last_failed };
 
     fn take(&mut self, bytes: &[u8]) -> Result<usize, SinkError> {
         let count = bytes.len().min(2);
+        self.writes = self.writes.saturating_add(1);
         self.last_failed = self.tape.append(&bytes[..count]).is_err()
             || self.bytes.extend_from_slice(&bytes[..count]).is_err();
         if self.last_failed {
@@ -129,13 +137,16 @@ struct Page<'a> {
     bytes: &'a [u8],
     tape: &'a Tape,
     opens: u64,
+    failed_opens: u64,
     creates: u64,
-    closed: Option<Sheet<'a>>,
+    failed_creates: u64,
+    closed_leaf: Option<Leaf<'a>>,
+    closed_sheet: Option<Sheet<'a>>,
 }
 
 impl<'a> Folder for Page<'a> {
-    ghost use Rattle.std.specs.Prelude.{Some, None, true, if◌then◌else◌};
-    ghost use Rattle.std.specs.Option.{option_map};
+    ghost use Rattle.std.specs.Prelude.{Some, None, true, false, if◌then◌else◌};
+    ghost use Rattle.std.specs.Option.{option_map, unwrap_or};
     ghost use Rattle.std.specs.Str.{bytes_eq};
 
     type Reader = Leaf<'a>;
@@ -150,39 +161,65 @@ impl<'a> Folder for Page<'a> {
 
     ghost opens = { λ page. page.opens };
 
+    ghost failed_opens = { λ page. page.failed_opens };
+
     ghost creates = { λ page. page.creates };
 
-    ghost closed_target = { λ page. option_map (λ sheet. sheet.name.now) page.closed };
+    ghost failed_creates = { λ page. page.failed_creates };
 
-    ghost closed_contents = { λ page. option_map (λ sheet. sheet.bytes.items) page.closed };
+    ghost closed_source = { λ page. option_map (λ leaf. leaf.name.now) page.closed_leaf };
+
+    ghost closed_remaining = { λ page. option_map (λ leaf. leaf.rest.now) page.closed_leaf };
+
+    ghost closed_read_faults = { λ _. 0 };
+
+    ghost closed_read_failed = { λ _. false };
+
+    ghost closed_target = { λ page. option_map (λ sheet. sheet.name.now) page.closed_sheet };
+
+    ghost closed_contents = { λ page. option_map (λ sheet. sheet.bytes.items) page.closed_sheet };
+
+    ghost closed_write_faults = { λ page.
+        unwrap_or (option_map (λ sheet. sheet.faults) page.closed_sheet) 0 };
+
+    ghost closed_write_failed = { λ page.
+        unwrap_or (option_map (λ sheet. sheet.last_failed) page.closed_sheet) false };
 
     fn open(&mut self, name: &str) -> io::Result<Leaf<'a>> {
         self.opens = self.opens.saturating_add(1);
         if name.as_bytes() != self.name {
+            self.failed_opens = self.failed_opens.saturating_add(1);
             return Err(io::Error::from(ErrorKind::NotFound));
         }
         Ok(Leaf {
             name: self.name,
             rest: self.bytes,
+            reads: 0,
         })
     }
 
     fn create(&mut self, name: &str) -> io::Result<Sheet<'a>> {
         self.creates = self.creates.saturating_add(1);
         if name.as_bytes() != self.name {
+            self.failed_creates = self.failed_creates.saturating_add(1);
             return Err(io::Error::from(ErrorKind::PermissionDenied));
         }
         Ok(Sheet {
             name: self.name,
             tape: self.tape,
             bytes: Vec::new(self.alloc),
+            writes: 0,
             faults: 0,
             last_failed: false,
         })
     }
 
-    fn close(&mut self, writer: Sheet<'a>) {
-        self.closed = Some(writer);
+    fn close_reader(&mut self, reader: Leaf<'a>) {
+        self.closed_leaf = Some(reader);
+    }
+
+    fn close_writer(&mut self, writer: Sheet<'a>) {
+        self.closed_sheet = Some(writer);
     }
 }
 
@@ -241,7 +278,7 @@ fn reads_in_pieces_give_the_front(rt: HostRuntime) -> Result<(), Fail> {
         });
         let mut into = Vec::from_slice(rt.alloc(), b"to ")?;
         let answer = append_front(&mut reader, 4, &mut into);
-        assert_eq!(rt; reader.reader.reads, 3.min(failing.saturating_add(1)));
+        assert_eq!(rt; reader.reader().reads, 3.min(failing.saturating_add(1)));
         if failing < 3 {
             assert_eq!(rt; answer, Err(StoreError::Failed));
             assert_eq!(rt; into.as_slice(), b"to ".as_slice());
@@ -263,8 +300,8 @@ fn writes_in_pieces_take_a_front_before_a_fault(rt: HostRuntime) -> Result<(), F
         });
         let answer = hand_on(&mut writer, b"several");
         let taken = 7.min(2 * failing as usize);
-        assert_eq!(rt; writer.writer.taken.as_slice(), &b"several"[..taken]);
-        assert_eq!(rt; writer.writer.writes, 4.min(failing.saturating_add(1)));
+        assert_eq!(rt; writer.writer().taken.as_slice(), &b"several"[..taken]);
+        assert_eq!(rt; writer.writer().writes, 4.min(failing.saturating_add(1)));
         if failing < 4 {
             assert_eq!(rt; answer, Err(SinkError::Failed));
         } else {
@@ -283,8 +320,11 @@ fn a_folder_that_tells_is_read_and_written(rt: HostRuntime) -> Result<(), Fail> 
         bytes: b"page",
         tape: &tape,
         opens: 0,
+        failed_opens: 0,
         creates: 0,
-        closed: None,
+        failed_creates: 0,
+        closed_leaf: None,
+        closed_sheet: None,
     });
     let name = Name::new(rt.alloc(), "any").ok().ok_or("memory")?;
     let other = Name::new(rt.alloc(), "other").ok().ok_or("memory")?;
@@ -297,7 +337,14 @@ fn a_folder_that_tells_is_read_and_written(rt: HostRuntime) -> Result<(), Fail> 
     assert_eq!(rt; store.write(&other, b"bytes"), Err(StoreError::Failed));
     assert!(rt; tape.holds(b"bytes"));
     assert_eq!(rt; store.folder.opens, 2);
+    assert_eq!(rt; store.folder.failed_opens, 1);
     assert_eq!(rt; store.folder.creates, 2);
+    assert_eq!(rt; store.folder.failed_creates, 1);
+    let left = match &store.folder.closed_leaf {
+        Some(leaf) => leaf.rest,
+        None => b"",
+    };
+    assert_eq!(rt; left, b"e".as_slice());
     Ok(())
 }
 
@@ -306,7 +353,7 @@ fn a_vector_takes_each_piece(rt: HostRuntime) -> Result<(), Fail> {
     let mut out = OutSink::new(CountingWriter::new(Vec::new(rt.alloc())));
     assert_eq!(rt; out.write(b"one "), Ok(()));
     assert_eq!(rt; out.write(b"two"), Ok(()));
-    assert_eq!(rt; out.writer.writer.as_slice(), b"one two".as_slice());
+    assert_eq!(rt; out.writer.writer().as_slice(), b"one two".as_slice());
     Ok(())
 }
 
