@@ -1,12 +1,12 @@
 -- Prints in a row: what they leave is what one print of the whole text leaves.
-use Rattle.std.proofs.Common.{◌≡◌, ℕ, ◌+◌, List, [], ◌++◌, length, take, IsTrue, Result, Ok, Err, refl, sym, ap, ◌∙◌, subst, arith, inl, inr, append_assoc, append-nil}
+use Rattle.std.proofs.Common.{◌≡◌, ℕ, ◌+◌, List, [], ◌∷◌, ◌++◌, length, take, IsTrue, Result, Ok, Err, OnErr, refl, sym, ap, ◌∙◌, subst, arith, inl, inr, append_assoc, append-nil}
 use Rattle.std.proofs.lemmas.Bool.{cases_lt}
 use Rattle.std.proofs.lemmas.List.{take-append-le, take_all}
 use Rattle.std.proofs.Math.Seq.{take-append_seam, take-append-add}
 use Rattle.acg_base.specs.Outside.{counted, GainsFrontOf}
 use Rattle.acg_base.specs.declared.sink.Sink.{Ghosts}
 use Rattle.acg_base.specs.declared.sink.SinkError.{SinkError}
-use Rattle.acg_words.specs.Prints.{Took, Broke, Printed}
+use Rattle.acg_words.specs.Prints.{Took, Broke, Printed, PiecesBroke}
 
 -- a front of the first piece is a front of both
 pub front_of_first : (first second old new : List ℕ) → GainsFrontOf first old new → GainsFrontOf (first ++ second) old new
@@ -20,6 +20,23 @@ front_of_first first second old new gains =
 pub front_of_second : (first second old middle new : List ℕ) → middle ≡ old ++ first → GainsFrontOf second middle new → GainsFrontOf (first ++ second) old new
 front_of_second first second old middle new behind gains =
     (length first + gains.0, gains.1 ∙ ap (λ bytes. bytes ++ take gains.0 second) behind ∙ append_assoc old first (take gains.0 second) ∙ ap (λ front. old ++ front) (sym (take-append-add first second gains.0)))
+
+-- one piece whose write failed
+pub broken-one :
+    {K : Type 0} (sink : Ghosts K) (text : List ℕ) (old new : K) (result : Result (Unit {0}) SinkError) →
+    sink.writes new ≡ counted (sink.writes old) →
+    OnErr result (IsTrue (sink.tells old) → GainsFrontOf text (sink.written old) (sink.written new)) →
+    OnErr result (PiecesBroke sink (text ∷ []) old new)
+broken-one sink text old new (Ok u) once part = tt
+broken-one sink text old new (Err e) once part = record {
+  before = [];
+  piece = text;
+  behind = [];
+  split = refl;
+  writes = once;
+  part = λ told. subst (λ bytes. GainsFrontOf text bytes (sink.written new)) (sym (append-nil (sink.written old)))
+      (part told);
+}
 
 module _ {K : Type 0} {sink : Ghosts K} where
   -- nothing is printed by no write
@@ -68,3 +85,13 @@ module _ {K : Type 0} {sink : Ghosts K} where
   printed-err (Ok u) result' is is' printed goes = absurd (cc)
   printed-err (Err e) (Ok u) is is' printed goes = absurd (cc)
   printed-err (Err e) (Err e') is is' printed goes = record { done = tt; failed = goes printed.failed }
+
+  -- a print that failed ends a longer one, of which a piece broke
+  pub broken-err :
+      {first : List ℕ} {pieces : List (List ℕ)} {old middle new : K} {e e' : SinkError}
+      (result result' : Result (Unit {0}) SinkError) → result ≡ Err e → result' ≡ Err e' →
+      Printed sink first middle new result → (Broke sink first middle new → PiecesBroke sink pieces old new) →
+      OnErr result' (PiecesBroke sink pieces old new)
+  broken-err (Ok u) result' is is' printed goes = absurd (cc)
+  broken-err (Err e) (Ok u) is is' printed goes = tt
+  broken-err (Err e) (Err e') is is' printed goes = goes printed.failed

@@ -58,10 +58,10 @@ abbrev pub is_one_piece : Line → Bool
 is_one_piece (ReadFault name) = false
 is_one_piece _ = true
 
--- by how many writes it is printed: the name of a read fault is a piece of its own
-abbrev pub piece_count : Line → ℕ
-piece_count (ReadFault name) = 3
-piece_count _ = 1
+-- the pieces by which it is printed, each by one write: the name of a read fault is a piece of its own
+abbrev pub pieces_of : Line → List (List ℕ)
+pieces_of (ReadFault name) = codes "read fault " ∷ (name ∷ (codes "\n" ∷ []))
+pieces_of line = bytes_of line ∷ []
 
 -- before a run: the words of the stack, the units, and the factor
 abbrev pub header_line : (stack units factor : ℕ) → List ℕ

@@ -1,5 +1,6 @@
 -- What a print does to a sink.
-use Rattle.std.specs.Prelude.{◌≡◌, ◌≢◌, ℕ, zero, suc, List, ◌++◌, IsTrue, Result, OnOk, OnErr}
+use Rattle.std.specs.Prelude.{◌≡◌, ◌≢◌, ℕ, zero, suc, List, ◌∷◌, ◌++◌, length, IsTrue, Result, OnOk, OnErr}
+use Rattle.std.specs.List.{concat}
 use Rattle.acg_base.specs.Outside.{counted, GainsFrontOf}
 use Rattle.acg_base.specs.declared.sink.Sink.{Ghosts}
 use Rattle.acg_base.specs.declared.sink.SinkError.{SinkError}
@@ -23,6 +24,16 @@ pub record Broke {K : Type 0} (sink : Ghosts K) (text : List ℕ) (old new : K) 
   pub last : IsTrue (sink.last_failed new)
   pub one : sink.faults new ≡ counted (sink.faults old)
   pub tells_still : sink.tells new ≡ sink.tells old
+
+-- of pieces that are printed one by one, each by one write, one failed: the ones before it stand in the sink, and behind
+-- them a front of it
+pub record PiecesBroke {K : Type 0} (sink : Ghosts K) (pieces : List (List ℕ)) (old new : K) : Type 0 where
+  pub before : List (List ℕ)
+  pub piece : List ℕ
+  pub behind : List (List ℕ)
+  pub split : pieces ≡ before ++ (piece ∷ behind)
+  pub writes : sink.writes new ≡ writes_behind (suc (length before)) (sink.writes old)
+  pub part : IsTrue (sink.tells old) → GainsFrontOf piece (sink.written old ++ concat before) (sink.written new)
 
 -- the text is printed, or a write failed, the last one
 pub record Printed {K : Type 0} (sink : Ghosts K) (text : List ℕ) (old new : K) (result : Result (Unit {0}) SinkError) : Type 0 where

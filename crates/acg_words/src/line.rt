@@ -7,8 +7,8 @@ ghost use Rattle.acg_words.specs.Prints.{Printed, Answered};
 use crate::prints::{print, print_numbered, print_read_fault};
 use acg_base::{LIMIT_ACTION, LIMIT_INPUT, LIMIT_NODES, Memory, Name, Sink, SinkError, Status};
 
-/// The line that ends an answer: why a request was refused, or how a run or a performance ended. Each goes with one
-/// status. Offsets are in bytes, nodes are numbers of action nodes, both from 0.
+/// The line that ends an answer: why a request was refused, or how a run or a performance ended.
+/// Each goes with one status. Offsets are in bytes, nodes are numbers of action nodes, both from 0.
 #[derive(Debug, Drop)]
 pub enum Line {
     /// The words are no command line.
@@ -29,7 +29,8 @@ pub enum Line {
         /// Where it is.
         offset: u32,
     },
-    /// The token there is the first with which the text begins no action, or the text ends there too early.
+    /// The token there is the first with which the text begins no action, or the text ends there
+    /// too early.
     ActionText {
         /// Where it is.
         offset: u32,
@@ -75,10 +76,10 @@ impl From<Memory> for Line {
 }
 
 impl Line {
-    ghost use Rattle.std.specs.Prelude.{◌≡◌, IsTrue, OnOk};
+    ghost use Rattle.std.specs.Prelude.{◌≡◌, ◌≢◌, length, IsTrue, OnOk, OnErr};
     ghost use Rattle.acg_base.specs.Outside.{counted};
-    ghost use Rattle.acg_words.specs.Lines.{bytes_of, status_of, is_one_piece, piece_count};
-    ghost use Rattle.acg_words.specs.Prints.{Printed, Answered, writes_behind};
+    ghost use Rattle.acg_words.specs.Lines.{bytes_of, status_of, is_one_piece, pieces_of};
+    ghost use Rattle.acg_words.specs.Prints.{Printed, Answered, PiecesBroke, writes_behind};
 
     /// The status that goes with the line.
     pub fn status(&self) -> Status
@@ -102,13 +103,15 @@ impl Line {
         }
     }
 
-    /// Prints the line, by one write or, for a read fault, by three. Answers `Failed` where the sink
-    /// fails: it has a front of the line then.
+    /// Prints the line, by one write or, for a read fault, by three. Answers `Failed` where the
+    /// sink fails: it has the pieces before the failed one and a front of that one then.
     pub fn print<K: Sink>(&self, out: &mut K) -> Result<(), SinkError>
         ensures printed { Printed K.Sink (bytes_of self.now) out.old out.new result }
         ensures pieces { OnOk result
-            (K.writes out.new ≡ writes_behind (piece_count self.now) (K.writes out.old)) }
-        ensures once { IsTrue (is_one_piece self.now) → K.writes out.new ≡ counted (K.writes out.old) }
+            (K.writes out.new ≡ writes_behind (length (pieces_of self.now)) (K.writes out.old)) }
+        ensures broken { OnErr result (PiecesBroke K.Sink (pieces_of self.now) out.old out.new) }
+        ensures once { IsTrue (is_one_piece self.now) →
+            K.writes out.new ≡ counted (K.writes out.old) }
     {
         match self {
             Line::Words => print(out, b"words\n"),
@@ -132,8 +135,14 @@ impl Line {
 
     /// Prints the line, and answers its status, or `WriteFault` where the sink fails.
     pub fn answer<K: Sink>(&self, out: &mut K) -> Status
-        ensures answered { Answered K.Sink (bytes_of self.now) (status_of self.now) out.old out.new result }
-        ensures once { IsTrue (is_one_piece self.now) → K.writes out.new ≡ counted (K.writes out.old) }
+        ensures answered { Answered K.Sink (bytes_of self.now) (status_of self.now)
+            out.old out.new result }
+        ensures pieces { result ≢ Status.WriteFault →
+            K.writes out.new ≡ writes_behind (length (pieces_of self.now)) (K.writes out.old) }
+        ensures broken { result ≡ Status.WriteFault →
+            PiecesBroke K.Sink (pieces_of self.now) out.old out.new }
+        ensures once { IsTrue (is_one_piece self.now) →
+            K.writes out.new ≡ counted (K.writes out.old) }
     {
         match self.print(out) {
             Ok(()) => self.status(),

@@ -1,7 +1,8 @@
 //! Words that are read as commands.
 
 ghost use Rattle.std.specs.Prelude.{◌≡◌, map, string_bytes, Option, option_map};
-ghost use Rattle.acg_words.specs.Commands.{command_of, words_of, alone_of, asked, file_name, schedule_number};
+ghost use Rattle.acg_words.specs.Commands.{command_of, words_of, alone_of, asked, file_name};
+ghost use Rattle.acg_words.specs.Commands.{schedule_number};
 
 use crate::command::{Act, Command, Perform};
 use crate::table::{Kind, kind_named};
@@ -51,7 +52,8 @@ fn perform(operands: &[String]) -> Option<Command<'_>>
 
 // No operands.
 fn alone<'a>(operands: &[String], command: Command<'a>) -> Option<Command<'a>>
-    ensures { alone_of (asked command.entry) (map string_bytes operands.now) ≡ option_map asked result }
+    ensures { alone_of (asked command.entry) (map string_bytes operands.now)
+        ≡ option_map asked result }
 {
     if operands.is_empty() {
         Some(command)

@@ -1,10 +1,10 @@
 //! Pieces of text that a sink gets, each by one write.
 
-ghost use Rattle.std.specs.Prelude.{◌≡◌, ◌≤◌, length, OnOk};
+ghost use Rattle.std.specs.Prelude.{◌≡◌, ◌≤◌, [], ◌∷◌, length, map, codes, OnOk, OnErr};
 ghost use Rattle.std.specs.List.{flat_map};
 ghost use Rattle.acg_base.specs.Outside.{counted};
 ghost use Rattle.acg_words.specs.Lines.{numbered_line, header_line, message_line, read_fault_line};
-ghost use Rattle.acg_words.specs.Prints.{Printed, writes_behind};
+ghost use Rattle.acg_words.specs.Prints.{Printed, PiecesBroke, writes_behind};
 
 use crate::buffer::Buffer;
 use acg_base::{Sink, SinkError};
@@ -13,15 +13,19 @@ use acg_base::{Sink, SinkError};
 pub(crate) fn print<K: Sink>(out: &mut K, text: &[u8]) -> Result<(), SinkError>
     ensures printed { Printed K.Sink text.now out.old out.new result }
     ensures once { K.writes out.new ≡ counted (K.writes out.old) }
+    ensures broken { OnErr result (PiecesBroke K.Sink (text.now ∷ []) out.old out.new) }
 {
     out.write(text)
 }
 
 /// Prints the pieces, each by one write.
 pub(crate) fn print_all<K: Sink>(out: &mut K, pieces: &[&[u8]]) -> Result<(), SinkError>
-    ensures printed { Printed K.Sink (flat_map (λ piece. piece.now) pieces.now) out.old out.new result }
+    ensures printed { Printed K.Sink (flat_map (λ piece. piece.now) pieces.now)
+        out.old out.new result }
     ensures each { OnOk result
         (K.writes out.new ≡ writes_behind (length pieces.now) (K.writes out.old)) }
+    ensures broken { OnErr result
+        (PiecesBroke K.Sink (map (λ piece. piece.now) pieces.now) out.old out.new) }
 {
     for piece in pieces {
         print(out, piece)?;
@@ -38,6 +42,8 @@ pub(crate) fn print_numbered<K: Sink>(
     requires { length text.now ≤ 40 }
     ensures printed { Printed K.Sink (numbered_line text.now number) out.old out.new result }
     ensures once { K.writes out.new ≡ counted (K.writes out.old) }
+    ensures broken { OnErr result
+        (PiecesBroke K.Sink (numbered_line text.now number ∷ []) out.old out.new) }
 {
     let mut line = Buffer::new();
     line.put(text);
@@ -46,10 +52,13 @@ pub(crate) fn print_numbered<K: Sink>(
     print(out, line.as_slice())
 }
 
-/// Prints that a read of the store failed, with the name that was read, of any length, by three writes.
+/// Prints that a read of the store failed, with the name that was read, of any length, by three
+/// writes.
 pub(crate) fn print_read_fault<K: Sink>(out: &mut K, name: &[u8]) -> Result<(), SinkError>
     ensures printed { Printed K.Sink (read_fault_line name.now) out.old out.new result }
     ensures three { OnOk result (K.writes out.new ≡ writes_behind 3 (K.writes out.old)) }
+    ensures broken { OnErr result (PiecesBroke K.Sink
+        (codes "read fault " ∷ (name.now ∷ (codes "\n" ∷ []))) out.old out.new) }
 {
     print_all(out, &[b"read fault ".as_slice(), name, b"\n".as_slice()])
 }

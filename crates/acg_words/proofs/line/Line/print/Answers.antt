@@ -1,0 +1,30 @@
+-- The line of each variant is the text that its arm prints.
+use Rattle.std.proofs.Common.{sym, subst}
+use Rattle.acg_words.specs.Lines.{bytes_of}
+use Rattle.acg_words.specs.Prints.{Printed}
+use Rattle.acg_words.proofs.line.Line.print.Goals as goal
+
+pub returns-in-LimitAction-clause-printed : goal.returns-in-LimitAction-clause-printed
+returns-in-LimitAction-clause-printed g c =
+    let call = c.print_numbered in
+    subst (λ line. Printed g.K.Sink (bytes_of line) c.args.out.now call.new.out call.result) (sym c.in-LimitAction.is) call.ensures.printed
+
+pub returns-in-LimitNodes-clause-printed : goal.returns-in-LimitNodes-clause-printed
+returns-in-LimitNodes-clause-printed g c =
+    let call = c.print_numbered-in-LimitNodes in
+    subst (λ line. Printed g.K.Sink (bytes_of line) c.args.out.now call.new.out call.result) (sym c.in-LimitNodes.is) call.ensures.printed
+
+pub returns-in-ActionByte-clause-printed : goal.returns-in-ActionByte-clause-printed
+returns-in-ActionByte-clause-printed g c =
+    let call = c.print_numbered-in-ActionByte in
+    subst (λ line. Printed g.K.Sink (bytes_of line) c.args.out.now call.new.out call.result) (sym c.in-ActionByte.is) call.ensures.printed
+
+pub returns-in-StrayUnfold-clause-printed : goal.returns-in-StrayUnfold-clause-printed
+returns-in-StrayUnfold-clause-printed g c =
+    let call = c.print_numbered-in-StrayUnfold in
+    subst (λ line. Printed g.K.Sink (bytes_of line) c.args.out.now call.new.out call.result) (sym c.in-StrayUnfold.is) call.ensures.printed
+
+pub returns-in-IllSorted-clause-printed : goal.returns-in-IllSorted-clause-printed
+returns-in-IllSorted-clause-printed g c =
+    let call = c.print_numbered-in-IllSorted in
+    subst (λ line. Printed g.K.Sink (bytes_of line) c.args.out.now call.new.out call.result) (sym c.in-IllSorted.is) call.ensures.printed
