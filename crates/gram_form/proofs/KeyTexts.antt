@@ -37,7 +37,7 @@ seen-distinct names i distinct h = pick (list_any (bytes_eq (get_or names i []))
             distinct k i [] before h same
 
 -- the names of productions
-name_at : (list : List Production) (i : ℕ) (d : Production) → i < length list → get_or (names_of (map plain_production list)) i [] ≡ (get_or list i d).name.now
+pub name_at : (list : List Production) (i : ℕ) (d : Production) → i < length list → get_or (names_of (map plain_production list)) i [] ≡ (get_or list i d).name.now
 name_at [] i d h = absurd (omega arith)
 name_at (p ∷ list) zero d h = refl
 name_at (p ∷ list) (suc i) d h = name_at list i d (omega arith)

@@ -12,6 +12,11 @@ names_of productions = map (λ (p : PlainProduction). p.name) productions
 abbrev pub HaveDistinctNames : List PlainProduction → Type 0
 HaveDistinctNames productions = AllPairs (λ x y. x ≢ y) (names_of productions)
 
+-- two lists have the same texts
+abbrev pub HaveSame : List (List ℕ) → List (List ℕ) → Type 0
+HaveSame known names =
+    (name : List ℕ) → list_any (bytes_eq name) known ≡ list_any (bytes_eq name) names
+
 -- the part is a nonterminal that isn't among the names
 abbrev pub is_undefined : List (List ℕ) → PlainPart → Bool
 is_undefined names (PlainNonterm name) = not (list_any (bytes_eq name) names)

@@ -1,16 +1,17 @@
 //! Grammars.
 ghost use Rattle.std.specs.Prelude.{◌≡◌, ◌∷◌, map, fold, IfOk, IfErr};
 ghost use Rattle.gram_form.specs.Plain.{texts, plain_production};
-ghost use Rattle.gram_form.specs.Grammars.{IsGrammar, HaveDistinctNames, names_of};
+ghost use Rattle.gram_form.specs.Grammars.{IsGrammar, HaveDistinctNames, HaveSame, names_of};
 ghost use Rattle.gram_form.specs.GrammarErrors.{AreFew, IsGramError};
 
 use crate::copying::copy_productions;
 use crate::errors::GramError;
+use crate::literals::Literals;
 use crate::part::Production;
 use crate::undefined::{FoundPart, first_undefined};
 use bumpalo::Bump;
-use indexmap::IndexSet;
 use std::alloc::{AllocError, Global};
+use std::collections::BTreeSet;
 use std::marker::Model;
 
 /// A grammar: productions with distinct names, in which every nonterminal has a production. The
@@ -36,11 +37,11 @@ impl<'a> Model for Grammar<'a> {
 }
 
 // The names of productions.
-fn names_of<'t>(alloc: Global, list: &[Production<'t>]) -> Result<IndexSet<&'t [u8]>, AllocError>
-    requires { HaveDistinctNames (map plain_production list.now) }
-    ensures { IfOk result (λ names. texts names.keys ≡ names_of (map plain_production list.now)) }
+fn names_of<'t>(alloc: Global, list: &[Production<'t>]) -> Result<BTreeSet<&'t [u8]>, AllocError>
+    ensures { let all = names_of (map plain_production list.now) in
+        IfOk result (λ names. HaveSame (texts names.keys) all) }
 {
-    let mut names = IndexSet::new(alloc);
+    let mut names = BTreeSet::new(alloc);
     for production in list {
         names.insert(production.name)?;
     }
@@ -50,9 +51,9 @@ fn names_of<'t>(alloc: Global, list: &[Production<'t>]) -> Result<IndexSet<&'t [
 impl<'a> Grammar<'a> {
     /// The grammar of productions with distinct names, copied into the arena.
     ///
-    /// `GramError::Empty` comes exactly where there is no production, and `GramError::Undefined`
-    /// exactly where a nonterminal has none, with the first one; `GramError::Memory` where no memory
-    /// is left.
+    /// Unless `GramError::Memory` is answered, where no memory is left, `GramError::Empty` comes
+    /// exactly where there is no production, and `GramError::Undefined` exactly where a nonterminal
+    /// has none, with the first one.
     pub fn build(
         alloc: Global,
         arena: &'a Bump,
@@ -75,7 +76,7 @@ impl<'a> Grammar<'a> {
                 part: found.part as u32,
             });
         }
-        let mut noted = IndexSet::new(alloc);
+        let mut noted = Literals::new(alloc);
         let productions = copy_productions(arena, list, &mut noted)?;
         let literals: &'a [&'a [u8]] = arena.try_alloc_slice_copy(noted.as_slice())?;
         Ok(Grammar {

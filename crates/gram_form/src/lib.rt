@@ -4,6 +4,7 @@
 mod copying;
 pub mod errors;
 pub mod grammar;
+mod literals;
 pub mod part;
 pub mod tree;
 mod undefined;

@@ -1,7 +1,7 @@
 //! The parts of a grammar.
 
 /// A part of an alternative.
-#[derive(Clone, Copy, Debug, PartialEq, Eq, Hash)]
+#[derive(Clone, Copy, Debug, PartialEq, Eq, PartialOrd, Ord)]
 pub enum Part<'a> {
     /// A text that stands in sources as it is.
     Literal(&'a [u8]),

@@ -5,7 +5,7 @@ ghost use Rattle.gram_form.specs.Grammars.{is_undefined, Place, IsUndefinedPart,
 ghost use Rattle.gram_form.specs.GrammarErrors.{IsFirstPart, IsFirstIn, IsFirstAmong, place_of};
 
 use crate::part::{Part, Production};
-use indexmap::IndexSet;
+use std::collections::BTreeSet;
 
 /// The place of a part among productions: the numbers of its production, of its alternative and of
 /// the part there, from 0.
@@ -17,7 +17,7 @@ pub struct FoundPart {
 }
 
 // Tells whether a part names a nonterminal that isn't among the names.
-fn is_undefined(part: Part<'_>, names: &IndexSet<&[u8]>) -> bool
+fn is_undefined<'t>(part: Part<'t>, names: &BTreeSet<&'t [u8]>) -> bool
     ensures { result ≡ is_undefined (texts names.now.keys) (plain_part part.entry) }
 {
     match part {
@@ -27,7 +27,7 @@ fn is_undefined(part: Part<'_>, names: &IndexSet<&[u8]>) -> bool
 }
 
 // The first such part of an alternative.
-fn undefined_part(parts: &[Part<'_>], names: &IndexSet<&[u8]>) -> Option<usize>
+fn undefined_part<'t>(parts: &[Part<'t>], names: &BTreeSet<&'t [u8]>) -> Option<usize>
     ensures { let known = texts names.now.keys in
         let all = map plain_part parts.now in
         MatchOption result ((k : ℕ) → IsUndefinedPart known all k → ⊥) (λ k. IsFirstPart known all k) }
@@ -41,7 +41,10 @@ fn undefined_part(parts: &[Part<'_>], names: &IndexSet<&[u8]>) -> Option<usize>
 }
 
 // The first such part of the alternatives, by the number of its alternative and its place there.
-fn undefined_in(alternatives: &[&[Part<'_>]], names: &IndexSet<&[u8]>) -> Option<(usize, usize)>
+fn undefined_in<'t>(
+    alternatives: &[&[Part<'t>]],
+    names: &BTreeSet<&'t [u8]>,
+) -> Option<(usize, usize)>
     ensures { let known = texts names.now.keys in
         let all = map plain_alternative alternatives.now in
         MatchOption result ((a k : ℕ) → IsUndefinedIn known all a k → ⊥) (λ r. IsFirstIn known all r.0 r.1) }
@@ -55,7 +58,7 @@ fn undefined_in(alternatives: &[&[Part<'_>]], names: &IndexSet<&[u8]>) -> Option
 }
 
 /// The first part of the productions that names a nonterminal that isn't among the names.
-pub fn first_undefined(list: &[Production<'_>], names: &IndexSet<&[u8]>) -> Option<FoundPart>
+pub fn first_undefined<'t>(list: &[Production<'t>], names: &BTreeSet<&'t [u8]>) -> Option<FoundPart>
     ensures { let known = texts names.now.keys in
         let all = map plain_production list.now in
         MatchOption result ((x : Place) → IsUndefinedAmong known all x → ⊥) (λ r. IsFirstAmong known all (place_of r)) }

@@ -1,14 +1,13 @@
 -- Names behind the keys of a set.
-use Rattle.std.proofs.Common.{◌≡◌, ◌∙◌, ℕ, ◌+◌, ◌<◌, Bool, true, false, not, List, [], ◌∷◌, ◌++◌, length, take, get_or, map, fold, refl, sym, ap, append-nil, append_assoc}
-use Rattle.std.specs.Prelude.{◌||◌, if◌then◌else◌}
+use Rattle.std.proofs.Common.{◌≡◌, ◌∙◌, ℕ, ◌+◌, ◌<◌, Bool, true, false, not, List, [], ◌∷◌, ◌++◌, length, take, get_or, map, refl, sym, ap}
+use Rattle.std.specs.Prelude.{◌||◌}
 use Rattle.std.specs.List.{list_any}
 use Rattle.std.specs.Str.{bytes_eq}
 use Rattle.std.proofs.lemmas.List.{map-append}
 use Rattle.std.proofs.lemmas.List.Folds.{list_any-append}
-use Rattle.std.proofs.Math.Bool.{or-false}
-use Rattle.std.proofs.lemmas.Slice.Eq.{bytes_eq-Decides}
-use Rattle.gram_form.specs.Grammars.{is_undefined, seen_with}
-use Rattle.gram_form.specs.Plain.{PlainPart, PlainLiteral, PlainNonterm, PlainIdentifier, PlainNumeral, PlainProduction, plain_part, plain_alternative}
+use Rattle.gram_form.specs.Grammars.{HaveSame, is_undefined}
+use Rattle.gram_form.proofs.SameNames.{same_undefined}
+use Rattle.gram_form.specs.Plain.{PlainProduction, plain_part, plain_alternative}
 use Rattle.std.specs.Borrow.{Bor}
 use Rattle.gram_form.specs.declared.part.Part.{Part}
 use Rattle.meta_terms.specs.declared.items.PatternPart.{PatternPart}
@@ -20,38 +19,9 @@ use Rattle.meta_terms.specs.PlainItems.{PlainDeclaration, PlainPatternPart, Plai
 use Rattle.meta_check.specs.Views.{productions_of, declarations_of, is_in, nonterminals_of, functions_of, names_outside, repeats_production, repeats_declaration, applies_outside, calls_outside}
 use Rattle.meta_check.proofs.SoFar.{Appends, productions_append, declarations_append, next_of}
 
--- the lists have the same names
-abbrev pub HaveSame : List (List ℕ) → List (List ℕ) → Type 0
-HaveSame known names = (name : List ℕ) → is_in known name ≡ is_in names name
-
-or_self : (a b : Bool) → (b ≡ true → a ≡ true) → (a || b) ≡ a
-or_self true b h = refl
-or_self false true h = sym (h refl)
-or_self false false h = refl
-
--- one more name
-pub seen_same : (known names : List (List ℕ)) (name : List ℕ) → HaveSame known names → HaveSame (seen_with known name) (names ++ name ∷ [])
-seen_same known names name h n =
-    pick (is_in known name) refl ∙ ap (λ b. b || is_in (name ∷ []) n) (h n) ∙ sym (list_any-append (bytes_eq n) names (name ∷ []))
-  where
-    there : is_in known name ≡ true → is_in (name ∷ []) n ≡ true → is_in known n ≡ true
-    there k e =
-        let same : n ≡ name = (bytes_eq-Decides n name).0 (sym (or-false (bytes_eq n name)) ∙ e) in
-        ap (is_in known) same ∙ k
-
-    pick : (b : Bool) → is_in known name ≡ b → is_in (if b then known else known ++ name ∷ []) n ≡ (is_in known n || is_in (name ∷ []) n)
-    pick true e = sym (or_self (is_in known n) (is_in (name ∷ []) n) (there e))
-    pick false e = list_any-append (bytes_eq n) known (name ∷ [])
-
 pub same_any : {X : Type 0} (p q : X → Bool) → ((x : X) → p x ≡ q x) → (xs : List X) → list_any p xs ≡ list_any q xs
 same_any p q h [] = refl
 same_any p q h (x ∷ xs) = ap (λ b. b || list_any p xs) (h x) ∙ ap (λ b. q x || b) (same_any p q h xs)
-
-same_undefined : (known names : List (List ℕ)) → HaveSame known names → (part : PlainPart) → is_undefined known part ≡ is_undefined names part
-same_undefined known names h (PlainLiteral bytes) = refl
-same_undefined known names h (PlainNonterm name) = ap not (h name)
-same_undefined known names h PlainIdentifier = refl
-same_undefined known names h PlainNumeral = refl
 
 -- what isn't known is told by the names alone
 pub same_outside : (known names : List (List ℕ)) → HaveSame known names → (item : PlainItem) → names_outside known item ≡ names_outside names item
@@ -94,25 +64,22 @@ nonterminals_append items others = ap (map (λ (p : PlainProduction). p.name)) (
 functions_append : Appends functions_of
 functions_append items others = ap (map (λ (d : PlainDeclaration). d.function)) (declarations_append items others) ∙ map-append (λ (d : PlainDeclaration). d.function) (declarations_of items) (declarations_of others)
 
-seen_all : (known names more : List (List ℕ)) → HaveSame known names → HaveSame (fold seen_with known more) (names ++ more)
-seen_all known names [] h n = h n ∙ ap (λ ns. is_in ns n) (sym (append-nil names))
-seen_all known names (name ∷ more) h n =
-    seen_all (seen_with known name) (names ++ name ∷ []) more (seen_same known names name h) n ∙ ap (λ ns. is_in ns n) (append_assoc names (name ∷ []) more)
-
 -- the names of one more item
 noted : (names_of : List PlainItem → List (List ℕ)) → Appends names_of → (list : List Item) (i : ℕ) (d : Item) (known new : List (List ℕ))
-    → i < length list → HaveSame known (names_of (take i (map plain_item list))) → d ≡ get_or list i d → new ≡ fold seen_with known (names_of (plain_item d ∷ [])) → HaveSame new (names_of (take (i + 1) (map plain_item list)))
+    → i < length list → HaveSame known (names_of (take i (map plain_item list))) → d ≡ get_or list i d → HaveSame new (known ++ names_of (plain_item d ∷ [])) → HaveSame new (names_of (take (i + 1) (map plain_item list)))
 noted names_of append list i d known new h so_far is e n =
-    ap (λ ns. is_in ns n) e
-    ∙ seen_all known (names_of (take i (map plain_item list))) (names_of (plain_item d ∷ [])) so_far n
+    e n
+    ∙ list_any-append (bytes_eq n) known (names_of (plain_item d ∷ []))
+    ∙ ap (λ b. b || is_in (names_of (plain_item d ∷ [])) n) (so_far n)
+    ∙ sym (list_any-append (bytes_eq n) (names_of (take i (map plain_item list))) (names_of (plain_item d ∷ [])))
     ∙ ap (λ ns. is_in ns n) (sym (next_of names_of append list i d h is))
 
 pub nonterminal_noted : (list : List Item) (i : ℕ) (d : Item) (known new : List (List ℕ)) → i < length list → HaveSame known (nonterminals_of (take i (map plain_item list)))
-    → d ≡ get_or list i d → new ≡ fold seen_with known (nonterminals_of (plain_item d ∷ [])) → HaveSame new (nonterminals_of (take (i + 1) (map plain_item list)))
+    → d ≡ get_or list i d → HaveSame new (known ++ nonterminals_of (plain_item d ∷ [])) → HaveSame new (nonterminals_of (take (i + 1) (map plain_item list)))
 nonterminal_noted list i d known new = noted nonterminals_of nonterminals_append list i d known new
 
 pub function_noted : (list : List Item) (i : ℕ) (d : Item) (known new : List (List ℕ)) → i < length list → HaveSame known (functions_of (take i (map plain_item list)))
-    → d ≡ get_or list i d → new ≡ fold seen_with known (functions_of (plain_item d ∷ [])) → HaveSame new (functions_of (take (i + 1) (map plain_item list)))
+    → d ≡ get_or list i d → HaveSame new (known ++ functions_of (plain_item d ∷ [])) → HaveSame new (functions_of (take (i + 1) (map plain_item list)))
 function_noted list i d known new = noted functions_of functions_append list i d known new
 
 -- whether an item repeats a name is told by the names alone

@@ -2,6 +2,9 @@ pub mod SoFar
 pub mod Known
 pub mod Searching
 pub mod Lookups
+pub mod Mapped
+pub mod AnyLoops
+pub mod NumberTable
 pub mod SameParts
 pub mod AlternativeTable
 pub mod Alternatives

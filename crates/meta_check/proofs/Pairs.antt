@@ -1,12 +1,13 @@
 -- The pairs of functions and alternatives, item by item.
-use Rattle.std.proofs.Common.{◌≡◌, ◌∙◌, ℕ, ◌+◌, ◌<◌, Bool, false, List, [], ◌∷◌, ◌++◌, length, take, get_or, map, cond, Some, None, refl, sym, ap}
+use Rattle.std.proofs.Common.{◌≡◌, ◌∙◌, ℕ, ◌+◌, ◌<◌, List, [], ◌∷◌, ◌++◌, length, take, get_or, map, Some, None, refl, sym, ap}
+use Rattle.std.specs.BTreeSet.{insert_key}
 use Rattle.std.specs.List.{list_any}
 use Rattle.meta_terms.specs.declared.items.Equation.{Equation}
 use Rattle.meta_terms.specs.declared.items.Item.{Item}
 use Rattle.meta_terms.specs.declared.items.Item.TheVariants as item
 use Rattle.meta_terms.specs.PlainItems.{plain_equation, plain_item}
 use Rattle.meta_check.specs.Views.{equations_of, alternative_of}
-use Rattle.meta_check.proofs.Alternatives.{Pair, ArePairs, is_for, pair_more, pair_none}
+use Rattle.meta_check.proofs.Alternatives.{Pair, ArePairs, is_for, pair_cmp, pair_more, pair_none}
 use Rattle.meta_check.proofs.SoFar.{equations_append, next_of, no_equation, none_more}
 
 -- the equations so far, with the one that the item is
@@ -16,16 +17,12 @@ one_equation list i d own h is e =
     sym (next_of equations_of equations_append list i d h is
     ∙ ap (λ (x : Item). equations_of (take i (map plain_item list)) ++ equations_of (plain_item x ∷ [])) e)
 
--- a pair that isn't there stands behind the others
-pub pair_pushed : (pairs new : List Pair) (pair : Pair) (there : Bool) → new ≡ cond there pairs (pairs ++ pair ∷ []) → there ≡ false → new ≡ pairs ++ pair ∷ []
-pair_pushed pairs new pair there keys e = keys ∙ ap (λ b. cond b pairs (pairs ++ pair ∷ [])) e
-
 -- an equation with an alternative
 pub pairs_noted : (list : List Item) (i : ℕ) (d : Item) (own : Equation) (pairs new : List Pair) (m : ℕ) → i < length list → d ≡ get_or list i d → d ≡ item.Equation own
     → alternative_of (map plain_item list) (plain_equation own) ≡ Some m → ArePairs (map plain_item list) pairs (equations_of (take i (map plain_item list)))
-    → new ≡ pairs ++ (own.function, m) ∷ [] → ArePairs (map plain_item list) new (equations_of (take (i + 1) (map plain_item list)))
-pairs_noted list i d own pairs new m h is e alternative before pushed f n =
-    pair_more (map plain_item list) pairs new (equations_of (take i (map plain_item list))) (plain_equation own) own.function m before alternative refl pushed f n
+    → new ≡ insert_key pair_cmp pairs (own.function, m) → ArePairs (map plain_item list) new (equations_of (take (i + 1) (map plain_item list)))
+pairs_noted list i d own pairs new m h is e alternative before inserted f n =
+    pair_more (map plain_item list) pairs new (equations_of (take i (map plain_item list))) (plain_equation own) own.function m before alternative refl inserted f n
     ∙ ap (list_any (is_for (map plain_item list) f n)) (one_equation list i d own h is e)
 
 -- one without

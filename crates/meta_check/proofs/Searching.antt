@@ -7,7 +7,9 @@ use Rattle.meta_terms.specs.declared.items.Equation.{Equation}
 use Rattle.meta_terms.specs.declared.items.Item.{Item}
 use Rattle.meta_terms.specs.declared.items.Item.TheVariants as item
 use Rattle.meta_terms.specs.PlainItems.{PlainDeclaration, PlainItem, AProduction, ADeclaration, AnEquation, plain_item, plain_declaration, plain_equation}
-use Rattle.meta_check.specs.Rules.{Rule, Breaks, IsFirstBreach, Holds}
+use Rattle.std.proofs.lemmas.Bool.{false_from_ne_true}
+use Rattle.meta_check.specs.Rules.{Rule, Breaks, IsFirstBreach, Holds, names_no_production}
+use Rattle.meta_check.specs.Views.{names_outside, nonterminals_of}
 
 -- no item before the place breaks the rule
 abbrev pub HoldsBelow : Rule → List Item → ℕ → Type 0
@@ -46,6 +48,15 @@ pub equation_breaks : (rule : Rule) (list : List Item) (i : ℕ) (d : Item) (own
     → rule (take i (map plain_item list)) (map plain_item list) (AnEquation (plain_equation own)) ≡ true → IsFirstBreach rule (map plain_item list) i
 equation_breaks rule list i d own below within is e test =
     first_breach rule list i d below within is (ap (λ (x : Item). rule (take i (map plain_item list)) (map plain_item list) (plain_item x)) e ∙ test)
+
+-- where each name has a production, those that a pattern names have
+pub item_defined : (list : List Item) (i : ℕ) (d : Item) (own : Equation) → i < length list → d ≡ get_or list i d → d ≡ item.Equation own → Holds names_no_production (map plain_item list)
+    → names_outside (nonterminals_of (map plain_item list)) (AnEquation (plain_equation own)) ≡ false
+item_defined list i d own h is e holds =
+    let names = nonterminals_of (map plain_item list) in
+    false_from_ne_true (names_outside names (AnEquation (plain_equation own))) (λ broken.
+    holds i (at_some plain_item list i d (λ x. names_no_production (take i (map plain_item list)) (map plain_item list) x ≡ true) h
+    (ap (λ (x : Item). names_outside names (plain_item x)) (sym is ∙ e) ∙ broken)))
 
 -- no other item breaks the rule
 abbrev pub IsOnEquations : Rule → Type 0

@@ -1,5 +1,5 @@
 -- The productions, the declarations and the equations of the items so far.
-use Rattle.std.proofs.Common.{◌≡◌, ◌∙◌, ℕ, zero, suc, ◌+◌, ◌<◌, List, [], ◌∷◌, ◌++◌, length, take, get_or, map, refl, sym, ap, append-nil, add-one, arith}
+use Rattle.std.proofs.Common.{◌≡◌, ◌∙◌, ℕ, zero, suc, ◌+◌, ◌<◌, List, [], ◌∷◌, ◌++◌, length, take, get_or, map, refl, sym, ap, append-nil, arith}
 use Rattle.std.proofs.lemmas.List.{map-append}
 use Rattle.gram_form.specs.declared.part.Production.{Production}
 use Rattle.meta_terms.specs.declared.items.Declaration.{Declaration}
@@ -8,6 +8,7 @@ use Rattle.meta_terms.specs.declared.items.Item.{Item}
 use Rattle.meta_terms.specs.declared.items.Item.TheVariants as item
 use Rattle.meta_terms.specs.PlainItems.{PlainItem, AProduction, ADeclaration, AnEquation, plain_item}
 use Rattle.meta_check.specs.Views.{productions_of, declarations_of, equations_of}
+use Rattle.meta_check.proofs.Mapped.{take_mapped}
 
 -- what is made of items, one after another
 abbrev pub Appends : {A : Type 0} → (List PlainItem → List A) → Type 0
@@ -40,14 +41,8 @@ cut_here list i d h is = let c = go list i h in (c.0, c.1 ∙ ap (λ (x : Item).
     go (x ∷ list) zero h = (map plain_item list, refl)
     go (x ∷ list) (suc i) h = let c = go list i (omega arith) in (c.0, ap (λ is. plain_item x ∷ is) c.1)
 
-pub take_next : (list : List Item) (i : ℕ) (d : Item) → i < length list → d ≡ get_or list i d → take (i + 1) (map plain_item list) ≡ take i (map plain_item list) ++ plain_item d ∷ []
-take_next list i d h is =
-    ap (λ k. take k (map plain_item list)) (add-one i) ∙ sym (go list i h) ∙ ap (λ (x : Item). take i (map plain_item list) ++ plain_item x ∷ []) (sym is)
-  where
-    go : (list : List Item) (i : ℕ) → i < length list → take i (map plain_item list) ++ plain_item (get_or list i d) ∷ [] ≡ take (suc i) (map plain_item list)
-    go [] i h = absurd (omega arith)
-    go (x ∷ list) zero h = refl
-    go (x ∷ list) (suc i) h = ap (λ is. plain_item x ∷ is) (go list i (omega arith))
+take_next : (list : List Item) (i : ℕ) (d : Item) → i < length list → d ≡ get_or list i d → take (i + 1) (map plain_item list) ≡ take i (map plain_item list) ++ plain_item d ∷ []
+take_next list i d h is = take_mapped plain_item list i d h ∙ ap (λ (x : Item). take i (map plain_item list) ++ plain_item x ∷ []) (sym is)
 
 -- with one item more
 pub next_of : {A : Type 0} (of : List PlainItem → List A) → Appends of → (list : List Item) (i : ℕ) (d : Item) → i < length list → d ≡ get_or list i d

@@ -1,5 +1,5 @@
 -- The variables of a pattern, part by part.
-use Rattle.std.proofs.Common.{◌≡◌, ◌∙◌, ℕ, zero, suc, ◌+◌, ◌<◌, Bool, true, false, not, List, [], ◌∷◌, ◌++◌, length, take, get_or, map, Option, Some, None, option_to_list, refl, sym, ap, append_assoc, append-nil, add-one, arith}
+use Rattle.std.proofs.Common.{◌≡◌, ◌∙◌, ℕ, zero, suc, ◌+◌, ◌<◌, Bool, true, false, not, List, [], ◌∷◌, ◌++◌, length, take, get_or, map, Option, Some, None, option_to_list, refl, sym, ap, append_assoc, append-nil, arith}
 use Rattle.std.specs.Prelude.{◌||◌, option_map}
 use Rattle.std.specs.Borrow.{Bor}
 use Rattle.std.specs.List.{list_any}
@@ -7,7 +7,10 @@ use Rattle.std.specs.Str.{bytes_eq}
 use Rattle.std.proofs.lemmas.Bool.{or_left, or_right, or_parts, or_from}
 use Rattle.std.proofs.lemmas.List.Folds.{list_any-append}
 use Rattle.std.proofs.lemmas.Slice.Eq.{bytes_eq-Decides}
-use Rattle.gram_form.specs.Grammars.{seen_with}
+use Rattle.std.specs.BTreeSet.{insert_key}
+use Rattle.gram_form.specs.Grammars.{HaveSame}
+use Rattle.gram_form.specs.Plain.{texts}
+use Rattle.gram_form.proofs.OrderedTexts.{text_cmp, one-more}
 use Rattle.meta_terms.specs.declared.items.PatternPart.{PatternPart}
 use Rattle.meta_terms.specs.PlainItems.{PlainPatternPart, plain_pattern_part}
 use Rattle.meta_check.specs.Rules.{repeats}
@@ -15,7 +18,8 @@ use Rattle.meta_terms.specs.declared.template.TemplateNode.{TemplateNode}
 use Rattle.meta_terms.specs.Nodes.{label_of}
 use Rattle.meta_terms.specs.Templates.{Label}
 use Rattle.meta_check.specs.Views.{is_in, used_by, uses_outside, variables_of}
-use Rattle.meta_check.proofs.Known.{HaveSame, any_map, same_any, seen_same}
+use Rattle.meta_check.proofs.Mapped.{take_mapped}
+use Rattle.meta_check.proofs.Known.{any_map, same_any}
 
 variables_append : (parts others : List PlainPatternPart) → variables_of (parts ++ others) ≡ variables_of parts ++ variables_of others
 variables_append [] others = refl
@@ -29,22 +33,13 @@ cut_part [] i d h = absurd (omega (arith, h))
 cut_part (x ∷ list) zero d h = (map plain_pattern_part list, refl)
 cut_part (x ∷ list) (suc i) d h = let c = cut_part list i d (omega (arith, h)) in (c.0, ap (λ ps. plain_pattern_part x ∷ ps) c.1)
 
-pub take_part : (list : List PatternPart) (i : ℕ) (d : PatternPart) → i < length list
-    → take (i + 1) (map plain_pattern_part list) ≡ take i (map plain_pattern_part list) ++ plain_pattern_part (get_or list i d) ∷ []
-take_part list i d h = ap (λ k. take k (map plain_pattern_part list)) (add-one i) ∙ sym (go list i h)
-  where
-    go : (list : List PatternPart) (i : ℕ) → i < length list → take i (map plain_pattern_part list) ++ plain_pattern_part (get_or list i d) ∷ [] ≡ take (suc i) (map plain_pattern_part list)
-    go [] i h = absurd (omega arith)
-    go (x ∷ list) zero h = refl
-    go (x ∷ list) (suc i) h = ap (λ ps. plain_pattern_part x ∷ ps) (go list i (omega arith))
-
 -- the variable of a part
 abbrev pub own_variable : PatternPart → List (List ℕ)
 own_variable d = option_to_list (option_map (λ (v : Bor (List ℕ)). v.now) d.variable)
 
 variables_next : (list : List PatternPart) (i : ℕ) (d : PatternPart) → i < length list → variables_of (take (i + 1) (map plain_pattern_part list)) ≡ variables_of (take i (map plain_pattern_part list)) ++ own_variable (get_or list i d)
 variables_next list i d h =
-    ap variables_of (take_part list i d h)
+    ap variables_of (take_mapped plain_pattern_part list i d h)
     ∙ variables_append (take i (map plain_pattern_part list)) (plain_pattern_part (get_or list i d) ∷ [])
     ∙ ap (λ vs. variables_of (take i (map plain_pattern_part list)) ++ vs) (append-nil (own_variable (get_or list i d)))
 
@@ -95,15 +90,16 @@ pub record AreDistinct (known names : List (List ℕ)) : Type 0 where
   pub distinct : repeats names ≡ false
   pub same : HaveSame known names
 
-pub variable_new : (list : List PatternPart) (i : ℕ) (d : PatternPart) (v : Bor (List ℕ)) (known : List (List ℕ)) → i < length list → (get_or list i d).variable ≡ Some v
-    → AreDistinct known (variables_of (take i (map plain_pattern_part list))) → is_in known v.now ≡ false → AreDistinct (seen_with known v.now) (variables_of (take (i + 1) (map plain_pattern_part list)))
-variable_new list i d v known h own so_far new =
+pub variable_new : (list : List PatternPart) (i : ℕ) (d : PatternPart) (v : Bor (List ℕ)) (keys new : List (Bor (List ℕ))) → i < length list → (get_or list i d).variable ≡ Some v
+    → AreDistinct (texts keys) (variables_of (take i (map plain_pattern_part list))) → is_in (texts keys) v.now ≡ false → new ≡ insert_key text_cmp keys v
+    → AreDistinct (texts new) (variables_of (take (i + 1) (map plain_pattern_part list)))
+variable_new list i d v keys new h own so_far fresh inserted =
     let names = variables_of (take i (map plain_pattern_part list)) in
     let next : variables_of (take (i + 1) (map plain_pattern_part list)) ≡ names ++ v.now ∷ [] =
     variables_next list i d h ∙ ap (λ (o : Option (Bor (List ℕ))). names ++ option_to_list (option_map (λ (t : Bor (List ℕ)). t.now) o)) own in
     record {
-      distinct = ap repeats next ∙ repeats_push names v.now so_far.distinct (sym (so_far.same v.now) ∙ new);
-      same = λ n. seen_same known names v.now so_far.same n ∙ ap (λ ns. is_in ns n) (sym next);
+      distinct = ap repeats next ∙ repeats_push names v.now so_far.distinct (sym (so_far.same v.now) ∙ fresh);
+      same = λ n. one-more keys new v names inserted so_far.same n ∙ ap (λ ns. is_in ns n) (sym next);
     }
 
 pub variable_none : (list : List PatternPart) (i : ℕ) (d : PatternPart) (known : List (List ℕ)) → i < length list → (get_or list i d).variable ≡ None

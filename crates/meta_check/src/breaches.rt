@@ -3,13 +3,17 @@ ghost use Rattle.std.specs.Prelude.{◌≡◌, None, Some, map, IfOk, MatchOptio
 ghost use Rattle.meta_terms.specs.PlainItems.{plain_item};
 ghost use Rattle.meta_check.specs.Rules.{HoldBelow, IsFirstBroken};
 
+use crate::categories::misused_part;
 use crate::equations::{
-    alternatives_of_names, nonterminals_of_functions, repeated_equation, strange_pattern,
+    alternatives_of_numbers, nonterminals_of_functions, repeated_equation, strange_pattern,
 };
+use crate::kinds::productions;
 use crate::names::{
     misplaced_start, repeated_function, repeated_name, undeclared_function, undefined_name,
 };
-use crate::templates::{misused_part, misused_variable};
+use crate::numbers::Numbers;
+use crate::templates::misused_variable;
+use bumpalo::Bump;
 use meta_terms::Item;
 use std::alloc::{AllocError, Global};
 
@@ -48,34 +52,44 @@ fn first_of_names(alloc: Global, items: &[Item<'_>]) -> Result<Option<Breach>, A
 }
 
 // The first of the rules on equations that is broken.
-fn first_of_equations(alloc: Global, items: &[Item<'_>]) -> Result<Option<Breach>, AllocError>
+fn first_of_equations<'t>(
+    alloc: Global,
+    arena: &'t Bump,
+    items: &[Item<'t>],
+) -> Result<Option<Breach>, AllocError>
     requires { HoldBelow (map plain_item items.now) 4 }
     ensures { let all = map plain_item items.now in
         IfOk result (λ o. MatchOption o (HoldBelow all 8) (λ b. IsFirstBroken all b.rule b.item)) }
 {
-    let functions = nonterminals_of_functions(alloc, items)?;
-    let alternatives = alternatives_of_names(alloc, items)?;
-    if let Some(item) = strange_pattern(alloc, items, &functions, &alternatives)? {
+    let productions = productions(alloc, items)?;
+    let numbers = Numbers::of(alloc, productions.as_slice())?;
+    let functions = nonterminals_of_functions(alloc, items, &numbers)?;
+    let alternatives = alternatives_of_numbers(alloc, productions.as_slice())?;
+    if let Some(item) = strange_pattern(arena, items, &functions, &alternatives)? {
         return Ok(Some(Breach { rule: 5, item }));
     }
-    if let Some(item) = repeated_equation(alloc, items, &functions, &alternatives)? {
+    if let Some(item) = repeated_equation(alloc, arena, items, &functions, &alternatives)? {
         return Ok(Some(Breach { rule: 6, item }));
     }
     if let Some(item) = misused_variable(alloc, items)? {
         return Ok(Some(Breach { rule: 7, item }));
     }
-    Ok(numbered(8, misused_part(alloc, items, &functions)?))
+    Ok(numbered(8, misused_part(alloc, items, &functions, &numbers)?))
 }
 
-/// The first rule that is broken, and its first item.
-pub fn first_breach(alloc: Global, items: &[Item<'_>]) -> Result<Option<Breach>, AllocError>
+/// The first rule that is broken, and its first item. Patterns are copied into the arena.
+pub fn first_breach<'t>(
+    alloc: Global,
+    arena: &'t Bump,
+    items: &[Item<'t>],
+) -> Result<Option<Breach>, AllocError>
     ensures { let all = map plain_item items.now in
         IfOk result (λ o. MatchOption o (HoldBelow all 9) (λ b. IsFirstBroken all b.rule b.item)) }
 {
     if let Some(found) = first_of_names(alloc, items)? {
         return Ok(Some(found));
     }
-    if let Some(found) = first_of_equations(alloc, items)? {
+    if let Some(found) = first_of_equations(alloc, arena, items)? {
         return Ok(Some(found));
     }
     Ok(numbered(9, misplaced_start(items)))

@@ -1,7 +1,6 @@
 //! Checking the items of a description.
 ghost use Rattle.std.specs.Prelude.{◌≡◌, ◌<◌, ◌+◌, length, map, IfOk, IfErr};
-ghost use Rattle.gram_form.specs.Plain.{plain_production};
-ghost use Rattle.meta_terms.specs.PlainItems.{plain_item, plain_declaration, plain_equation};
+ghost use Rattle.meta_terms.specs.PlainItems.{plain_item};
 ghost use Rattle.gram_form.specs.GrammarErrors.{AreFew};
 ghost use Rattle.meta_check.specs.Views.{productions_of, declarations_of, equations_of};
 ghost use Rattle.meta_check.specs.MetaErrors.{IsMetaError};
@@ -12,52 +11,11 @@ ghost use Rattle.gram_form.specs.Grammars.{IsGrammar};
 use crate::breaches::first_breach;
 use crate::description::Description;
 use crate::errors::MetaError;
+use crate::kinds::{declarations, equations, productions};
 use bumpalo::Bump;
-use gram_form::{GramError, Grammar, Production};
+use gram_form::{GramError, Grammar};
 use meta_terms::{Declaration, Equation, Item, Items};
 use std::alloc::{AllocError, Global};
-
-// The productions among items.
-fn productions<'t>(alloc: Global, items: &[Item<'t>]) -> Result<Vec<Production<'t>>, AllocError>
-    ensures { let all = productions_of (map plain_item items.now) in
-        IfOk result (λ v. map plain_production v.items ≡ all) }
-{
-    let mut list = Vec::new(alloc);
-    for item in items {
-        if let Item::Production(production) = *item {
-            list.push(production)?;
-        }
-    }
-    Ok(list)
-}
-
-// The declarations among items.
-fn declarations<'t>(alloc: Global, items: &[Item<'t>]) -> Result<Vec<Declaration<'t>>, AllocError>
-    ensures { let all = declarations_of (map plain_item items.now) in
-        IfOk result (λ v. map plain_declaration v.items ≡ all) }
-{
-    let mut list = Vec::new(alloc);
-    for item in items {
-        if let Item::Declaration(declaration) = *item {
-            list.push(declaration)?;
-        }
-    }
-    Ok(list)
-}
-
-// The equations among items.
-fn equations<'t>(alloc: Global, items: &[Item<'t>]) -> Result<Vec<Equation<'t>>, AllocError>
-    ensures { let all = equations_of (map plain_item items.now) in
-        IfOk result (λ v. map plain_equation v.items ≡ all) }
-{
-    let mut list = Vec::new(alloc);
-    for item in items {
-        if let Item::Equation(equation) = *item {
-            list.push(equation)?;
-        }
-    }
-    Ok(list)
-}
 
 // The grammar of the productions among items that meet the rules on their names.
 fn grammar_of<'a>(
@@ -85,8 +43,8 @@ fn grammar_of<'a>(
 /// Checks the items of a description, which have at least one production, and at least one
 /// declaration or equation. What the description has lies in the arena.
 ///
-/// `MetaError::Rule` comes exactly where a rule is broken, with the first one and the first item
-/// that breaks it; `MetaError::Memory` where no memory is left.
+/// Unless `MetaError::Memory` is answered, where no memory is left, `MetaError::Rule` comes exactly
+/// where a rule is broken, with the first one and the first item that breaks it.
 pub fn check<'a>(
     alloc: Global,
     arena: &'a Bump,
@@ -102,7 +60,7 @@ pub fn check<'a>(
     ensures error { IfErr result (λ e. IsMetaError items.entry e) }
 {
     let list = items.list;
-    if let Some(breach) = first_breach(alloc, list)? {
+    if let Some(breach) = first_breach(alloc, arena, list)? {
         return Err(MetaError::Rule {
             rule: breach.rule,
             item: breach.item as u32,

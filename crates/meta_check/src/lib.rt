@@ -2,11 +2,14 @@
 #![tactic(auto)]
 
 mod breaches;
+mod categories;
 pub mod checking;
 pub mod description;
 mod equations;
 pub mod errors;
+mod kinds;
 mod names;
+mod numbers;
 mod templates;
 
 pub use checking::check;

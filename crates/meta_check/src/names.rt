@@ -1,8 +1,8 @@
 //! The rules on names: of nonterminals and of functions.
-ghost use Rattle.std.specs.Prelude.{◌≡◌, ◌∷◌, [], ℕ, List, fold, map, take, option_map, IfOk, OnOk};
+ghost use Rattle.std.specs.Prelude.{◌≡◌, ◌∷◌, ◌++◌, [], map, take, option_map, IfOk, OnOk};
 ghost use Rattle.std.specs.List.{list_any};
 ghost use Rattle.std.specs.Option.{option_to_list};
-ghost use Rattle.gram_form.specs.Grammars.{is_undefined, seen_with};
+ghost use Rattle.gram_form.specs.Grammars.{HaveSame, is_undefined};
 ghost use Rattle.gram_form.specs.Plain.{plain_part, texts};
 ghost use Rattle.meta_terms.specs.Nodes.{label_of};
 ghost use Rattle.meta_terms.specs.PlainItems.{plain_item};
@@ -11,14 +11,14 @@ ghost use Rattle.meta_check.specs.Rules.{repeats_name, names_no_production, name
 ghost use Rattle.meta_check.specs.Views.{is_in, nonterminals_of, functions_of, names_outside, repeats_production, repeats_declaration, applies_outside, calls_outside};
 
 use gram_form::Part;
-use indexmap::IndexSet;
 use meta_terms::{Item, PatternPart, TemplateNode};
 use std::alloc::{AllocError, Global};
+use std::collections::BTreeSet;
 
 // Notes the name of a production.
-fn note_nonterminal<'t>(names: &mut IndexSet<&'t [u8]>, item: &Item<'t>) -> Result<(), AllocError>
+fn note_nonterminal<'t>(names: &mut BTreeSet<&'t [u8]>, item: &Item<'t>) -> Result<(), AllocError>
     ensures { let name = nonterminals_of (plain_item item.now ∷ []) in
-        OnOk result (texts names.new.keys ≡ fold seen_with (texts names.old.keys) name) }
+        OnOk result (HaveSame (texts names.new.keys) (texts names.old.keys ++ name)) }
 {
     match *item {
         Item::Production(production) => {
@@ -30,9 +30,9 @@ fn note_nonterminal<'t>(names: &mut IndexSet<&'t [u8]>, item: &Item<'t>) -> Resu
 }
 
 // Notes the function of a declaration.
-fn note_function<'t>(names: &mut IndexSet<&'t [u8]>, item: &Item<'t>) -> Result<(), AllocError>
+fn note_function<'t>(names: &mut BTreeSet<&'t [u8]>, item: &Item<'t>) -> Result<(), AllocError>
     ensures { let name = functions_of (plain_item item.now ∷ []) in
-        OnOk result (texts names.new.keys ≡ fold seen_with (texts names.old.keys) name) }
+        OnOk result (HaveSame (texts names.new.keys) (texts names.old.keys ++ name)) }
 {
     match *item {
         Item::Declaration(declaration) => {
@@ -44,7 +44,7 @@ fn note_function<'t>(names: &mut IndexSet<&'t [u8]>, item: &Item<'t>) -> Result<
 }
 
 // Tells whether an item is a production with one of the names.
-fn repeats_production(item: &Item<'_>, names: &IndexSet<&[u8]>) -> bool
+fn repeats_production<'t>(item: &Item<'t>, names: &BTreeSet<&'t [u8]>) -> bool
     ensures { result ≡ repeats_production (texts names.now.keys) (plain_item item.now) }
 {
     match *item {
@@ -54,7 +54,7 @@ fn repeats_production(item: &Item<'_>, names: &IndexSet<&[u8]>) -> bool
 }
 
 // Tells whether an item is a declaration of one of the functions.
-fn repeats_declaration(item: &Item<'_>, names: &IndexSet<&[u8]>) -> bool
+fn repeats_declaration<'t>(item: &Item<'t>, names: &BTreeSet<&'t [u8]>) -> bool
     ensures { result ≡ repeats_declaration (texts names.now.keys) (plain_item item.now) }
 {
     match *item {
@@ -67,7 +67,7 @@ fn repeats_declaration(item: &Item<'_>, names: &IndexSet<&[u8]>) -> bool
 pub fn repeated_name(alloc: Global, items: &[Item<'_>]) -> Result<Option<usize>, AllocError>
     ensures { IfOk result (λ o. FindsBreach repeats_name (map plain_item items.now) o) }
 {
-    let mut names = IndexSet::new(alloc);
+    let mut names = BTreeSet::new(alloc);
     for (number, item) in items.iter().enumerate() {
         if repeats_production(item, &names) {
             return Ok(Some(number));
@@ -81,7 +81,7 @@ pub fn repeated_name(alloc: Global, items: &[Item<'_>]) -> Result<Option<usize>,
 pub fn repeated_function(alloc: Global, items: &[Item<'_>]) -> Result<Option<usize>, AllocError>
     ensures { IfOk result (λ o. FindsBreach repeats_function (map plain_item items.now) o) }
 {
-    let mut names = IndexSet::new(alloc);
+    let mut names = BTreeSet::new(alloc);
     for (number, item) in items.iter().enumerate() {
         if repeats_declaration(item, &names) {
             return Ok(Some(number));
@@ -92,11 +92,11 @@ pub fn repeated_function(alloc: Global, items: &[Item<'_>]) -> Result<Option<usi
 }
 
 // The nonterminals with a production.
-fn nonterminals<'t>(alloc: Global, items: &[Item<'t>]) -> Result<IndexSet<&'t [u8]>, AllocError>
+fn nonterminals<'t>(alloc: Global, items: &[Item<'t>]) -> Result<BTreeSet<&'t [u8]>, AllocError>
     ensures { let names = nonterminals_of (map plain_item items.now) in
-        IfOk result (λ s. (name : List ℕ) → is_in (texts s.keys) name ≡ is_in names name) }
+        IfOk result (λ s. HaveSame (texts s.keys) names) }
 {
-    let mut names = IndexSet::new(alloc);
+    let mut names = BTreeSet::new(alloc);
     for item in items {
         note_nonterminal(&mut names, item)?;
     }
@@ -104,11 +104,11 @@ fn nonterminals<'t>(alloc: Global, items: &[Item<'t>]) -> Result<IndexSet<&'t [u
 }
 
 // The functions that are declared.
-fn functions<'t>(alloc: Global, items: &[Item<'t>]) -> Result<IndexSet<&'t [u8]>, AllocError>
+fn functions<'t>(alloc: Global, items: &[Item<'t>]) -> Result<BTreeSet<&'t [u8]>, AllocError>
     ensures { let names = functions_of (map plain_item items.now) in
-        IfOk result (λ s. (name : List ℕ) → is_in (texts s.keys) name ≡ is_in names name) }
+        IfOk result (λ s. HaveSame (texts s.keys) names) }
 {
-    let mut names = IndexSet::new(alloc);
+    let mut names = BTreeSet::new(alloc);
     for item in items {
         note_function(&mut names, item)?;
     }
@@ -116,7 +116,7 @@ fn functions<'t>(alloc: Global, items: &[Item<'t>]) -> Result<IndexSet<&'t [u8]>
 }
 
 // Tells whether a part is a nonterminal that isn't among the names.
-fn is_undefined(part: &Part<'_>, names: &IndexSet<&[u8]>) -> bool
+fn is_undefined<'t>(part: &Part<'t>, names: &BTreeSet<&'t [u8]>) -> bool
     ensures { result ≡ is_undefined (texts names.now.keys) (plain_part part.now) }
 {
     match *part {
@@ -126,32 +126,47 @@ fn is_undefined(part: &Part<'_>, names: &IndexSet<&[u8]>) -> bool
 }
 
 // Tells whether one of the parts is such a nonterminal.
-fn parts_outside(parts: &[Part<'_>], names: &IndexSet<&[u8]>) -> bool
+fn parts_outside<'t>(parts: &[Part<'t>], names: &BTreeSet<&'t [u8]>) -> bool
     ensures { let keys = texts names.now.keys in
         result ≡ list_any (λ p. is_undefined keys (plain_part p)) parts.now }
 {
-    parts.iter().any(|part| is_undefined(part, names))
+    for part in parts {
+        if is_undefined(part, names) {
+            return true;
+        }
+    }
+    false
 }
 
 // Tells whether one of the alternatives has such a part.
-fn alternatives_outside(alternatives: &[&[Part<'_>]], names: &IndexSet<&[u8]>) -> bool
+fn alternatives_outside<'t>(alternatives: &[&[Part<'t>]], names: &BTreeSet<&'t [u8]>) -> bool
     ensures { let keys = texts names.now.keys in
         result ≡ list_any (λ a. list_any (λ p. is_undefined keys (plain_part p)) a.now)
         alternatives.now }
 {
-    alternatives.iter().any(|parts| parts_outside(parts, names))
+    for parts in alternatives {
+        if parts_outside(parts, names) {
+            return true;
+        }
+    }
+    false
 }
 
 // Tells whether a pattern has such a part.
-fn pattern_outside(pattern: &[PatternPart<'_>], names: &IndexSet<&[u8]>) -> bool
+fn pattern_outside<'t>(pattern: &[PatternPart<'t>], names: &BTreeSet<&'t [u8]>) -> bool
     ensures { let keys = texts names.now.keys in
         result ≡ list_any (λ p. is_undefined keys (plain_part p.part)) pattern.now }
 {
-    pattern.iter().any(|part| is_undefined(&part.part, names))
+    for part in pattern {
+        if is_undefined(&part.part, names) {
+            return true;
+        }
+    }
+    false
 }
 
 // Tells whether an item names a nonterminal that isn't among the names.
-fn names_outside(item: &Item<'_>, names: &IndexSet<&[u8]>) -> bool
+fn names_outside<'t>(item: &Item<'t>, names: &BTreeSet<&'t [u8]>) -> bool
     ensures { result ≡ names_outside (texts names.now.keys) (plain_item item.now) }
 {
     match *item {
@@ -175,7 +190,7 @@ pub fn undefined_name(alloc: Global, items: &[Item<'_>]) -> Result<Option<usize>
 }
 
 // Tells whether a node of a template applies a function that isn't among the names.
-fn applies_outside(node: &TemplateNode<'_>, names: &IndexSet<&[u8]>) -> bool
+fn applies_outside<'t>(node: &TemplateNode<'t>, names: &BTreeSet<&'t [u8]>) -> bool
     ensures { result ≡ applies_outside (texts names.now.keys) (label_of node.now) }
 {
     match *node {
@@ -185,15 +200,20 @@ fn applies_outside(node: &TemplateNode<'_>, names: &IndexSet<&[u8]>) -> bool
 }
 
 // Tells whether one of the nodes does.
-fn nodes_outside(nodes: &[TemplateNode<'_>], names: &IndexSet<&[u8]>) -> bool
+fn nodes_outside<'t>(nodes: &[TemplateNode<'t>], names: &BTreeSet<&'t [u8]>) -> bool
     ensures { let keys = texts names.now.keys in
         result ≡ list_any (λ n. applies_outside keys (label_of n)) nodes.now }
 {
-    nodes.iter().any(|node| applies_outside(node, names))
+    for node in nodes {
+        if applies_outside(node, names) {
+            return true;
+        }
+    }
+    false
 }
 
 // Tells whether an item is an equation that names a function which isn't among the names.
-fn calls_outside(item: &Item<'_>, names: &IndexSet<&[u8]>) -> bool
+fn calls_outside<'t>(item: &Item<'t>, names: &BTreeSet<&'t [u8]>) -> bool
     ensures { result ≡ calls_outside (texts names.now.keys) (plain_item item.now) }
 {
     match *item {

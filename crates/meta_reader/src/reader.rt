@@ -85,8 +85,9 @@ fn push_item<'a>(items: &mut Vec<Item<'a>>, item: Option<Item<'a>>) -> Result<()
 
 /// Reads the items of a description, which lie in the arena.
 ///
-/// `ReadError::BadItem` comes exactly where the tokens are those of no description, with the first
-/// run with which the runs so far begin none; `ReadError::Memory` where no memory is left.
+/// Unless `ReadError::Memory` is answered, where no memory is left, `ReadError::BadItem` comes
+/// exactly where the tokens are those of no description, with the first run with which the runs so
+/// far begin none.
 pub fn read<'a>(alloc: Global, arena: &'a Bump, tokens: &Tokens<'a>) -> Result<Items<'a>, ReadError>
     requires { length tokens.now < 4294967295 }
     ensures items { IfOk result (λ items. IsDescription (token_bytes tokens.now) items) }

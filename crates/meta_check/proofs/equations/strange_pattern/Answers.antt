@@ -1,15 +1,14 @@
-use Rattle.std.proofs.Common.{◌∙◌, not, map, refl, sym, ap}
+use Rattle.std.proofs.Common.{◌∙◌, not, refl, sym, ap}
 use Rattle.std.specs.Prelude.{is_none}
-use Rattle.meta_terms.specs.PlainItems.{plain_equation, plain_item}
+use Rattle.meta_terms.specs.PlainItems.{plain_equation}
 use Rattle.meta_check.specs.Rules.{equals_no_alternative}
-use Rattle.meta_check.proofs.Alternatives.{alternative_by_is}
 use Rattle.meta_check.proofs.Searching.{equation_breaks, equation_holds, other_holds, holds_all}
 use Rattle.meta_check.proofs.equations.strange_pattern.Goals as goal
 use Rattle.meta_check.proofs.equations.strange_pattern.Goals.{in-Equation+in_ok-alternative_of+else-is_none, in_default}
 
 pub returns-then-is_none : goal.returns-then-is_none
 returns-then-is_none c =
-    let found = c.in_ok-alternative_of.ensures ∙ alternative_by_is (map plain_item c.args.items.now) c.args.functions.now.entries c.args.alternatives.now.entries c.requires.functions c.requires.alternatives (plain_equation c.in-Equation.equation) in
+    let found = c.in_ok-alternative_of.ensures ∙ c.requires (plain_equation c.in-Equation.equation) in
     equation_breaks equals_no_alternative c.args.items.now c.loop-number.number c.index-items-number.result c.in-Equation.equation c.loop-number.invariant c.loop-number-test.true
     c.index-items-number.is c.in-Equation.is (ap is_none (sym found) ∙ ap not (c.is_none.ensures ∙ ap not c.if-is_none.true))
 
@@ -17,7 +16,7 @@ pub loop-number-preserved : goal.loop-number-preserved
 loop-number-preserved c =
     elim c.match-item.branch [
       | in-Equation+in_ok-alternative_of+else-is_none w ↦
-          let found = w.in_ok-alternative_of.ensures ∙ alternative_by_is (map plain_item c.args.items.now) c.args.functions.now.entries c.args.alternatives.now.entries c.requires.functions c.requires.alternatives (plain_equation w.in-Equation.equation) in
+          let found = w.in_ok-alternative_of.ensures ∙ c.requires (plain_equation w.in-Equation.equation) in
           equation_holds equals_no_alternative c.args.items.now c.loop-number.number c.index-items-number.result w.in-Equation.equation c.loop-number.invariant
           c.index-items-number.is w.in-Equation.is (ap is_none (sym found) ∙ ap not (w.is_none.ensures ∙ ap not w.if-is_none.false))
       | in_default w ↦

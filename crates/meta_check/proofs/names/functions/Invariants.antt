@@ -2,7 +2,7 @@ use Rattle.std.proofs.Common.{map, take}
 use Rattle.gram_form.specs.Plain.{texts}
 use Rattle.meta_terms.specs.PlainItems.{plain_item}
 use Rattle.meta_check.specs.Views.{functions_of}
-use Rattle.meta_check.proofs.Known.{HaveSame}
+use Rattle.gram_form.specs.Grammars.{HaveSame}
 use Rattle.meta_check.proofs.names.functions.Given as goal
 
 abbrev pub invariant-loop-item : goal.invariant-loop-item

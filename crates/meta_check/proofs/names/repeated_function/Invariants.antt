@@ -3,7 +3,7 @@ use Rattle.gram_form.specs.Plain.{texts}
 use Rattle.meta_terms.specs.PlainItems.{plain_item}
 use Rattle.meta_check.specs.Rules.{repeats_function}
 use Rattle.meta_check.specs.Views.{functions_of}
-use Rattle.meta_check.proofs.Known.{HaveSame}
+use Rattle.gram_form.specs.Grammars.{HaveSame}
 use Rattle.meta_check.proofs.Searching.{HoldsBelow}
 use Rattle.meta_check.proofs.names.repeated_function.Given as goal
 

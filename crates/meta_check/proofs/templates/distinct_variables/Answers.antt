@@ -1,6 +1,6 @@
 use Rattle.std.proofs.Common.{◌∙◌, ℕ, ◌+◌, List, map, take, sym, ap, subst}
 use Rattle.gram_form.specs.Plain.{texts}
-use Rattle.gram_form.proofs.KeyTexts.{list_any-texts, texts-insert}
+use Rattle.gram_form.proofs.OrderedTexts.{found-texts}
 use Rattle.meta_terms.specs.PlainItems.{plain_pattern_part}
 use Rattle.meta_check.specs.Views.{variables_of}
 use Rattle.meta_check.proofs.Filling.{none_of}
@@ -12,19 +12,17 @@ use Rattle.meta_check.proofs.templates.distinct_variables.Goals.{in-Some+in_ok-i
 pub returns-then-not-branch : goal.returns-then-not-branch
 returns-then-not-branch c =
     variable_known c.args.pattern.now c.loop-part.part-index _ c.in-Some.variable (texts c.loop-part.variables.keys) c.loop-part-test.true c.in-Some.is c.loop-part.invariant.same
-    (sym (list_any-texts c.in-Some.variable.now c.loop-part.variables.keys) ∙ was_there _ (sym c.in_ok-insert.ensures.added ∙ c.if-not-branch.true))
+    (sym (found-texts c.in-Some.variable.now c.loop-part.variables.keys) ∙ was_there _ (sym c.in_ok-insert.ensures.added ∙ c.if-not-branch.true))
 
 pub loop-part-preserved : goal.loop-part-preserved
 loop-part-preserved c =
-    let known = texts c.loop-part.variables.keys in
     elim c.match-part.branch [
       | in-Some+in_ok-insert+else-not-branch w ↦
-          subst (λ (ns : List (List ℕ)). AreDistinct ns (variables_of (take (c.loop-part.part-index + 1) (map plain_pattern_part c.args.pattern.now))))
-          (sym (ap (λ s. texts s.keys) w.variables-is ∙ ap texts w.in_ok-insert.ensures.keys ∙ texts-insert c.loop-part.variables.keys w.in-Some.variable))
-          (variable_new c.args.pattern.now c.loop-part.part-index _ w.in-Some.variable known c.loop-part-test.true w.in-Some.is c.loop-part.invariant
-          (sym (list_any-texts w.in-Some.variable.now c.loop-part.variables.keys) ∙ was_new _ (sym w.in_ok-insert.ensures.added ∙ w.if-not-branch.false)))
+          variable_new c.args.pattern.now c.loop-part.part-index _ w.in-Some.variable c.loop-part.variables.keys c.match-part.variables.keys c.loop-part-test.true w.in-Some.is c.loop-part.invariant
+          (sym (found-texts w.in-Some.variable.now c.loop-part.variables.keys) ∙ was_new _ (sym w.in_ok-insert.ensures.added ∙ w.if-not-branch.false))
+          (ap (λ s. s.keys) w.variables-is ∙ w.in_ok-insert.ensures.keys)
       | in_default w ↦
           subst (λ (ns : List (List ℕ)). AreDistinct ns (variables_of (take (c.loop-part.part-index + 1) (map plain_pattern_part c.args.pattern.now))))
           (sym (ap (λ s. texts s.keys) w.variables-is))
-          (variable_none c.args.pattern.now c.loop-part.part-index _ known c.loop-part-test.true (none_of _ w.in_default.not-Some) c.loop-part.invariant)
+          (variable_none c.args.pattern.now c.loop-part.part-index _ (texts c.loop-part.variables.keys) c.loop-part-test.true (none_of _ w.in_default.not-Some) c.loop-part.invariant)
     ]

@@ -2,7 +2,7 @@ use Rattle.std.proofs.Common.{◌≡◌, ◌∙◌, Bool, true, false, not, opti
 use Rattle.std.specs.Prelude.{◌||◌}
 use Rattle.std.specs.List.{list_any}
 use Rattle.gram_form.specs.Plain.{texts}
-use Rattle.gram_form.proofs.KeyTexts.{list_any-texts}
+use Rattle.gram_form.proofs.OrderedTexts.{found-texts}
 use Rattle.meta_check.specs.Views.{is_in}
 use Rattle.meta_check.proofs.templates.uses_outside.Goals as goal
 
@@ -13,6 +13,6 @@ one false = refl
 pub returns-in-Some : goal.returns-in-Some
 returns-in-Some c =
     let keys = texts c.args.variables.now.keys in
-    ap not (c.contains.ensures ∙ list_any-texts c.in-Some.variable.now c.args.variables.now.keys)
+    ap not (c.contains.ensures ∙ found-texts c.in-Some.variable.now c.args.variables.now.keys)
     ∙ one (not (is_in keys c.in-Some.variable.now))
     ∙ ap (λ o. list_any (λ v. not (is_in keys v)) (option_to_list o)) c.in-Some.ensures
