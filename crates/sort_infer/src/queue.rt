@@ -46,10 +46,13 @@ fn first_set(due: &[u64], from: usize) -> Option<usize> {
     for i in start..due.len() {
         let mut word = due[i];
         if i == start {
-            word = word & u64::MAX.wrapping_shl(from as u32 % 64);
+            word = word & u64::MAX.wrapping_shl((from % 64) as u32);
         }
         if word != 0 {
-            return Some(i.wrapping_mul(64).wrapping_add(word.trailing_zeros() as usize));
+            return Some(
+                i.wrapping_mul(64)
+                    .wrapping_add(word.trailing_zeros() as usize),
+            );
         }
     }
     None
@@ -88,7 +91,7 @@ impl Queue {
     fn next_set(&mut self) -> Option<usize> {
         let place = first_set(self.due.as_slice(), self.next)?;
         if let Some(word) = self.due.get_mut(place / 64) {
-            *word = *word & !1u64.wrapping_shl(place as u32 % 64);
+            *word = *word & !1u64.wrapping_shl((place % 64) as u32);
         }
         self.next = place.wrapping_add(1);
         Some(place)

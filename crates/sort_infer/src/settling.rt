@@ -69,12 +69,12 @@ fn drain<'a>(
     work: &mut Worklist,
     rows: &mut Vec<MarkedRow<'a>>,
 ) -> Result<bool, Memory>
-    requires tour { All (λ k. k < length task.now.graph.now.nodes) tour.now }
+    requires order { All (λ k. k < length task.now.graph.now.nodes) tour.now }
     requires cells { task.now.named.now.cells ≡ allocate_nodes (action_of task.now.graph.now) }
     requires bodies { task.now.named.now.bodies ≡ closure_bodies (action_of task.now.graph.now) }
     requires action { IsProper (action_of task.now.graph.now) }
     requires table { IsProperTable (action_of task.now.graph.now) rows.now.items }
-    ensures grows { IfOk result (λ grew. Grows (action_of task.now.graph.now) grew
+    ensures { IfOk result (λ grew. Grows (action_of task.now.graph.now) grew
         rows.old.items rows.new.items) }
 {
     let mut found = Found::new(task.alloc);

@@ -32,8 +32,8 @@ returns-in-One c =
     let x = set_of c.in-One.set in
     on_ok_weaker c.ask_enacted_in.result
     (λ (h : Adds (demands_of c.args.out.now.items) (enacts (marked_table c.args.site.now.rows.now) c.args.site.now.node (any_closure c.args.site.now.bodies.now) (marked_tuple_of c.args.given) c.in-One.set.abstractions.now) (demands_of c.ask_enacted_in.new.out.items)).
-      subst (λ (v : Part). Adds old (enacts t site.node v d bodies) new) (sym (ap value_part c.in-One.is))
-      (adds-same old (enacts t site.node (any_closure bodies) d x.abstractions) (enacts t site.node (one x) d bodies) new (enacts-members t site.node d x bodies) h))
+    subst (λ (v : Part). Adds old (enacts t site.node v d bodies) new) (sym (ap value_part c.in-One.is))
+    (adds-same old (enacts t site.node (any_closure bodies) d x.abstractions) (enacts t site.node (one x) d bodies) new (enacts-members t site.node d x bodies) h))
     c.ask_enacted_in.ensures
 
 pub returns-in-Clash : goal.returns-in-Clash
@@ -46,7 +46,7 @@ returns-in-Clash c =
     let bodies = site.bodies.now in
     on_ok_weaker c.ask_enacted_in-in-Clash.result
     (λ (h : Adds (demands_of c.args.out.now.items) (enacts (marked_table c.args.site.now.rows.now) c.args.site.now.node (any_closure c.args.site.now.bodies.now) (marked_tuple_of c.args.given) c.numbers.result.now) (demands_of c.ask_enacted_in-in-Clash.new.out.items)).
-      subst (λ (v : Part). Adds old (enacts t site.node v d bodies) new) (sym (ap value_part c.in-Clash.is))
-      (adds-same old (enacts t site.node (any_closure bodies) d bodies) (enacts t site.node Clash d bodies) new (enacts-any t site.node d bodies)
-      (subst (λ (ns : List ℕ). Adds old (enacts t site.node (any_closure bodies) d ns) new) c.numbers.ensures h)))
+    subst (λ (v : Part). Adds old (enacts t site.node v d bodies) new) (sym (ap value_part c.in-Clash.is))
+    (adds-same old (enacts t site.node (any_closure bodies) d bodies) (enacts t site.node Clash d bodies) new (enacts-any t site.node d bodies)
+    (subst (λ (ns : List ℕ). Adds old (enacts t site.node (any_closure bodies) d ns) new) c.numbers.ensures h)))
     c.ask_enacted_in-in-Clash.ensures

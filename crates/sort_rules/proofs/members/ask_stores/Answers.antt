@@ -27,7 +27,7 @@ returns-in-One c =
     let x = set_of c.in-One.set in
     on_ok_weaker c.ask_stored_in.result
     (λ (h : Adds (demands_of c.args.out.now.items) (stores (value_part c.args.stored) (any_cell c.args.site.now.cells.now) c.in-One.set.cells.now) (demands_of c.ask_stored_in.new.out.items)).
-      subst (λ (w : Part). Adds old (stores v w cells) new) (sym (ap value_part c.in-One.is)) (adds-same old (stores v (any_cell cells) x.cells) (stores v (one x) cells) new (stores-members v x cells) h))
+    subst (λ (w : Part). Adds old (stores v w cells) new) (sym (ap value_part c.in-One.is)) (adds-same old (stores v (any_cell cells) x.cells) (stores v (one x) cells) new (stores-members v x cells) h))
     c.ask_stored_in.ensures
 
 pub returns-in-Clash : goal.returns-in-Clash
@@ -38,6 +38,6 @@ returns-in-Clash c =
     let cells = c.args.site.now.cells.now in
     on_ok_weaker c.ask_stored_in-in-Clash.result
     (λ (h : Adds (demands_of c.args.out.now.items) (stores (value_part c.args.stored) (any_cell c.args.site.now.cells.now) c.numbers.result.now) (demands_of c.ask_stored_in-in-Clash.new.out.items)).
-      subst (λ (w : Part). Adds old (stores v w cells) new) (sym (ap value_part c.in-Clash.is))
-      (adds-same old (stores v (any_cell cells) cells) (stores v Clash cells) new (stores-any v cells) (subst (λ (ns : List ℕ). Adds old (stores v (any_cell cells) ns) new) c.numbers.ensures h)))
+    subst (λ (w : Part). Adds old (stores v w cells) new) (sym (ap value_part c.in-Clash.is))
+    (adds-same old (stores v (any_cell cells) cells) (stores v Clash cells) new (stores-any v cells) (subst (λ (ns : List ℕ). Adds old (stores v (any_cell cells) ns) new) c.numbers.ensures h)))
     c.ask_stored_in-in-Clash.ensures
