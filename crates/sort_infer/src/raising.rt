@@ -98,7 +98,8 @@ fn raise_unmet<'a>(
     Ok(true)
 }
 
-// raises the table by the demands of a node that aren't met, and notes these; answers whether one wasn't
+// raises the table by the demands of a node that aren't met, and notes these; answers whether one
+// wasn't
 fn raise_all<'a>(
     task: &Task<'_, 'a>,
     node: u32,
