@@ -1,5 +1,5 @@
 -- A listed demand that isn't met is one of the node.
-use Rattle.std.proofs.Common.{List, [], add-one, ap, arith, false, get_or, length, refl, subst, suc, sym, take, true, zero, ℕ, ◌+◌, ◌<◌, ◌∙◌, ◌∷◌, ◌≡◌}
+use Rattle.std.proofs.Common.{List, [], add-one, arith, false, get_or, length, refl, subst, suc, sym, take, true, zero, ℕ, ◌+◌, ◌<◌, ◌∷◌, ◌≡◌}
 use Rattle.std.proofs.lemmas.Bool.{and_from}
 use Rattle.action_terms.specs.Actions.{Action}
 use Rattle.action_terms.specs.Performances.{Here, Later, OneOf}
@@ -7,7 +7,7 @@ use Rattle.sort_rules.specs.DemandViews.{demand_of, demands_of}
 use Rattle.sort_rules.specs.Demands.{Demand, demands, ◌⊒◌}
 use Rattle.sort_rules.specs.MarkedRows.{marked_table}
 use Rattle.sort_rules.specs.Parts.{Clash, Listed, Part, Unreached}
-use Rattle.sort_rules.specs.Reached.{in_front, reached_ones}
+use Rattle.sort_rules.specs.Reached.{AskTheSame, in_front, reached_ones}
 use Rattle.sort_rules.specs.Tables.{Entry, MarkedTable}
 use Rattle.sort_rules.specs.Tests.{are_met, is_met}
 use Rattle.sort_rules.specs.declared.demands.Demand.{Demand as DemandInMemory}
@@ -41,8 +41,8 @@ among : {d : Demand} (ds : List Demand) → OneOf d (reached_ones ds) → OneOf 
 among [] m = elim m [ ]
 among ((x ⊒ v) ∷ ds) m = among-front x v (λ h. among ds h) m
 
-pub asked_of : (t : MarkedTable) (d : Demand) (ds es : List Demand) → reached_ones ds ≡ reached_ones es → OneOf d ds → is_met t d ≡ false → OneOf d es
-asked_of t d ds es e m h = among es (subst (OneOf d) e (kept t h m))
+pub asked_of : (t : MarkedTable) (d : Demand) (ds es : List Demand) → AskTheSame ds es → OneOf d ds → is_met t d ≡ false → OneOf d es
+asked_of t d ds es e m h = among es (e.there d (kept t h m))
 
 -- ---- lists in memory
 
@@ -67,5 +67,6 @@ pub met_more : (t : MarkedTable) (ds : List DemandInMemory) (i : ℕ) (d : Deman
 met_more t ds i d h same e f = rw (add-one i) (met_next t ds i d h e (subst (λ (q : DemandInMemory). is_met t (demand_of q) ≡ true) same f))
 
 -- what was listed, as it is read
-pub listed_same : (a : Action) (k : ℕ) (ds read : List DemandInMemory) (rows seen : List MarkedRow) → read ≡ ds → seen ≡ rows → reached_ones (demands_of ds) ≡ reached_ones (demands a (marked_table seen) k) → reached_ones (demands_of read) ≡ reached_ones (demands a (marked_table rows) k)
-listed_same a k ds read rows seen e f h = ap (λ (zs : List DemandInMemory). reached_ones (demands_of zs)) e ∙ h ∙ ap (λ (zs : List MarkedRow). reached_ones (demands a (marked_table zs) k)) f
+pub listed_same : (a : Action) (k : ℕ) (ds read : List DemandInMemory) (rows seen : List MarkedRow) → read ≡ ds → seen ≡ rows → AskTheSame (demands_of ds) (demands a (marked_table seen) k) → AskTheSame (demands_of read) (demands a (marked_table rows) k)
+listed_same a k ds read rows seen e f h =
+    subst (λ (zs : List DemandInMemory). AskTheSame (demands_of zs) (demands a (marked_table rows) k)) (sym e) (subst (λ (zs : List MarkedRow). AskTheSame (demands_of ds) (demands a (marked_table zs) k)) f h)

@@ -1,5 +1,5 @@
 -- Tables in memory that grow towards the least marked one.
-use Rattle.std.proofs.Common.{Bool, List, ap, arith, false, if◌then◌else◌, length, refl, subst, sym, true, ℕ, ◌+◌, ◌<◌, ◌||◌, ◌∙◌, ◌≡◌}
+use Rattle.std.proofs.Common.{Bool, List, ap, arith, false, if◌then◌else◌, length, refl, subst, sym, true, ℕ, ◌+◌, ◌<◌, ◌||◌, ◌∙◌, ◌≡◌, ◌≤◌}
 use Rattle.std.specs.Prelude.{not}
 use Rattle.action_terms.specs.Actions.{Action}
 use Rattle.action_terms.specs.Performances.{OneOf}
@@ -19,6 +19,12 @@ use Rattle.sort_infer.specs.Raised.{Grows, IsProperTable, RaisesBy, entry_of, ro
 
 less_less : (i j k : ℕ) → i < j → j < k → i < k
 less_less i j k h m = omega arith
+
+less_or_same : (i j : ℕ) → i < j → i ≤ j
+less_or_same i j h = omega arith
+
+same_no_more : (i j : ℕ) → i ≡ j → i ≤ j
+same_no_more i j e = omega (arith, e)
 
 -- nothing is raised
 pub grows_refl : (a : Action) (rows : List MarkedRow) → IsProperTable a rows → Grows a false rows rows
@@ -72,13 +78,20 @@ module _ (a : Action) (k : ℕ) (first old : List MarkedRow) (action : IsProper 
 
 -- ---- rounds
 
-one-more : (x y : ℕ) → x < y → x + 1 < y + 1
-one-more x y h = omega arith
+-- no room comes back
+no_more : (a : Action) (grew : Bool) (old new : List MarkedRow) → Grows a grew old new → room_of a new ≤ room_of a old
+no_more a true old new f = less_or_same (room_of a new) (room_of a old) (f.less refl)
+no_more a false old new f = same_no_more (room_of a new) (room_of a old) (ap (room_of a) (f.same refl))
 
-same-less : (x y : ℕ) → x ≡ y → x + 0 < y + 1
-same-less x y h = omega arith
+one-more : (x y z : ℕ) → x < y → y ≤ z → x + 1 < z + 1
+one-more x y z h m = omega arith
 
--- a round that follows one that changed something is nearer to the last
-pub round_less : (a : Action) (before grew : Bool) (old new : List MarkedRow) → before ≡ true → Grows a grew old new → room_of a new + (if grew then 1 else 0) < room_of a old + (if before then 1 else 0)
-round_less a before true old new e f = subst (λ (b : Bool). room_of a new + 1 < room_of a old + (if b then 1 else 0)) (sym e) (one-more (room_of a new) (room_of a old) (f.less refl))
-round_less a before false old new e f = subst (λ (b : Bool). room_of a new + 0 < room_of a old + (if b then 1 else 0)) (sym e) (same-less (room_of a new) (room_of a old) (ap (room_of a) (f.same refl)))
+same-less : (x y z : ℕ) → x ≡ y → y ≤ z → x + 0 < z + 1
+same-less x y z h m = omega arith
+
+-- a round that follows one that changed something is nearer to the last, also where something was raised between them
+pub round_less : (a : Action) (before between grew : Bool) (old mid new : List MarkedRow) → before ≡ true → Grows a between old mid → Grows a grew mid new → room_of a new + (if grew then 1 else 0) < room_of a old + (if before then 1 else 0)
+round_less a before between true old mid new e g f =
+    subst (λ (b : Bool). room_of a new + 1 < room_of a old + (if b then 1 else 0)) (sym e) (one-more (room_of a new) (room_of a mid) (room_of a old) (f.less refl) (no_more a between old mid g))
+round_less a before between false old mid new e g f =
+    subst (λ (b : Bool). room_of a new + 0 < room_of a old + (if b then 1 else 0)) (sym e) (same-less (room_of a new) (room_of a mid) (room_of a old) (ap (room_of a) (f.same refl)) (no_more a between old mid g))

@@ -7,6 +7,7 @@ ghost use Rattle.sort_rules.specs.Rows.{IsTableOf, unmarked};
 use crate::error::SortError;
 use crate::settling::{first_rows, settle};
 use crate::tables::table_of;
+use crate::task::Task;
 use action_terms::Graph;
 use bumpalo::Bump;
 use sort_rules::Table;
@@ -23,6 +24,12 @@ pub fn infer<'a>(alloc: Global, arena: &'a Bump, graph: &Graph<'a>) -> Result<Ta
 {
     let named = named_of(alloc, graph)?;
     let mut rows = first_rows(alloc, graph.nodes().len())?;
-    settle(alloc, arena, graph, &named, &mut rows)?;
+    let task = Task {
+        alloc,
+        arena,
+        graph,
+        named: &named,
+    };
+    settle(&task, &mut rows)?;
     table_of(arena, graph, rows.as_slice())
 }

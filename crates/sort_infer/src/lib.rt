@@ -3,10 +3,13 @@
 
 mod error;
 mod inference;
+mod queue;
 mod raising;
 mod settling;
 mod tables;
+mod task;
 mod tour;
+mod worklist;
 
 pub use error::SortError;
 pub use inference::infer;

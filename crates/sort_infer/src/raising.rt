@@ -1,28 +1,25 @@
 //! One entry of a marked table raised by a demand, and all demands of a node.
-ghost use Rattle.std.specs.Prelude.{◌≡◌, ◌<◌, not, false, true, length, IfOk, OnOk, reverse};
+ghost use Rattle.std.specs.Prelude.{◌≡◌, ◌<◌, not, false, true, length, IfOk, OnOk};
 ghost use Rattle.action_terms.specs.Meaning.{action_of};
 ghost use Rattle.action_terms.specs.Proper.{IsProper};
 ghost use Rattle.sort_rules.specs.Admissible.{Holds};
 ghost use Rattle.sort_rules.specs.Tables.{node_of};
 ghost use Rattle.sort_rules.specs.Demands.{allocate_nodes, closure_bodies, demands};
-ghost use Rattle.sort_rules.specs.Reached.{reached_ones};
+ghost use Rattle.sort_rules.specs.Reached.{AskTheSame};
 ghost use Rattle.sort_rules.specs.Tests.{is_met};
 ghost use Rattle.sort_rules.specs.MarkedRows.{marked_table};
 ghost use Rattle.sort_rules.specs.DemandViews.{demand_of, demands_of as listed};
 ghost use Rattle.sort_infer.specs.Raised.{Grows, IsProperTable, RaisesBy, RaisesRow, entry_of};
 
+use crate::task::{Found, Task};
 use acg_base::Memory;
-use action_terms::Graph;
 use bumpalo::Bump;
-use sort_rules::demands::{Demand, is_met};
-use sort_rules::holding::holds_at;
+use sort_rules::demands::{Demand, are_met, is_met};
 use sort_rules::judging::joined;
-use sort_rules::named::Named;
 use sort_rules::nodes::demands_at;
 use sort_rules::rows::MarkedRow;
 use sort_rules::site::Site;
 use sort_rules::{maps, tuples};
-use std::alloc::Global;
 
 // the node of the entry that a demand is about
 fn node_of(demand: Demand<'_>) -> u32
@@ -77,11 +74,12 @@ pub fn raise<'a>(
     Ok(())
 }
 
-// raises the table by a demand, unless it is met; answers whether it wasn't
+// raises the table by a demand, unless it is met, and notes that; answers whether it wasn't
 fn raise_unmet<'a>(
     arena: &'a Bump,
     rows: &mut Vec<MarkedRow<'a>>,
     demand: Demand<'a>,
+    raised: &mut Vec<Demand<'a>>,
 ) -> Result<bool, Memory>
     requires { is_met (marked_table rows.now.items) (demand_of demand) ≡ false
         → node_of (entry_of (demand_of demand)) < length rows.now.items }
@@ -96,112 +94,121 @@ fn raise_unmet<'a>(
         return Ok(false);
     }
     raise(arena, rows, demand)?;
+    raised.push(demand)?;
     Ok(true)
 }
 
-// raises the table by the demands of a node that aren't met; answers whether one wasn't
+// raises the table by the demands of a node that aren't met, and notes these; answers whether one
+// wasn't
 fn raise_all<'a>(
-    alloc: Global,
-    arena: &'a Bump,
-    graph: &Graph<'a>,
-    named: &Named,
+    task: &Task<'_, 'a>,
     node: u32,
     rows: &mut Vec<MarkedRow<'a>>,
+    raised: &mut Vec<Demand<'a>>,
 ) -> Result<bool, Memory>
-    requires node { node < length graph.now.nodes }
-    requires cells { named.now.cells.items ≡ allocate_nodes (action_of graph.now) }
-    requires bodies { reverse named.now.bodies.items ≡ closure_bodies (action_of graph.now) }
-    requires action { IsProper (action_of graph.now) }
-    requires table { IsProperTable (action_of graph.now) rows.now.items }
-    ensures grows { IfOk result (λ grew. Grows (action_of graph.now) grew
+    requires node { node < length task.now.graph.now.nodes }
+    requires cells { task.now.named.now.cells ≡ allocate_nodes (action_of task.now.graph.now) }
+    requires bodies { task.now.named.now.bodies ≡ closure_bodies (action_of task.now.graph.now) }
+    requires action { IsProper (action_of task.now.graph.now) }
+    requires table { IsProperTable (action_of task.now.graph.now) rows.now.items }
+    ensures grows { IfOk result (λ grew. Grows (action_of task.now.graph.now) grew
         rows.old.items rows.new.items) }
     ensures holds { IfOk result (λ grew. grew ≡ false
-        → Holds (action_of graph.now) (marked_table rows.old.items) node) }
+        → Holds (action_of task.now.graph.now) (marked_table rows.old.items) node) }
 {
-    let demands = demands_of(alloc, arena, graph, named, node, rows.as_slice())?;
+    let demands = demands_of(task, node, rows.as_slice())?;
     let mut grew = false;
     for demand in &demands {
-        let raised = raise_unmet(arena, rows, *demand)?;
-        grew = grew || raised;
+        let unmet = raise_unmet(task.arena, rows, *demand, raised)?;
+        grew = grew || unmet;
     }
     Ok(grew)
 }
 
 // the demands of a node
 fn demands_of<'a>(
-    alloc: Global,
-    arena: &'a Bump,
-    graph: &Graph<'a>,
-    named: &Named,
+    task: &Task<'_, 'a>,
     node: u32,
     rows: &[MarkedRow<'a>],
 ) -> Result<Vec<Demand<'a>>, Memory>
-    requires node { node < length graph.now.nodes }
-    requires cells { named.now.cells.items ≡ allocate_nodes (action_of graph.now) }
-    requires bodies { reverse named.now.bodies.items ≡ closure_bodies (action_of graph.now) }
-    ensures { IfOk result (λ ds. reached_ones (listed ds.items)
-        ≡ reached_ones (demands (action_of graph.now) (marked_table rows.now) node)) }
+    requires node { node < length task.now.graph.now.nodes }
+    requires cells { task.now.named.now.cells ≡ allocate_nodes (action_of task.now.graph.now) }
+    requires bodies { task.now.named.now.bodies ≡ closure_bodies (action_of task.now.graph.now) }
+    ensures { IfOk result (λ ds. AskTheSame (listed ds.items)
+        (demands (action_of task.now.graph.now) (marked_table rows.now) node)) }
 {
     let site = Site {
-        alloc,
-        arena,
+        alloc: task.alloc,
+        arena: task.arena,
         rows,
-        cells: named.cells.as_slice(),
-        bodies: named.bodies.as_slice(),
+        cells: &task.named.cells,
+        bodies: &task.named.bodies,
         node,
     };
-    demands_at(graph, &site)
+    demands_at(task.graph, &site)
 }
 
-// whether the demands of a node hold; what is found for the test isn't kept, so that the arena of the
-// table gets parts only where a node raises it
+// puts the nodes that are given data behind a list
+fn push_given(demands: &[Demand<'_>], given: &mut Vec<u32>) -> Result<(), Memory> {
+    for demand in demands {
+        if let Demand::DataIn(node, _) = *demand {
+            given.push(node)?;
+        }
+    }
+    Ok(())
+}
+
+// whether the demands of a node hold, and which nodes it gives data to; what is found for the test
+// isn't kept, so that the arena of the table gets parts only where a node raises it
 fn holds(
-    alloc: Global,
-    graph: &Graph<'_>,
-    named: &Named,
+    task: &Task<'_, '_>,
     node: u32,
     rows: &[MarkedRow<'_>],
+    given: &mut Vec<u32>,
 ) -> Result<bool, Memory>
-    requires node { node < length graph.now.nodes }
-    requires cells { named.now.cells.items ≡ allocate_nodes (action_of graph.now) }
-    requires bodies { reverse named.now.bodies.items ≡ closure_bodies (action_of graph.now) }
+    requires node { node < length task.now.graph.now.nodes }
+    requires cells { task.now.named.now.cells ≡ allocate_nodes (action_of task.now.graph.now) }
+    requires bodies { task.now.named.now.bodies ≡ closure_bodies (action_of task.now.graph.now) }
     ensures { IfOk result (λ b. b ≡ true
-        → Holds (action_of graph.now) (marked_table rows.now) node) }
+        → Holds (action_of task.now.graph.now) (marked_table rows.now) node) }
 {
-    let scratch = Bump::new(alloc);
+    let scratch = Bump::new(task.alloc);
     let site = Site {
-        alloc,
+        alloc: task.alloc,
         arena: &scratch,
         rows,
-        cells: named.cells.as_slice(),
-        bodies: named.bodies.as_slice(),
+        cells: &task.named.cells,
+        bodies: &task.named.bodies,
         node,
     };
-    holds_at(graph, &site)
+    let demands = demands_at(task.graph, &site)?;
+    push_given(demands.as_slice(), given)?;
+    Ok(are_met(rows, demands.as_slice()))
 }
 
-/// Raises the table by the demands of a node that aren't met. Answers whether one wasn't.
+/// Raises the table by the demands of a node that aren't met, and leaves word of what was found.
+/// Answers whether one wasn't.
 pub fn visit<'a>(
-    alloc: Global,
-    arena: &'a Bump,
-    graph: &Graph<'a>,
-    named: &Named,
+    task: &Task<'_, 'a>,
     node: u32,
     rows: &mut Vec<MarkedRow<'a>>,
+    found: &mut Found<'a>,
 ) -> Result<bool, Memory>
-    requires node { node < length graph.now.nodes }
-    requires cells { named.now.cells.items ≡ allocate_nodes (action_of graph.now) }
-    requires bodies { reverse named.now.bodies.items ≡ closure_bodies (action_of graph.now) }
-    requires action { IsProper (action_of graph.now) }
-    requires table { IsProperTable (action_of graph.now) rows.now.items }
-    ensures grows { IfOk result (λ grew. Grows (action_of graph.now) grew
+    requires node { node < length task.now.graph.now.nodes }
+    requires cells { task.now.named.now.cells ≡ allocate_nodes (action_of task.now.graph.now) }
+    requires bodies { task.now.named.now.bodies ≡ closure_bodies (action_of task.now.graph.now) }
+    requires action { IsProper (action_of task.now.graph.now) }
+    requires table { IsProperTable (action_of task.now.graph.now) rows.now.items }
+    ensures grows { IfOk result (λ grew. Grows (action_of task.now.graph.now) grew
         rows.old.items rows.new.items) }
     ensures holds { IfOk result (λ grew. grew ≡ false
-        → Holds (action_of graph.now) (marked_table rows.old.items) node) }
+        → Holds (action_of task.now.graph.now) (marked_table rows.old.items) node) }
 {
-    let met = holds(alloc, graph, named, node, rows.as_slice())?;
+    found.given.clear();
+    found.raised.clear();
+    let met = holds(task, node, rows.as_slice(), &mut found.given)?;
     if met {
         return Ok(false);
     }
-    raise_all(alloc, arena, graph, named, node, rows)
+    raise_all(task, node, rows, &mut found.raised)
 }

@@ -1,5 +1,5 @@
 //! A table raised until the demands of all nodes hold.
-ghost use Rattle.std.specs.Prelude.{◌≡◌, ◌<◌, false, length, reverse, All, IfOk, OnOk};
+ghost use Rattle.std.specs.Prelude.{◌≡◌, ◌<◌, false, length, All, IfOk, OnOk};
 ghost use Rattle.action_terms.specs.Meaning.{action_of};
 ghost use Rattle.action_terms.specs.Proper.{IsProper};
 ghost use Rattle.sort_rules.specs.Admissible.{Holds};
@@ -12,11 +12,10 @@ ghost use Rattle.sort_rules.specs.Values.{nothing};
 ghost use Rattle.sort_infer.specs.Raised.{Grows, IsGiven, IsProperTable, Settles};
 
 use crate::raising::visit;
-use crate::tour::tour;
+use crate::task::{Found, Task};
+use crate::tour::{all_nodes, tour};
+use crate::worklist::Worklist;
 use acg_base::Memory;
-use action_terms::Graph;
-use bumpalo::Bump;
-use sort_rules::named::Named;
 use sort_rules::rows::MarkedRow;
 use sort_rules::values::Value;
 use sort_rules::{MarkedBinds, MarkedTuple};
@@ -63,51 +62,81 @@ pub fn first_rows<'a>(alloc: Global, count: usize) -> Result<Vec<MarkedRow<'a>>,
     Ok(rows)
 }
 
-// visits the nodes in order; answers whether the table grew
-fn round<'a>(
-    alloc: Global,
-    arena: &'a Bump,
-    graph: &Graph<'a>,
-    named: &Named,
-    order: &[u32],
+// visits nodes of the tour as long as one of which a row that it reads was raised is to be visited
+fn drain<'a>(
+    task: &Task<'_, 'a>,
+    tour: &[u32],
+    work: &mut Worklist,
     rows: &mut Vec<MarkedRow<'a>>,
 ) -> Result<bool, Memory>
-    requires order { All (λ k. k < length graph.now.nodes) order.now }
-    requires cells { named.now.cells.items ≡ allocate_nodes (action_of graph.now) }
-    requires bodies { reverse named.now.bodies.items ≡ closure_bodies (action_of graph.now) }
-    requires action { IsProper (action_of graph.now) }
-    requires table { IsProperTable (action_of graph.now) rows.now.items }
-    ensures grows { IfOk result (λ grew. Grows (action_of graph.now) grew
+    requires order { All (λ k. k < length task.now.graph.now.nodes) tour.now }
+    requires cells { task.now.named.now.cells ≡ allocate_nodes (action_of task.now.graph.now) }
+    requires bodies { task.now.named.now.bodies ≡ closure_bodies (action_of task.now.graph.now) }
+    requires action { IsProper (action_of task.now.graph.now) }
+    requires table { IsProperTable (action_of task.now.graph.now) rows.now.items }
+    ensures { IfOk result (λ grew. Grows (action_of task.now.graph.now) grew
         rows.old.items rows.new.items) }
-    ensures hold { IfOk result (λ grew. grew ≡ false
-        → All (λ k. Holds (action_of graph.now) (marked_table rows.old.items) k) order.now) }
 {
+    let mut found = Found::new(task.alloc);
     let mut grew = false;
-    for node in order {
-        let raised = visit(alloc, arena, graph, named, *node, rows)?;
+    for _visit in 0..u64::MAX {
+        let Some(place) = work.next(tour) else {
+            break;
+        };
+        let Some(node) = tour.get(place) else {
+            break;
+        };
+        let raised = visit(task, *node, rows, &mut found)?;
+        work.note(*node, &found)?;
         grew = grew || raised;
     }
     Ok(grew)
 }
 
-/// Raises the table by rounds until one changes nothing.
-pub fn settle<'a>(
-    alloc: Global,
-    arena: &'a Bump,
-    graph: &Graph<'a>,
-    named: &Named,
+// visits the nodes in order; answers whether the table grew
+fn round<'a>(
+    task: &Task<'_, 'a>,
+    order: &[u32],
+    work: &mut Worklist,
     rows: &mut Vec<MarkedRow<'a>>,
-) -> Result<(), Memory>
-    requires cells { named.now.cells.items ≡ allocate_nodes (action_of graph.now) }
-    requires bodies { reverse named.now.bodies.items ≡ closure_bodies (action_of graph.now) }
-    requires action { IsProper (action_of graph.now) }
-    requires table { IsProperTable (action_of graph.now) rows.now.items }
-    ensures { OnOk result (Settles (action_of graph.now) rows.old.items rows.new.items) }
+) -> Result<bool, Memory>
+    requires order { All (λ k. k < length task.now.graph.now.nodes) order.now }
+    requires cells { task.now.named.now.cells ≡ allocate_nodes (action_of task.now.graph.now) }
+    requires bodies { task.now.named.now.bodies ≡ closure_bodies (action_of task.now.graph.now) }
+    requires action { IsProper (action_of task.now.graph.now) }
+    requires table { IsProperTable (action_of task.now.graph.now) rows.now.items }
+    ensures grows { IfOk result (λ grew. Grows (action_of task.now.graph.now) grew
+        rows.old.items rows.new.items) }
+    ensures hold { IfOk result (λ grew. grew ≡ false
+        → All (λ k. Holds (action_of task.now.graph.now) (marked_table rows.old.items) k)
+        order.now) }
 {
-    let order = tour(alloc, graph)?;
+    let mut found = Found::new(task.alloc);
+    let mut grew = false;
+    for node in order {
+        let raised = visit(task, *node, rows, &mut found)?;
+        work.note(*node, &found)?;
+        grew = grew || raised;
+    }
+    Ok(grew)
+}
+
+/// Raises the table until the demands of all nodes hold. A node is visited again where a row that
+/// it reads was raised; that nothing is left, a visit of all nodes tells in the end.
+pub fn settle<'a>(task: &Task<'_, 'a>, rows: &mut Vec<MarkedRow<'a>>) -> Result<(), Memory>
+    requires cells { task.now.named.now.cells ≡ allocate_nodes (action_of task.now.graph.now) }
+    requires bodies { task.now.named.now.bodies ≡ closure_bodies (action_of task.now.graph.now) }
+    requires action { IsProper (action_of task.now.graph.now) }
+    requires table { IsProperTable (action_of task.now.graph.now) rows.now.items }
+    ensures { OnOk result (Settles (action_of task.now.graph.now) rows.old.items rows.new.items) }
+{
+    let tour = tour(task.alloc, task.graph)?;
+    let nodes = all_nodes(task.alloc, task.graph)?;
+    let mut work = Worklist::new(task.alloc, task.graph, tour.as_slice())?;
     let mut grew = true;
     while grew {
-        grew = round(alloc, arena, graph, named, order.as_slice(), rows)?;
+        drain(task, tour.as_slice(), &mut work, rows)?;
+        grew = round(task, nodes.as_slice(), &mut work, rows)?;
     }
     Ok(())
 }

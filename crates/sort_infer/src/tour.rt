@@ -1,4 +1,4 @@
-//! The order in which nodes are visited in a round.
+//! The order in which nodes are visited.
 ghost use Rattle.std.specs.Prelude.{ℕ, ◌≡◌, ◌<◌, ◌++◌, ◌∷◌, [], length, IfOk, OnOk, All};
 ghost use Rattle.action_terms.specs.Meaning.{action_of};
 ghost use Rattle.action_terms.specs.Performances.{OneOf};
@@ -110,8 +110,8 @@ fn take(
     }
 }
 
-// each node when it is entered, and again after each node under it
-fn walk(alloc: Global, graph: &Graph<'_>) -> Result<Vec<u32>, Memory>
+/// Each node when it is entered, and again after each node under it: at most two visits a node.
+pub fn tour(alloc: Global, graph: &Graph<'_>) -> Result<Vec<u32>, Memory>
     ensures { IfOk result (λ order. All (λ k. k < length graph.now.nodes) order.items) }
 {
     let count = graph.nodes().len();
@@ -127,16 +127,15 @@ fn walk(alloc: Global, graph: &Graph<'_>) -> Result<Vec<u32>, Memory>
     Ok(order)
 }
 
-/// Each node when it is entered, and again after each node under it; and then all nodes once more,
-/// so that the order has each. At most three visits a node.
-pub fn tour(alloc: Global, graph: &Graph<'_>) -> Result<Vec<u32>, Memory>
-    ensures within { IfOk result (λ order. All (λ k. k < length graph.now.nodes) order.items) }
-    ensures each { IfOk result (λ order. (k : ℕ) → k < length graph.now.nodes
-        → OneOf k order.items) }
+/// All nodes.
+pub fn all_nodes(alloc: Global, graph: &Graph<'_>) -> Result<Vec<u32>, Memory>
+    ensures within { IfOk result (λ nodes. All (λ k. k < length graph.now.nodes) nodes.items) }
+    ensures each { IfOk result (λ nodes. (k : ℕ) → k < length graph.now.nodes
+        → OneOf k nodes.items) }
 {
-    let mut order = walk(alloc, graph)?;
+    let mut nodes = Vec::new(alloc);
     for node in 0..graph.nodes().len() {
-        order.push(node as u32)?;
+        nodes.push(node as u32)?;
     }
-    Ok(order)
+    Ok(nodes)
 }

@@ -4,13 +4,14 @@ use Rattle.std.specs.Prelude.{IsTrue, ◌↔◌}
 use Rattle.std.proofs.Math.Path.{fun_ext}
 use Rattle.std.proofs.lemmas.Bool.{and_from, cases_lt, false≢true}
 use Rattle.action_terms.specs.Actions.{Action}
+use Rattle.action_terms.specs.Performances.{Here, Later, OneOf}
 use Rattle.sort_rules.specs.Admissible.{Holds, IsAdmissible, Meets}
 use Rattle.sort_rules.specs.Demands.{Demand, demands, ◌⊒◌}
 use Rattle.sort_rules.specs.Parts.{Clash, Listed, Unreached}
-use Rattle.sort_rules.specs.Reached.{reached_ones}
+use Rattle.sort_rules.specs.Reached.{AskTheSame, reached_ones}
 use Rattle.sort_rules.specs.Rows.{IsTable, SortTable, unmarked}
 use Rattle.sort_rules.specs.Tables.{BindsIn, DataIn, Entry, MarkedTable}
-use Rattle.sort_rules.specs.Tests.{all_hold, are_met, holds, is_below, root_is_met}
+use Rattle.sort_rules.specs.Tests.{all_hold, are_met, holds, is_below, is_met, root_is_met}
 use Rattle.sort_rules.specs.Values.{nothing}
 use Rattle.sort_rules.proofs.Choices.{both_left, both_right}
 use Rattle.sort_rules.proofs.ClearTables.{table_admissible}
@@ -23,9 +24,33 @@ met-reached t ((x ⊒ Unreached) ∷ ds) = met-reached t ds
 met-reached t ((x ⊒ Listed ps) ∷ ds) = ap (λ (b : Bool). is_below (Listed ps) (t x) && b) (met-reached t ds)
 met-reached t ((x ⊒ Clash) ∷ ds) = ap (λ (b : Bool). is_below Clash (t x) && b) (met-reached t ds)
 
+one_met : (t : MarkedTable) (d : Demand) (ds : List Demand) → are_met t ds ≡ true → OneOf d ds → is_met t d ≡ true
+one_met t d _ e (Here {xs = ds}) = both_left (is_met t d) (are_met t ds) e
+one_met t d _ e (Later {y = o} {xs = ds} m) = one_met t d ds (both_right (is_met t o) (are_met t ds) e) m
+
+each_met : (t : MarkedTable) (ds : List Demand) → ((d : Demand) → OneOf d ds → is_met t d ≡ true) → are_met t ds ≡ true
+each_met t [] h = refl
+each_met t (d ∷ ds) h = and_from (is_met t d) (are_met t ds) (h d Here) (each_met t ds (λ o m. h o (Later m)))
+
+-- where each demand of one list stands in the other, both are met or none
+same_met : (t : MarkedTable) (ds es : List Demand) → ((d : Demand) → OneOf d ds → OneOf d es) → ((d : Demand) → OneOf d es → OneOf d ds) → are_met t ds ≡ are_met t es
+same_met t ds es f g = go (are_met t ds) (are_met t es) refl refl
+  where
+    met : are_met t es ≡ true → are_met t ds ≡ true
+    met e = each_met t ds (λ d m. one_met t d es e (f d m))
+
+    back : are_met t ds ≡ true → are_met t es ≡ true
+    back e = each_met t es (λ d m. one_met t d ds e (g d m))
+
+    go : (b c : Bool) → are_met t ds ≡ b → are_met t es ≡ c → b ≡ c
+    go true c e f = sym (back e) ∙ f
+    go false true e f = sym e ∙ met f
+    go false false e f = refl
+
 -- so those of reached parts tell
-pub holds-listed : (a : Action) (t : MarkedTable) (k : ℕ) (ds : List Demand) → reached_ones ds ≡ reached_ones (demands a t k) → are_met t ds ≡ holds a t k
-holds-listed a t k ds e = sym (met-reached t ds) ∙ ap (are_met t) e ∙ met-reached t (demands a t k)
+pub holds-listed : (a : Action) (t : MarkedTable) (k : ℕ) (ds : List Demand) → AskTheSame ds (demands a t k) → are_met t ds ≡ holds a t k
+holds-listed a t k ds e =
+    sym (met-reached t ds) ∙ same_met t (reached_ones ds) (reached_ones (demands a t k)) e.there e.back ∙ met-reached t (demands a t k)
 
 -- the test tells whether the node holds, also in a table with the same entries
 pub holds-tell : (a : Action) (t u : MarkedTable) (k : ℕ) (b : Bool) → ((x : Entry) → t x ≡ u x) → b ≡ holds a t k → IsTrue b ↔ Holds a u k

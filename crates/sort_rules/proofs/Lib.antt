@@ -57,3 +57,4 @@ pub mod ProcedureWalks
 pub mod SlotWalks
 pub mod YielderCounts
 pub mod ValueMembers
+pub mod SameMembers

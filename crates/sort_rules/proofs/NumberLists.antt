@@ -1,9 +1,11 @@
 -- The numbers of merged lists.
-use Rattle.std.proofs.Common.{Bool, List, [], arith, false, inl, inr, nat_eq, nat_lt, refl, subst, sym, true, ℕ, ◌||◌, ◌∷◌, ◌≡◌, ◌⊎◌}
-use Rattle.std.proofs.lemmas.Bool.{or_right}
+use Rattle.std.proofs.Common.{Bool, List, [], ap, arith, false, get_or, inl, inr, length, nat_eq, nat_lt, refl, replicate, set, subst, sym, true, ℕ, ◌<◌, ◌||◌, ◌++◌, ◌∙◌, ◌∷◌, ◌≡◌, ◌⊎◌}
+use Rattle.std.proofs.Math.Bool.{or_assoc}
+use Rattle.std.proofs.lemmas.Bool.{cases_lt, or_right}
 use Rattle.std.proofs.lemmas.Bool.Decides.{nat_tests}
+use Rattle.std.proofs.lemmas.List.{get_or-replicate, get_or-set_other, get_or-set_same, get_or_past, length-replicate}
 use Rattle.action_terms.specs.Performances.{Here, Later, OneOf}
-use Rattle.sort_rules.specs.Numbers.{inserted, is_listed, merged}
+use Rattle.sort_rules.specs.Numbers.{AreFlagged, inserted, is_listed, merged}
 use Rattle.sort_rules.proofs.Choices.{either, either_each, eq_of_test, member_cases, of_choice}
 
 pub neither_less : (n m : ℕ) → nat_lt n m ≡ false → nat_lt m n ≡ false → m ≡ n
@@ -49,3 +51,37 @@ is_listed_of k (x ∷ xs) e = go (nat_eq k x) refl e (is_listed_of k xs)
 pub listed_of : (k : ℕ) (xs : List ℕ) → OneOf k xs → is_listed k xs ≡ true
 listed_of k _ (Here {xs}) = grind (arith, nat_tests)
 listed_of k _ (Later {y} {xs} h) = or_right (nat_eq k y) (is_listed k xs) (listed_of k xs h)
+
+-- one number more
+pub listed_behind : (k n : ℕ) (xs : List ℕ) → is_listed k (xs ++ n ∷ []) ≡ (is_listed k xs || nat_eq k n)
+listed_behind k n [] = grind (arith, nat_tests)
+listed_behind k n (x ∷ xs) = ap (λ (b : Bool). nat_eq k x || b) (listed_behind k n xs) ∙ sym (or_assoc (nat_eq k x) (is_listed k xs) (nat_eq k n))
+
+-- ---- flags of numbers
+
+false_right : (b : Bool) → (b || false) ≡ b
+false_right true = refl
+false_right false = refl
+
+true_right : (b : Bool) → (b || true) ≡ true
+true_right true = refl
+true_right false = refl
+
+-- none is in the list
+pub flagged_none : (count : ℕ) (flags : List Bool) → flags ≡ replicate count false → AreFlagged flags []
+flagged_none count flags e n = ap (λ (fs : List Bool). get_or fs n false) e ∙ elim (cases_lt n count) [
+  | inl less ↦ get_or-replicate count n false false less
+  | inr past ↦ get_or_past (replicate count false) n false (omega (arith, past, length-replicate count false))
+]
+
+-- one flag more
+pub flagged_more : (flags : List Bool) (ns : List ℕ) (n : ℕ) → n < length flags → AreFlagged flags ns → AreFlagged (set flags n true) (ns ++ n ∷ [])
+flagged_more flags ns n less h k = go (nat_eq k n) refl
+  where
+    go : (b : Bool) → nat_eq k n ≡ b → get_or (set flags n true) k false ≡ is_listed k (ns ++ n ∷ [])
+    go true e =
+        ap (λ (i : ℕ). get_or (set flags n true) i false) (eq_of_test k n e) ∙ get_or-set_same flags n true false less
+        ∙ sym (listed_behind k n ns ∙ ap (λ (b : Bool). is_listed k ns || b) e ∙ true_right (is_listed k ns))
+    go false e =
+        get_or-set_other flags n k true false (λ same. absurd {0} (grind (arith, nat_tests))) ∙ h k
+        ∙ sym (listed_behind k n ns ∙ ap (λ (b : Bool). is_listed k ns || b) e ∙ false_right (is_listed k ns))

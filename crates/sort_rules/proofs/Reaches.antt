@@ -1,13 +1,14 @@
 -- Demands that ask for something, in lists behind others.
-use Rattle.std.proofs.Common.{List, [], ap, append_assoc, map, refl, subst, sym, ℕ, ◌++◌, ◌∙◌, ◌∷◌, ◌≡◌}
-use Rattle.std.proofs.lemmas.List.{append-nil}
+use Rattle.std.proofs.Common.{List, [], ap, append_assoc, inl, inr, map, refl, subst, sym, ℕ, ◌++◌, ◌∙◌, ◌∷◌, ◌≡◌, ◌⊎◌}
 use Rattle.action_terms.specs.Actions.{Yielder}
+use Rattle.action_terms.specs.Performances.{Here, Later, OneOf}
 use Rattle.action_terms.specs.Steps.{closures_in}
 use Rattle.action_terms.specs.declared.kinds.Sort.TheVariants as sort
+use Rattle.action_terms.proofs.Contexts.{of_left, of_right}
 use Rattle.sort_rules.specs.Asked.{decision_demands, sort_demands}
 use Rattle.sort_rules.specs.Demands.{Demand, live_at, only_when, received_by, value_at, wrong_at, ◌⊒◌}
 use Rattle.sort_rules.specs.Parts.{Clash, Listed, Part, Unreached, join, when}
-use Rattle.sort_rules.specs.Reached.{Adds, in_front, reached_ones}
+use Rattle.sort_rules.specs.Reached.{Adds, AreAmong, AskTheSame, in_front, reached_ones}
 use Rattle.sort_rules.specs.Tables.{BindsIn, Entry, Mark, MarkedTable}
 use Rattle.sort_rules.specs.Values.{nothing, strays}
 
@@ -20,25 +21,71 @@ pub reached_ones-append : (xs ys : List Demand) → reached_ones (xs ++ ys) ≡ 
 reached_ones-append [] ys = refl
 reached_ones-append ((x ⊒ v) ∷ xs) ys = ap (in_front x v) (reached_ones-append xs ys) ∙ in_front-append x v (reached_ones xs) (reached_ones ys)
 
+-- ---- lists that ask the same
+
+pub same-refl : (ds : List Demand) → AskTheSame ds ds
+same-refl ds = record { there = λ d m. m; back = λ d m. m }
+
+pub same-trans : (ds es fs : List Demand) → AskTheSame ds es → AskTheSame es fs → AskTheSame ds fs
+same-trans ds es fs e f = record { there = λ d m. f.there d (e.there d m); back = λ d m. e.back d (f.back d m) }
+
+same-eq : (ds es : List Demand) → ds ≡ es → AskTheSame ds es
+same-eq ds es e = subst (λ (zs : List Demand). AskTheSame ds zs) e (same-refl ds)
+
+of_either : {d : Demand} (xs ys : List Demand) → OneOf d (xs ++ ys) → OneOf d xs ⊎ OneOf d ys
+of_either [] ys m = inr m
+of_either (x ∷ xs) ys Here = inl Here
+of_either (x ∷ xs) ys (Later m) = elim (of_either xs ys m) [ inl h ↦ inl (Later h) | inr h ↦ inr h ]
+
+-- one of two lists, one behind the other
+pub among-either : {d : Demand} (xs ys : List Demand) → OneOf d (reached_ones (xs ++ ys)) → OneOf d (reached_ones xs) ⊎ OneOf d (reached_ones ys)
+among-either {d} xs ys m = of_either (reached_ones xs) (reached_ones ys) (subst (λ (zs : List Demand). OneOf d zs) (reached_ones-append xs ys) m)
+
+pub among-first : {d : Demand} (xs ys : List Demand) → OneOf d (reached_ones xs) → OneOf d (reached_ones (xs ++ ys))
+among-first {d} xs ys m = subst (λ (zs : List Demand). OneOf d zs) (sym (reached_ones-append xs ys)) (of_left d (reached_ones xs) (reached_ones ys) m)
+
+pub among-second : {d : Demand} (xs ys : List Demand) → OneOf d (reached_ones ys) → OneOf d (reached_ones (xs ++ ys))
+among-second {d} xs ys m = subst (λ (zs : List Demand). OneOf d zs) (sym (reached_ones-append xs ys)) (of_right d (reached_ones xs) (reached_ones ys) m)
+
+among-both : (xs xs2 ys ys2 : List Demand) → AreAmong xs xs2 → AreAmong ys ys2 → AreAmong (xs ++ ys) (xs2 ++ ys2)
+among-both xs xs2 ys ys2 f g d m = elim (among-either xs ys m) [ inl h ↦ among-first xs2 ys2 (f d h) | inr h ↦ among-second xs2 ys2 (g d h) ]
+
+-- so do lists behind lists that do
+same-both : (xs xs2 ys ys2 : List Demand) → AskTheSame xs xs2 → AskTheSame ys ys2 → AskTheSame (xs ++ ys) (xs2 ++ ys2)
+same-both xs xs2 ys ys2 e f = record { there = among-both xs xs2 ys ys2 e.there f.there; back = among-both xs2 xs ys2 ys e.back f.back }
+
+-- ---- lists behind others
+
 -- all of them are put behind
 pub adds_all : (old ds new : List Demand) → new ≡ old ++ ds → Adds old ds new
-adds_all old ds new e = ap reached_ones e ∙ reached_ones-append old ds
+adds_all old ds new e = same-eq new (old ++ ds) e
 
 -- some, and then others
 pub adds-more : (old ds mid es new : List Demand) → Adds old ds mid → Adds mid es new → Adds old (ds ++ es) new
 adds-more old ds mid es new e f =
-    f ∙ ap (λ (zs : List Demand). zs ++ reached_ones es) e ∙ append_assoc (reached_ones old) (reached_ones ds) (reached_ones es)
-    ∙ ap (λ (zs : List Demand). reached_ones old ++ zs) (sym (reached_ones-append ds es))
+    same-trans new (mid ++ es) (old ++ (ds ++ es)) f
+    (same-trans (mid ++ es) ((old ++ ds) ++ es) (old ++ (ds ++ es)) (same-both mid (old ++ ds) es es e (same-refl es)) (same-eq ((old ++ ds) ++ es) (old ++ (ds ++ es)) (append_assoc old ds es)))
+
+-- those that ask the same
+pub adds-same : (old ds es new : List Demand) → AskTheSame ds es → Adds old ds new → Adds old es new
+adds-same old ds es new e f = same-trans new (old ++ ds) (old ++ es) f (same-both old old ds es (same-refl old) e)
+
+-- none is in a list that asks for nothing
+pub asks-nothing : {X : Type 0} {d : Demand} (ds : List Demand) → reached_ones ds ≡ [] → OneOf d (reached_ones ds) → X
+asks-nothing {X} {d} ds e m = no (subst (λ (zs : List Demand). OneOf d zs) e m)
+  where
+    no : OneOf d [] → X
+    no m = elim m [ ]
 
 -- those that ask for nothing
 pub adds-none : (old ds : List Demand) → reached_ones ds ≡ [] → Adds old ds old
-adds-none old ds e = sym (append-nil (reached_ones old)) ∙ ap (λ (zs : List Demand). reached_ones old ++ zs) (sym e)
+adds-none old ds e = record { there = λ d m. among-first old ds m; back = λ d m. elim (among-either old ds m) [ inl h ↦ h | inr h ↦ asks-nothing ds e h ] }
 
-only_when-nothing : (ds : List Demand) → map (only_when nothing) ds ≡ ds
+pub only_when-nothing : (ds : List Demand) → map (only_when nothing) ds ≡ ds
 only_when-nothing [] = refl
 only_when-nothing ((x ⊒ v) ∷ ds) = ap (λ (zs : List Demand). (x ⊒ v) ∷ zs) (only_when-nothing ds)
 
-only_when-unreached : (ds : List Demand) → reached_ones (map (only_when Unreached) ds) ≡ []
+pub only_when-unreached : (ds : List Demand) → reached_ones (map (only_when Unreached) ds) ≡ []
 only_when-unreached [] = refl
 only_when-unreached ((x ⊒ v) ∷ ds) = only_when-unreached ds
 

@@ -1,7 +1,5 @@
--- What is asked of the cells and of the closures that a value may be, one after the other.
-use Rattle.std.proofs.Common.{List, [], ap, arith, drop, get_or, length, refl, subst, sym, ℕ, ◌+◌, ◌++◌, ◌-◌, ◌<◌, ◌≤◌, ◌∙◌, ◌∷◌, ◌≡◌}
-use Rattle.std.specs.Prelude.{reverse}
-use Rattle.std.proofs.lemmas.List.{drop_more, reverse-append}
+-- What is asked of cells and of closures, one after the other.
+use Rattle.std.proofs.Common.{List, [], ap, refl, subst, sym, ℕ, ◌++◌, ◌∙◌, ◌∷◌, ◌≡◌}
 use Rattle.sort_rules.specs.Demands.{Demand, cell_in, closure_in, enacts, stores, ◌⊒◌}
 use Rattle.sort_rules.specs.Parts.{Part, Unreached, when}
 use Rattle.sort_rules.specs.Reached.{Adds, in_front}
@@ -28,13 +26,6 @@ pub enacts-more : (t : MarkedTable) (k : ℕ) (v d : Part) (first mid last : Lis
     → Adds first (enacts t k v d all) last
 enacts-more t k v d first mid last xs ys all e f g =
     subst (λ (ds : List Demand). Adds first ds last) (sym (ap (enacts t k v d) e ∙ enacts-append t k v d xs ys)) (adds-more first (enacts t k v d xs) mid (enacts t k v d ys) last f g)
-
--- the number before those that are left, from the last one on
-pub reverse-front : (xs : List ℕ) (i d : ℕ) → 0 < i → i ≤ length xs → reverse (drop (i - 1) xs) ≡ reverse (drop i xs) ++ get_or xs (i - 1) d ∷ []
-reverse-front xs i d some within =
-    let less : i - 1 < length xs = omega arith in
-    let next : (i - 1) + 1 ≡ i = omega arith in
-    ap reverse (drop_more xs (i - 1) d less ∙ ap (λ (k : ℕ). get_or xs (i - 1) d ∷ drop k xs) next) ∙ reverse-append (get_or xs (i - 1) d ∷ []) (drop i xs)
 
 -- of an unreached part, nothing
 in_front-unreached : (x : Entry) (v : Part) (ds : List Demand) → v ≡ Unreached → in_front x v ds ≡ ds

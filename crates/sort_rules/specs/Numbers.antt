@@ -1,5 +1,5 @@
 -- Lists of numbers, ascending, each once.
-use Rattle.std.specs.Prelude.{ℕ, Bool, true, false, ◌&&◌, ◌||◌, List, [], ◌∷◌, nat_lt, nat_eq, if◌then◌else◌}
+use Rattle.std.specs.Prelude.{ℕ, Bool, true, false, ◌≡◌, ◌&&◌, ◌||◌, List, [], ◌∷◌, slice_index_or, nat_lt, nat_eq, if◌then◌else◌}
 
 -- whether numbers ascend from one on
 abbrev pub ascends_from : ℕ → List ℕ → Bool
@@ -35,3 +35,7 @@ is_none (x ∷ xs) = false
 abbrev pub are_listed : List ℕ → List ℕ → Bool
 are_listed [] ys = true
 are_listed (x ∷ xs) ys = is_listed x ys && are_listed xs ys
+
+-- of each number, whether it is in the list; one past the flags isn't
+abbrev pub AreFlagged : List Bool → List ℕ → Type 0
+AreFlagged flags ns = (n : ℕ) → slice_index_or flags n false ≡ is_listed n ns

@@ -1,5 +1,5 @@
 //! Whether the demands of a node hold in a table, and whether the table is admissible.
-ghost use Rattle.std.specs.Prelude.{◌≡◌, ◌<◌, ◌↔◌, IsTrue, length, IfOk, reverse};
+ghost use Rattle.std.specs.Prelude.{◌≡◌, ◌<◌, ◌↔◌, IsTrue, length, IfOk};
 ghost use Rattle.action_terms.specs.Meaning.{action_of};
 ghost use Rattle.sort_rules.specs.Rows.{unmarked};
 ghost use Rattle.sort_rules.specs.Demands.{allocate_nodes, closure_bodies};
@@ -23,7 +23,7 @@ use std::alloc::Global;
 pub fn holds_at<'a>(graph: &Graph<'a>, site: &Site<'_, 'a>) -> Result<bool, Memory>
     requires node { site.now.node < length graph.now.nodes }
     requires cells { site.now.cells.now ≡ allocate_nodes (action_of graph.now) }
-    requires bodies { reverse site.now.bodies.now ≡ closure_bodies (action_of graph.now) }
+    requires bodies { site.now.bodies.now ≡ closure_bodies (action_of graph.now) }
     ensures { IfOk result (λ b. b ≡ holds (action_of graph.now) (marked_table site.now.rows.now)
         site.now.node) }
 {
@@ -64,7 +64,7 @@ fn root_holds(rows: &[MarkedRow<'_>]) -> bool
 // whether the demands of all nodes hold
 fn all_hold<'a>(graph: &Graph<'a>, site: &Site<'_, 'a>) -> Result<bool, Memory>
     requires cells { site.now.cells.now ≡ allocate_nodes (action_of graph.now) }
-    requires bodies { reverse site.now.bodies.now ≡ closure_bodies (action_of graph.now) }
+    requires bodies { site.now.bodies.now ≡ closure_bodies (action_of graph.now) }
     ensures { IfOk result (λ b. b ≡ all_hold (action_of graph.now) (marked_table site.now.rows.now)
         (length (action_of graph.now))) }
 {
@@ -96,8 +96,8 @@ pub fn node_holds(
         alloc,
         arena: &arena,
         rows: rows.as_slice(),
-        cells: named.cells.as_slice(),
-        bodies: named.bodies.as_slice(),
+        cells: &named.cells,
+        bodies: &named.bodies,
         node,
     };
     holds_at(graph, &site)
@@ -119,8 +119,8 @@ pub fn admissible(alloc: Global, graph: &Graph<'_>, table: &Table<'_>) -> Result
         alloc,
         arena: &arena,
         rows: rows.as_slice(),
-        cells: named.cells.as_slice(),
-        bodies: named.bodies.as_slice(),
+        cells: &named.cells,
+        bodies: &named.bodies,
         node: 0,
     };
     all_hold(graph, &site)

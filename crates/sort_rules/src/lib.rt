@@ -12,6 +12,7 @@ pub mod marking;
 mod measures;
 pub mod members;
 pub mod named;
+pub mod node_list;
 pub mod nodes;
 mod numbers;
 pub mod operands;

@@ -7,6 +7,7 @@ ghost use Rattle.action_terms.specs.Steps.{closures_in, closures_in_items, closu
 ghost use Rattle.sort_rules.specs.Demands.{allocate_nodes, closures_at, closure_bodies, is_allocate};
 
 use crate::judging::push_closures;
+use crate::node_list::NodeList;
 use crate::postorder::listed;
 use acg_base::Memory;
 use action_terms::{Graph, NodeView, PrimitiveView, YielderView};
@@ -16,9 +17,9 @@ use std::alloc::Global;
 #[derive(Drop)]
 pub struct Named {
     /// The `allocate` nodes of the action, ascending.
-    pub cells: Vec<u32>,
-    /// The bodies of its closures, the last one first.
-    pub bodies: Vec<u32>,
+    pub cells: NodeList,
+    /// The bodies of its closures.
+    pub bodies: NodeList,
 }
 
 // puts the closures in a yielder behind a list, the last one first
@@ -123,15 +124,15 @@ pub fn push_node_closures(
     }
 }
 
-// the bodies of the closures of an action, the last one first
+// the bodies of the closures of an action
 fn bodies_of(alloc: Global, graph: &Graph<'_>) -> Result<Vec<u32>, Memory>
-    ensures { IfOk result (λ bodies. bodies.items
-        ≡ reverse (closure_bodies (action_of graph.now))) }
+    ensures { IfOk result (λ bodies. bodies.items ≡ closure_bodies (action_of graph.now)) }
 {
     let mut bodies = Vec::new(alloc);
     for node in (0..graph.nodes().len()).rev() {
         push_node_closures(alloc, graph, graph.view(node), &mut bodies)?;
     }
+    bodies.reverse();
     Ok(bodies)
 }
 
@@ -166,13 +167,14 @@ fn cells_of(alloc: Global, graph: &Graph<'_>) -> Result<Vec<u32>, Memory>
 
 /// What `store` and `enact` of an action may speak of.
 pub fn named_of(alloc: Global, graph: &Graph<'_>) -> Result<Named, Memory>
-    ensures cells { IfOk result (λ named. named.cells.items
-        ≡ allocate_nodes (action_of graph.now)) }
-    ensures bodies { IfOk result (λ named. reverse named.bodies.items
-        ≡ closure_bodies (action_of graph.now)) }
+    ensures cells { IfOk result (λ named. named.cells ≡ allocate_nodes (action_of graph.now)) }
+    ensures bodies { IfOk result (λ named. named.bodies ≡ closure_bodies (action_of graph.now)) }
 {
+    let count = graph.nodes().len();
+    let cells = cells_of(alloc, graph)?;
+    let bodies = bodies_of(alloc, graph)?;
     Ok(Named {
-        cells: cells_of(alloc, graph)?,
-        bodies: bodies_of(alloc, graph)?,
+        cells: NodeList::make(alloc, cells, count)?,
+        bodies: NodeList::make(alloc, bodies, count)?,
     })
 }

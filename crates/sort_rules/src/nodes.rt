@@ -1,5 +1,5 @@
 //! What a node asks of a table, by its kind.
-ghost use Rattle.std.specs.Prelude.{ℕ, ◌≡◌, ◌<◌, ◌++◌, ◌∷◌, List, length, IfOk, OnOk, reverse};
+ghost use Rattle.std.specs.Prelude.{ℕ, ◌≡◌, ◌<◌, ◌++◌, ◌∷◌, List, length, IfOk, OnOk};
 ghost use Rattle.action_terms.specs.Actions.{Simple, Enact, Apply, Unfold, Branch};
 ghost use Rattle.action_terms.specs.Forms.{IsDatum, AreItems, HasOperands, HasPrimitiveOperands, node_viewed, primitive_viewed, yielder_at, items_at as listed_items};
 ghost use Rattle.action_terms.specs.Meaning.{action_of};
@@ -8,7 +8,7 @@ ghost use Rattle.sort_rules.specs.Demands.{live_at, value_at, arms, demands, nod
 ghost use Rattle.sort_rules.specs.Asked.{arm_ends, decision_demands};
 ghost use Rattle.sort_rules.specs.MarkedRows.{marked_table};
 ghost use Rattle.sort_rules.specs.DemandViews.{demands_of};
-ghost use Rattle.sort_rules.specs.Reached.{Adds, reached_ones};
+ghost use Rattle.sort_rules.specs.Reached.{Adds, AskTheSame};
 ghost use Rattle.sort_rules.specs.Views.{value_part};
 
 use crate::combining::{
@@ -55,7 +55,7 @@ fn ask_enact<'a>(
     requires { IsDatum graph.now.yielders number }
     ensures { OnOk result ((cells : List ℕ)
         → Adds (demands_of out.old.items)
-        (node_demands cells (reverse site.now.bodies.now) (marked_table site.now.rows.now)
+        (node_demands cells site.now.bodies.now (marked_table site.now.rows.now)
         site.now.node (Enact (yielder_at graph.now.yielders number))) (demands_of out.new.items)) }
 {
     if is_live(site) {
@@ -77,7 +77,7 @@ fn ask_apply<'a>(
     requires items { AreItems graph.now.yielders items.now }
     ensures { OnOk result ((cells : List ℕ)
         → Adds (demands_of out.old.items)
-        (node_demands cells (reverse site.now.bodies.now) (marked_table site.now.rows.now)
+        (node_demands cells site.now.bodies.now (marked_table site.now.rows.now)
         site.now.node (Apply (yielder_at graph.now.yielders number)
         (listed_items graph.now.yielders items.now))) (demands_of out.new.items)) }
 {
@@ -186,7 +186,7 @@ fn ask_node<'a>(
 ) -> Result<(), Memory>
     requires { HasOperands graph.now.yielders view }
     ensures { OnOk result (Adds (demands_of out.old.items)
-        (node_demands site.now.cells.now (reverse site.now.bodies.now)
+        (node_demands site.now.cells.now site.now.bodies.now
         (marked_table site.now.rows.now) site.now.node (node_viewed graph.now.yielders view.entry))
         (demands_of out.new.items)) }
 {
@@ -214,14 +214,13 @@ fn ask_node<'a>(
     }
 }
 
-/// The demands of the node, but those of an unreached part, which are always met.
+/// The demands of the node, in some order, but those of an unreached part, which are always met.
 pub fn demands_at<'a>(graph: &Graph<'a>, site: &Site<'_, 'a>) -> Result<Vec<Demand<'a>>, Memory>
     requires node { site.now.node < length graph.now.nodes }
     requires cells { site.now.cells.now ≡ allocate_nodes (action_of graph.now) }
-    requires bodies { reverse site.now.bodies.now ≡ closure_bodies (action_of graph.now) }
-    ensures { IfOk result (λ ds. reached_ones (demands_of ds.items)
-        ≡ reached_ones (demands (action_of graph.now) (marked_table site.now.rows.now)
-        site.now.node)) }
+    requires bodies { site.now.bodies.now ≡ closure_bodies (action_of graph.now) }
+    ensures { IfOk result (λ ds. AskTheSame (demands_of ds.items)
+        (demands (action_of graph.now) (marked_table site.now.rows.now) site.now.node)) }
 {
     let mut out = Vec::new(site.alloc);
     ask_node(graph, site, graph.view(site.node as usize), &mut out)?;

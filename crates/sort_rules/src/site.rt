@@ -12,6 +12,7 @@ ghost use Rattle.sort_rules.specs.Views.{marked_tuple_of, marked_binds_of, value
 
 use crate::demands::{Demand, ask};
 use crate::judging::{Context, judge};
+use crate::node_list::NodeList;
 use crate::operands::{JudgedData, both_fit, judge_data};
 use crate::parts::{MarkedBinds, MarkedTuple};
 use crate::rows::{MarkedRow, binds_in, data_in};
@@ -30,10 +31,10 @@ pub struct Site<'t, 'a> {
     pub arena: &'a Bump,
     /// The table.
     pub rows: &'t [MarkedRow<'a>],
-    /// The `allocate` nodes of the action, ascending.
-    pub cells: &'t [u32],
-    /// The bodies of its closures, the last one first.
-    pub bodies: &'t [u32],
+    /// The `allocate` nodes of the action.
+    pub cells: &'t NodeList,
+    /// The bodies of its closures.
+    pub bodies: &'t NodeList,
     /// The node.
     pub node: u32,
 }

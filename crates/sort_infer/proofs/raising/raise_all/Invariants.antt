@@ -9,6 +9,6 @@ use Rattle.sort_infer.proofs.raising.raise_all.Given as goal
 -- the table is raised by the demands so far; where it didn't grow, they were met
 abbrev pub invariant-loop-demand : goal.invariant-loop-demand
 invariant-loop-demand l = record {
-  grows : Grows (action_of l.graph) l.grew l.initial.rows.items l.rows.items;
+  grows : Grows (action_of l.task.graph.now) l.grew l.initial.rows.items l.rows.items;
   met : l.grew ≡ false → are_met (marked_table l.initial.rows.items) (demands_of (take l.demand-index l.demand-items)) ≡ true;
 }

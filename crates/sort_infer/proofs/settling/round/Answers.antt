@@ -12,17 +12,17 @@ use Rattle.sort_infer.proofs.settling.round.Goals as goal
 use Rattle.sort_infer.proofs.settling.round.Goals.{then-grew, else-grew}
 
 pub loop-node-init : goal.loop-node-init
-loop-node-init c = record { grows = grows_refl (action_of c.args.graph.now) c.args.rows.now.items c.requires.table; hold = λ e. All-nil (Holds (action_of c.args.graph.now) (marked_table c.args.rows.now.items)) }
+loop-node-init c = record { grows = grows_refl (action_of c.args.task.now.graph.now) c.args.rows.now.items c.requires.table; hold = λ e. All-nil (Holds (action_of c.args.task.now.graph.now) (marked_table c.args.rows.now.items)) }
 
 pub visit-requires-clause-node : goal.visit-requires-clause-node
-visit-requires-clause-node c = All-get_or (λ k. k < length c.args.graph.now.nodes) c.args.order.now c.loop-node.node-index 0 c.loop-node-test.true c.requires.order
+visit-requires-clause-node c = All-get_or (λ k. k < length c.args.task.now.graph.now.nodes) c.args.order.now c.loop-node.node-index 0 c.loop-node-test.true c.requires.order
 
 pub visit-requires-clause-table : goal.visit-requires-clause-table
 visit-requires-clause-table c = c.loop-node.invariant.grows.proper
 
 pub loop-node-preserved : goal.loop-node-preserved
 loop-node-preserved c =
-    let a = action_of c.args.graph.now in
+    let a = action_of c.args.task.now.graph.now in
     let first = c.args.rows.now.items in
     let old = c.loop-node.rows.items in
     let new = c.visit.new.rows.items in
@@ -43,4 +43,4 @@ loop-node-preserved c =
     }
 
 pub returns-clause-hold : goal.returns-clause-hold
-returns-clause-hold c = λ e. subst (λ (zs : List ℕ). All (Holds (action_of c.args.graph.now) (marked_table c.args.rows.now.items)) zs) (take_all c.loop-node.node-index c.args.order.now c.loop-node-test.false) (c.loop-node.invariant.hold e)
+returns-clause-hold c = λ e. subst (λ (zs : List ℕ). All (Holds (action_of c.args.task.now.graph.now) (marked_table c.args.rows.now.items)) zs) (take_all c.loop-node.node-index c.args.order.now c.loop-node-test.false) (c.loop-node.invariant.hold e)

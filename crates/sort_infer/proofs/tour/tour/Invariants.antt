@@ -1,7 +1,7 @@
-use Rattle.std.proofs.Common.{All, length, ℕ, ◌<◌}
-use Rattle.action_terms.specs.Performances.{OneOf}
+use Rattle.std.proofs.Common.{All, length, ◌<◌}
+use Rattle.sort_infer.specs.Tours.{AreWithin}
 use Rattle.sort_infer.proofs.tour.tour.Given as goal
 
--- nodes of the graph, and the first ones are there
-abbrev pub invariant-loop-node : goal.invariant-loop-node
-invariant-loop-node l = record { within : All (λ k. k < length l.graph.nodes) l.order.items; each : (k : ℕ) → k < l.node → OneOf k l.order.items }
+-- the order and the jobs are about nodes of the graph
+abbrev pub invariant-loop-visit : goal.invariant-loop-visit
+invariant-loop-visit l = record { order : All (λ k. k < length l.graph.nodes) l.order.items; jobs : AreWithin (length l.graph.nodes) l.jobs.items }

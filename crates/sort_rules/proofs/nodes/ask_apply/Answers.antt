@@ -1,5 +1,4 @@
 use Rattle.std.proofs.Common.{List, ap, subst, sym, ℕ, ◌++◌, ◌∙◌, ◌∷◌}
-use Rattle.std.specs.Prelude.{reverse}
 use Rattle.action_terms.specs.Actions.{Item, Yielder}
 use Rattle.action_terms.specs.Forms.{items_at as listed_items, yielder_at}
 use Rattle.action_terms.specs.Steps.{closures_in, closures_in_items}
@@ -35,7 +34,7 @@ returns-in_ok-ask_enacts c = λ cells.
     let old = demands_of c.args.out.now.items in
     let mid = demands_of c.mark.new.out.items in
     let new = demands_of c.ask_enacts.new.out.items in
-    let bodies = reverse site.bodies.now in
+    let bodies = site.bodies.now in
     let called = c.in_ok-called.ensures in
     let given = c.in_ok-given.ensures in
     let calls = both_wrong _ _ (wrong_at t k y) _ (strays sort.Abstraction (value_at t k y)) c.both_fit-calls.ensures called.wrong (c.lies_within.ensures ∙ ap (strays sort.Abstraction) called.value) in
@@ -53,5 +52,5 @@ returns-else-is_live c = λ cells.
     let site = c.args.site.now in
     let t = marked_table site.rows.now in
     adds-dead (live_at t site.node) (demands_of c.args.out.now.items)
-    (asked (reverse site.bodies.now) t site.node (yielder_at c.args.graph.now.yielders c.args.number) (listed_items c.args.graph.now.yielders c.args.items.now))
+    (asked site.bodies.now t site.node (yielder_at c.args.graph.now.yielders c.args.number) (listed_items c.args.graph.now.yielders c.args.items.now))
     (sym (ap reached_if c.if-is_live.false) ∙ c.is_live.ensures)

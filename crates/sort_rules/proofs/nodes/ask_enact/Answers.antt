@@ -1,5 +1,4 @@
 use Rattle.std.proofs.Common.{List, ap, subst, sym, ℕ, ◌++◌, ◌∙◌}
-use Rattle.std.specs.Prelude.{reverse}
 use Rattle.action_terms.specs.Actions.{Yielder}
 use Rattle.action_terms.specs.Forms.{yielder_at}
 use Rattle.action_terms.specs.declared.kinds.Sort.TheVariants as sort
@@ -26,7 +25,7 @@ returns-in_ok-ask_enacts c = λ cells.
     let old = demands_of c.args.out.now.items in
     let mid = demands_of c.ask_sort.new.out.items in
     let new = demands_of c.ask_enacts.new.out.items in
-    let bodies = reverse site.bodies.now in
+    let bodies = site.bodies.now in
     let put : Adds mid (enacts t site.node (value_at t site.node y) nothing bodies) new =
     subst (λ (v : Part). Adds mid (enacts t site.node v nothing bodies) new) c.in_ok-value.ensures.value c.in_ok-ask_enacts.ensures in
     adds-live (live_at t site.node) old (asked bodies t site.node y) new (sym (ap reached_if c.if-is_live.true) ∙ c.is_live.ensures)
@@ -37,4 +36,4 @@ pub returns-else-is_live : goal.returns-else-is_live
 returns-else-is_live c = λ cells.
     let site = c.args.site.now in
     let t = marked_table site.rows.now in
-    adds-dead (live_at t site.node) (demands_of c.args.out.now.items) (asked (reverse site.bodies.now) t site.node (yielder_at c.args.graph.now.yielders c.args.number)) (sym (ap reached_if c.if-is_live.false) ∙ c.is_live.ensures)
+    adds-dead (live_at t site.node) (demands_of c.args.out.now.items) (asked site.bodies.now t site.node (yielder_at c.args.graph.now.yielders c.args.number)) (sym (ap reached_if c.if-is_live.false) ∙ c.is_live.ensures)

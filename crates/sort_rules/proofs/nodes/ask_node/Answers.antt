@@ -1,5 +1,4 @@
 use Rattle.std.proofs.Common.{List, ap, subst, sym, ℕ, ◌++◌, ◌≡◌}
-use Rattle.std.specs.Prelude.{reverse}
 use Rattle.std.proofs.lemmas.Result.{on_ok_weaker}
 use Rattle.action_terms.specs.Actions.{Apply, Both, Branch, Either, Enact, Furthermore, Node, Phases, Simple, Trapping, Unfold, Unfolding}
 use Rattle.action_terms.specs.Forms.{chain_viewed, items_at, join_viewed, node_viewed, primitive_viewed, yielder_at}
@@ -24,7 +23,7 @@ returns-in-Simple c =
     let ls = c.args.graph.now.yielders in
     let site = c.args.site.now in
     let cells = site.cells.now in
-    let bodies = reverse site.bodies.now in
+    let bodies = site.bodies.now in
     on_ok_weaker c.ask_simple.result
     (λ (h : (bodies : List ℕ) → Adds (demands_of c.args.out.now.items) (node_demands c.args.site.now.cells.now bodies (marked_table c.args.site.now.rows.now) c.args.site.now.node (Simple (primitive_viewed c.args.graph.now.yielders c.in-Simple.primitive))) (demands_of c.ask_simple.new.out.items)). of_view cells bodies (marked_table site.rows.now) site.node (Simple (primitive_viewed ls c.in-Simple.primitive)) (node_viewed ls c.args.view) (demands_of c.args.out.now.items) (demands_of c.ask_simple.new.out.items) (ap (node_viewed ls) c.in-Simple.is) (h bodies))
     c.ask_simple.ensures
@@ -34,9 +33,9 @@ returns-in-Enact c =
     let ls = c.args.graph.now.yielders in
     let site = c.args.site.now in
     let cells = site.cells.now in
-    let bodies = reverse site.bodies.now in
+    let bodies = site.bodies.now in
     on_ok_weaker c.ask_enact.result
-    (λ (h : (cells : List ℕ) → Adds (demands_of c.args.out.now.items) (node_demands cells (reverse c.args.site.now.bodies.now) (marked_table c.args.site.now.rows.now) c.args.site.now.node (Enact (yielder_at c.args.graph.now.yielders c.in-Enact.yielder))) (demands_of c.ask_enact.new.out.items)). of_view cells bodies (marked_table site.rows.now) site.node (Enact (yielder_at ls c.in-Enact.yielder)) (node_viewed ls c.args.view) (demands_of c.args.out.now.items) (demands_of c.ask_enact.new.out.items) (ap (node_viewed ls) c.in-Enact.is) (h cells))
+    (λ (h : (cells : List ℕ) → Adds (demands_of c.args.out.now.items) (node_demands cells c.args.site.now.bodies.now (marked_table c.args.site.now.rows.now) c.args.site.now.node (Enact (yielder_at c.args.graph.now.yielders c.in-Enact.yielder))) (demands_of c.ask_enact.new.out.items)). of_view cells bodies (marked_table site.rows.now) site.node (Enact (yielder_at ls c.in-Enact.yielder)) (node_viewed ls c.args.view) (demands_of c.args.out.now.items) (demands_of c.ask_enact.new.out.items) (ap (node_viewed ls) c.in-Enact.is) (h cells))
     c.ask_enact.ensures
 
 pub returns-in-Apply : goal.returns-in-Apply
@@ -44,9 +43,9 @@ returns-in-Apply c =
     let ls = c.args.graph.now.yielders in
     let site = c.args.site.now in
     let cells = site.cells.now in
-    let bodies = reverse site.bodies.now in
+    let bodies = site.bodies.now in
     on_ok_weaker c.ask_apply.result
-    (λ (h : (cells : List ℕ) → Adds (demands_of c.args.out.now.items) (node_demands cells (reverse c.args.site.now.bodies.now) (marked_table c.args.site.now.rows.now) c.args.site.now.node (Apply (yielder_at c.args.graph.now.yielders c.in-Apply.yielder) (items_at c.args.graph.now.yielders c.in-Apply.items.now))) (demands_of c.ask_apply.new.out.items)). of_view cells bodies (marked_table site.rows.now) site.node (Apply (yielder_at ls c.in-Apply.yielder) (items_at ls c.in-Apply.items.now)) (node_viewed ls c.args.view) (demands_of c.args.out.now.items) (demands_of c.ask_apply.new.out.items) (ap (node_viewed ls) c.in-Apply.is) (h cells))
+    (λ (h : (cells : List ℕ) → Adds (demands_of c.args.out.now.items) (node_demands cells c.args.site.now.bodies.now (marked_table c.args.site.now.rows.now) c.args.site.now.node (Apply (yielder_at c.args.graph.now.yielders c.in-Apply.yielder) (items_at c.args.graph.now.yielders c.in-Apply.items.now))) (demands_of c.ask_apply.new.out.items)). of_view cells bodies (marked_table site.rows.now) site.node (Apply (yielder_at ls c.in-Apply.yielder) (items_at ls c.in-Apply.items.now)) (node_viewed ls c.args.view) (demands_of c.args.out.now.items) (demands_of c.ask_apply.new.out.items) (ap (node_viewed ls) c.in-Apply.is) (h cells))
     c.ask_apply.ensures
 
 pub returns-in-Unfolding : goal.returns-in-Unfolding
@@ -54,7 +53,7 @@ returns-in-Unfolding c =
     let ls = c.args.graph.now.yielders in
     let site = c.args.site.now in
     let cells = site.cells.now in
-    let bodies = reverse site.bodies.now in
+    let bodies = site.bodies.now in
     on_ok_weaker c.ask_unfolding.result
     (of_view_all cells bodies (marked_table site.rows.now) site.node (Unfolding c.in-Unfolding.body) (node_viewed ls c.args.view) (demands_of c.args.out.now.items) (demands_of c.ask_unfolding.new.out.items) (ap (node_viewed ls) c.in-Unfolding.is))
     c.ask_unfolding.ensures
@@ -64,7 +63,7 @@ returns-in-Unfold c =
     let ls = c.args.graph.now.yielders in
     let site = c.args.site.now in
     let cells = site.cells.now in
-    let bodies = reverse site.bodies.now in
+    let bodies = site.bodies.now in
     on_ok_weaker c.ask_unfold.result
     (λ (h : (cells bodies : List ℕ) → Adds (demands_of c.args.out.now.items) (node_demands cells bodies (marked_table c.args.site.now.rows.now) c.args.site.now.node (Unfold c.in-Unfold.body)) (demands_of c.ask_unfold.new.out.items)). of_view cells bodies (marked_table site.rows.now) site.node (Unfold c.in-Unfold.body) (node_viewed ls c.args.view) (demands_of c.args.out.now.items) (demands_of c.ask_unfold.new.out.items) (ap (node_viewed ls) c.in-Unfold.is) (h cells bodies))
     c.ask_unfold.ensures
@@ -74,7 +73,7 @@ returns-in-Furthermore c =
     let ls = c.args.graph.now.yielders in
     let site = c.args.site.now in
     let cells = site.cells.now in
-    let bodies = reverse site.bodies.now in
+    let bodies = site.bodies.now in
     on_ok_weaker c.ask_furthermore.result
     (of_view_all cells bodies (marked_table site.rows.now) site.node (Furthermore c.in-Furthermore.part) (node_viewed ls c.args.view) (demands_of c.args.out.now.items) (demands_of c.ask_furthermore.new.out.items) (ap (node_viewed ls) c.in-Furthermore.is))
     c.ask_furthermore.ensures
@@ -84,7 +83,7 @@ returns-in-Both c =
     let ls = c.args.graph.now.yielders in
     let site = c.args.site.now in
     let cells = site.cells.now in
-    let bodies = reverse site.bodies.now in
+    let bodies = site.bodies.now in
     on_ok_weaker c.ask_both.result
     (of_view_all cells bodies (marked_table site.rows.now) site.node (Both (join_viewed c.in-Both.join) c.in-Both.left c.in-Both.right) (node_viewed ls c.args.view) (demands_of c.args.out.now.items) (demands_of c.ask_both.new.out.items) (ap (node_viewed ls) c.in-Both.is))
     c.ask_both.ensures
@@ -94,7 +93,7 @@ returns-in-Phases c =
     let ls = c.args.graph.now.yielders in
     let site = c.args.site.now in
     let cells = site.cells.now in
-    let bodies = reverse site.bodies.now in
+    let bodies = site.bodies.now in
     on_ok_weaker c.ask_phases.result
     (of_view_all cells bodies (marked_table site.rows.now) site.node (Phases (chain_viewed c.in-Phases.chain) c.in-Phases.left c.in-Phases.right) (node_viewed ls c.args.view) (demands_of c.args.out.now.items) (demands_of c.ask_phases.new.out.items) (ap (node_viewed ls) c.in-Phases.is))
     c.ask_phases.ensures
@@ -104,7 +103,7 @@ returns-in-Either c =
     let ls = c.args.graph.now.yielders in
     let site = c.args.site.now in
     let cells = site.cells.now in
-    let bodies = reverse site.bodies.now in
+    let bodies = site.bodies.now in
     on_ok_weaker c.ask_either.result
     (of_view_all cells bodies (marked_table site.rows.now) site.node (Either c.in-Either.left c.in-Either.right) (node_viewed ls c.args.view) (demands_of c.args.out.now.items) (demands_of c.ask_either.new.out.items) (ap (node_viewed ls) c.in-Either.is))
     c.ask_either.ensures
@@ -114,7 +113,7 @@ returns-in-Trapping c =
     let ls = c.args.graph.now.yielders in
     let site = c.args.site.now in
     let cells = site.cells.now in
-    let bodies = reverse site.bodies.now in
+    let bodies = site.bodies.now in
     on_ok_weaker c.ask_trapping.result
     (of_view_all cells bodies (marked_table site.rows.now) site.node (Trapping c.in-Trapping.left c.in-Trapping.right) (node_viewed ls c.args.view) (demands_of c.args.out.now.items) (demands_of c.ask_trapping.new.out.items) (ap (node_viewed ls) c.in-Trapping.is))
     c.ask_trapping.ensures
@@ -124,7 +123,7 @@ returns-in-Branch c =
     let ls = c.args.graph.now.yielders in
     let site = c.args.site.now in
     let cells = site.cells.now in
-    let bodies = reverse site.bodies.now in
+    let bodies = site.bodies.now in
     on_ok_weaker c.ask_branch.result
     (λ (h : (cells bodies : List ℕ) → Adds (demands_of c.args.out.now.items) (node_demands cells bodies (marked_table c.args.site.now.rows.now) c.args.site.now.node (Branch (yielder_at c.args.graph.now.yielders c.in-Branch.yielder) c.in-Branch.left c.in-Branch.right)) (demands_of c.ask_branch.new.out.items)). of_view cells bodies (marked_table site.rows.now) site.node (Branch (yielder_at ls c.in-Branch.yielder) c.in-Branch.left c.in-Branch.right) (node_viewed ls c.args.view) (demands_of c.args.out.now.items) (demands_of c.ask_branch.new.out.items) (ap (node_viewed ls) c.in-Branch.is) (h cells bodies))
     c.ask_branch.ensures
