@@ -268,6 +268,28 @@ module _ (a : Action) (trees : HasTrees a) (p : ℕ → PlacedNode) (words : ℕ
       out-not_record (p n) (h.blocks_apart n there) x (subst (λ j. OneOf x (p j).data_out) equal o.word) word)
       (λ high. let r = h.within n x there (own-word (p n) x own) in omega (arith, r.1, high, ap words (same-procedure n k part))) v) w
 
+  -- a node leaves its data in words of which each is one
+  pub out-once : (k : ℕ) → k < length a → IsOnce (outs k)
+  out-once k within = (sound k within).once
+
+  -- they are words of its frame, behind the front
+  pub out-within : (k x : ℕ) → k < length a → OneOf x (outs k) → (front_words ≤ x) × (x < words (procedure_of a k))
+  out-within k x within m =
+      let o = (sound k within).out_owner x m in
+      let r = h.within o.owner x o.there (own-word (p o.owner) x (inl o.word)) in
+      (r.0, omega (arith, r.1, ap words o.same))
+
+  -- so are those where it finds its data
+  pub given-within : (k x : ℕ) → k < length a → OneOf x (givens k) → (front_words ≤ x) × (x < words (procedure_of a k))
+  given-within k x within m = either
+      (λ o. let r = h.within o.owner x o.there (in-word (p o.owner) x o.word) in (r.0, omega (arith, r.1, ap words o.same)))
+      (λ o. let r = h.within o.owner x o.there (own-word (p o.owner) x o.word) in (r.0, omega (arith, r.1, ap words o.same)))
+      ((sound k within).given_owner x m)
+
+  -- none of these is one of those
+  pub given-not_out : (k x : ℕ) → k < length a → OneOf x (givens k) → OneOf x (outs k) → ⊥
+  given-not_out k x within m n = (sound k within).given_other x m n
+
   -- what a part leaves isn't written while another part is performed after it: it stands in words of its own, or the node leaves both one behind the other
   pub left-kept : (n l r x : ℕ) → OneOf l (parts_at (node_at a n)) → OneOf r (parts_at (node_at a n)) → l ≢ r → (outs l ≡ (p l).data_out) ⊎ (outs n ≡ outs l ++ outs r) → OneOf x (outs l) → MayWrite p a words r x → ⊥
   left-kept n l r x pl pr other joined m w = either

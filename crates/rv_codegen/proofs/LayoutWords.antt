@@ -9,11 +9,11 @@ use Rattle.action_terms.specs.Performances.{OneOf, Here, Later}
 use Rattle.action_terms.proofs.AllLaws.{All-member}
 use Rattle.sort_rules.specs.Procedures.{procedure_of, whole_of}
 use Rattle.sort_rules.specs.Measures.{node_numbers, slots}
-use Rattle.sort_rules.specs.Tables.{DataIn, DataOut, MarkedTable}
+use Rattle.sort_rules.specs.Tables.{DataIn, DataOut, Escaped, MarkedTable}
 use Rattle.sort_rules.specs.Shapes.{part_length}
 use Rattle.sort_rules.proofs.Choices.{either, member_cases}
 use Rattle.frame_layout.specs.Places.{Frame, PlacedNode, record_words, words_of}
-use Rattle.frame_layout.specs.Layouts.{HasApartNodes, IsFrame, IsLayout, IsPlacedNode, front_words}
+use Rattle.frame_layout.specs.Layouts.{AreConsecutive, HasApartNodes, IsFrame, IsLayout, IsPlacedNode, front_words}
 use Rattle.frame_layout.proofs.GraphParts.{HasTrees}
 use Rattle.frame_layout.proofs.NodeLists.{filter-member, member-filter, member-range, node_numbers-range}
 use Rattle.frame_layout.proofs.ProcedureRoots.{procedure-below, procedure-own, procedure-part, whole-part}
@@ -83,7 +83,7 @@ words-are (h ∷ fs) f rising m = either
     behind true (inr e) less w = absurd {0} (let no_test = e.0 in cc)
     behind false e less w = w
 
-past-nowhere : (ns : List PlacedNode) (k : ℕ) → length ns ≤ k → place_at ns k ≡ nowhere
+pub past-nowhere : (ns : List PlacedNode) (k : ℕ) → length ns ≤ k → place_at ns k ≡ nowhere
 past-nowhere [] k past = refl
 past-nowhere (n ∷ ns) zero past = absurd (omega arith)
 past-nowhere (n ∷ ns) (suc k) past = past-nowhere ns k (omega arith)
@@ -188,3 +188,15 @@ module _ (a : Action) (trees : HasTrees a) where
     in-fits k within =
         let f = has-frame k within in
         (placed-node k within f).lengths.data_in ∙ ap (λ j. part_length (t (DataIn j))) f.node
+
+    pub escaped-fits : (k : ℕ) → k < length a → length (place_at ns k).escaped ≡ part_length (t (Escaped k))
+    escaped-fits k within =
+        let f = has-frame k within in
+        (placed-node k within f).lengths.escaped ∙ ap (λ j. part_length (t (Escaped j))) f.node
+
+    -- the words of its data, and of what it escapes with, are consecutive
+    pub in-row : (k : ℕ) → k < length a → AreConsecutive (place_at ns k).data_in
+    in-row k within = (placed-node k within (has-frame k within)).consecutive 0 [] (omega arith)
+
+    pub escaped-row : (k : ℕ) → k < length a → AreConsecutive (place_at ns k).escaped
+    escaped-row k within = (placed-node k within (has-frame k within)).consecutive 4 [] (omega arith)

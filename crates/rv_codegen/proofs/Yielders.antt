@@ -2,7 +2,7 @@
 use Rattle.std.proofs.Common.{◌≡◌, ℕ, ◌+◌, ◌<◌, length, get_or, take, sum_by, sym, ap, ◌∙◌}
 use Rattle.std.proofs.lemmas.List.Sums.{sum_by_more}
 use Rattle.std.proofs.lemmas.Option.{slice_get-get_or}
-use Rattle.action_terms.specs.Actions.{Node, Stray, Action, node_or_stray, node_at}
+use Rattle.action_terms.specs.Actions.{Stray, Action, node_or_stray, node_at}
 use Rattle.action_terms.specs.Need.{node_yielder_count}
 
 module _ (a : Action) (k : ℕ) (lt : k < length a) where

@@ -4,3 +4,5 @@ pub mod Blocks
 pub mod Marks
 pub mod Built
 pub mod Aliases
+pub mod GivenItems
+pub mod ItemCode
