@@ -1,9 +1,9 @@
 -- Bits of words.
-use Rattle.std.proofs.Common.{◌≡◌, ◌≢◌, max, ◌⊎◌, inl, inr, ℕ, zero, suc, ◌*◌, ◌/◌, ◌%◌, ◌^◌, ◌<◌, List, [], length, slice_set, get_or, get_or-set_same, get_or-set_other, eqb, true, ◌∙◌, sym, ap, subst, refl, arith, eq-eqb, eqb-true}
+use Rattle.std.proofs.Common.{◌≡◌, ◌≢◌, max, min, ◌-◌, ◌⊎◌, inl, inr, ℕ, zero, suc, ◌*◌, ◌/◌, ◌%◌, ◌^◌, ◌<◌, List, [], length, slice_set, get_or, get_or-set_same, get_or-set_other, eqb, true, ◌∙◌, sym, ap, subst, refl, arith, eq-eqb, eqb-true}
 use Rattle.std.proofs.lemmas.Bool.Decides.{eqb_tells}
-use Rattle.std.proofs.lemmas.Nat.Bits.{bit_at_or, bit_at-zero, shr_and_one, bit_at_set_same, bit_at_set_other}
+use Rattle.std.proofs.lemmas.Nat.Bits.{bit_at_and, bit_at_not, bit_at_or, bit_at-zero, shr_and_one, bit_at_set_same, bit_at_set_other}
 use Rattle.std.specs.Prelude.{bit_and, bit_or, ◌↔◌, replicate}
-use Rattle.std.specs.Int.{bit_at, w64}
+use Rattle.std.specs.Int.{bit_at, bit_not, w64}
 use Rattle.chart_parse.specs.Rows.{Has, HasMore}
 
 pub has_tests : (row : List ℕ) (e : ℕ) → (eqb (bit_and (get_or row (e / 64) 0 / 2 ^ (e % 64)) 1) 1 ≡ true) ↔ Has row e
@@ -85,3 +85,29 @@ covered row other k e same at h =
 pub has_or_not : (row : List ℕ) (e : ℕ) → Has row e ⊎ (Has row e → ⊥)
 unfolding Has
 has_or_not row e = elim (eqb_tells (bit_at (get_or row (e / 64) 0) (e % 64)) 1) [ inl h ↦ inl h.1 | inr d ↦ inr d.1 ]
+
+-- whether a row has a number, by the word of its bit
+pub has_word : (row : List ℕ) (k e : ℕ) → e / 64 ≡ k → Has row e ↔ (bit_at (get_or row k 0) (e % 64) ≡ 1)
+unfolding Has
+has_word row k e at = (
+  λ h. subst (λ (j : ℕ). bit_at (get_or row j 0) (e % 64) ≡ 1) at h,
+  λ h. subst (λ (j : ℕ). bit_at (get_or row j 0) (e % 64) ≡ 1) (sym at) h,
+)
+
+one_not : (x y n m : ℕ) → x < 2 → y < 2 → n ≡ 1 - y → m ≡ min x n → ((x ≡ 1) × (y ≡ 1 → ⊥)) ↔ (m ≡ 1)
+one_not x y n m a b c d = (
+  λ h. elim (eqb_tells y 1) [ inl s ↦ absurd (h.1 s.1) | inr s ↦ omega (arith, h.0, s.1, a, b, c, d) ],
+  λ h. (omega (arith, a, b, c, d, h), λ s. absurd (omega (arith, a, b, c, d, h, s))),
+)
+
+-- the bits of a word that another doesn't have
+pub extra_word : (row other : List ℕ) (k e : ℕ) → e / 64 ≡ k → get_or other k 0 < 2 ^ 64
+    → (Has row e × (Has other e → ⊥)) ↔ (bit_at (bit_and (get_or row k 0) (bit_not w64 (get_or other k 0))) (e % 64) ≡ 1)
+extra_word row other k e at fits =
+    let r = has_word row k e at in
+    let o = has_word other k e at in
+    let q = one_not (bit_at (get_or row k 0) (e % 64)) (bit_at (get_or other k 0) (e % 64)) (bit_at (bit_not w64 (get_or other k 0)) (e % 64)) (bit_at (bit_and (get_or row k 0) (bit_not w64 (get_or other k 0))) (e % 64)) (bit_small _ _) (bit_small _ _)
+    (bit_at_not w64 (get_or other k 0) (e % 64) fits (omega arith)) (bit_at_and _ _ (e % 64)) in (
+      λ h. q.0 (r.0 h.0, λ s. h.1 (o.1 s)),
+      λ h. let x = q.1 h in (r.1 x.0, λ s. x.1 (o.0 s)),
+    )

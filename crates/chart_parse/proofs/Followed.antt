@@ -1,5 +1,5 @@
 -- The steps of following parts.
-use Rattle.std.proofs.Common.{◌≡◌, ◌⊎◌, inl, inr, ℕ, ◌+◌, ◌≤◌, List, [], ◌∷◌, ◌++◌, Contains, length, refl, sym, subst, arith}
+use Rattle.std.proofs.Common.{◌≡◌, ◌⊎◌, inl, inr, ℕ, ◌+◌, ◌≤◌, List, [], ◌∷◌, ◌++◌, Contains, length, slice_get, Some, refl, sym, subst, arith}
 use Rattle.std.specs.Prelude.{◌↔◌}
 use Rattle.std.proofs.lemmas.Option.{slice_get_within}
 use Rattle.source_lex.specs.Numbered.{Alternative, Numbered}
@@ -9,7 +9,7 @@ use Rattle.source_lex.specs.declared.lexeme.LexKind.{LexKind}
 use Rattle.chart_parse.specs.declared.rows.Entry.{Entry}
 use Rattle.std.proofs.lemmas.List.Elements.{Contains-append_left, Contains-push, Contains-push_cases}
 use Rattle.chart_parse.specs.Rows.{Has, Lists, IsExtra}
-use Rattle.chart_parse.specs.Places.{Places, Advances, AdvancesFrom, RunsTo, IsNoWord}
+use Rattle.chart_parse.specs.Places.{Places, Advances, AdvancesFrom, RunsTo, LeadOn, LeadNowhere}
 use Rattle.chart_parse.proofs.Lists.{push_lists}
 
 -- one entry more
@@ -55,6 +55,18 @@ pub advance_within : (g : Numbered) (w : List LexKind) (p : Places) (part : Symb
 advance_within g w p (Word c) k h x = omega (arith, x.1, slice_get_within w k c x.0)
 advance_within g w p (Phrase m) k h x = x.0
 
+-- what is left of parts behind one more word
+pub word_more : (g : Numbered) (w : List LexKind) (p : Places) (parts qs rest : Alternative) (c : LexKind) (k at : ℕ) → qs ≡ Word c ∷ rest → slice_get w at ≡ Some c → LeadOn g w p parts k qs at → LeadOn g w p parts k rest (at + 1)
+word_more g w p parts qs rest c k at f there on e = (
+  λ h. let x = subst (λ (r : Alternative). RunsTo g w p r at e) f ((on e).0 h) in subst (λ (l : ℕ). RunsTo g w p rest l e) x.1.1 x.2,
+  λ h. (on e).1 (subst (λ (r : Alternative). RunsTo g w p r at e) (sym f) (at + 1, (there, refl), h)),
+)
+
+-- no word of that kind stands there
+pub word_missing : (g : Numbered) (w : List LexKind) (p : Places) (parts qs rest : Alternative) (c : LexKind) (k at : ℕ) → qs ≡ Word c ∷ rest → (slice_get w at ≡ Some c → ⊥) → LeadOn g w p parts k qs at → LeadNowhere g w p parts k
+word_missing g w p parts qs rest c k at f never on e h =
+    let x = subst (λ (r : Alternative). RunsTo g w p r at e) f ((on e).0 h) in never x.1.0
+
 -- the parts run to e by a place that the row has, and the parts that are left from there
 abbrev pub RunsBy : (g : Numbered) (w : List LexKind) → Places → List ℕ → Alternative → (e : ℕ) → Type 0
 RunsBy g w p row rest e = (k : ℕ) × (k ≤ length w) × Has row k × RunsTo g w p rest k e
@@ -65,6 +77,19 @@ run_first g w p parts start e none new le empty one = (
   λ h. elim ((one h.0).0 h.2) [
     | inl o ↦ absurd (empty h.0 o)
     | inr q ↦ subst (λ (k : ℕ). RunsTo g w p parts k e) q h.3
+  ],
+)
+
+-- the first part
+pub run_behind : (g : Numbered) (w : List LexKind) (p : Places) (parts rest : Alternative) (part : Symbol) (start e : ℕ) (none new : List ℕ) → parts ≡ part ∷ rest → ((k : ℕ) → Has none k → ⊥) → ((v : ℕ) → v ≤ length w → Has new v ↔ (Has none v ⊎ Advances g w p part start v)) → RunsTo g w p parts start e ↔ RunsBy g w p new rest e
+run_behind g w p parts rest part start e none new f empty b = (
+  λ h.
+      let y = subst (λ (r : Alternative). RunsTo g w p r start e) f h in
+      let within : y.0 ≤ length w = advance_within g w p part start y.0 y.1 in
+      (y.0, within, (b y.0 within).1 (inr y.1), y.2),
+  λ h. elim ((b h.0 h.1).0 h.2) [
+    | inl o ↦ absurd (empty h.0 o)
+    | inr x ↦ subst (λ (r : Alternative). RunsTo g w p r start e) (sym f) (h.0, x, h.3)
   ],
 )
 
@@ -86,9 +111,3 @@ run_last g w p parts qs start e row le f a = (
   λ h. a.1 (e, le, h, subst (λ (r : Alternative). RunsTo g w p r e e) (sym f) refl),
   λ h. let x = a.0 h in subst (λ (k : ℕ). Has row k) (subst (λ (r : Alternative). RunsTo g w p r x.0 e) f x.3) x.2,
 )
-
--- a word of another kind leads nowhere
-pub no_word : (g : Numbered) (w : List LexKind) (p : Places) (parts : Alternative) (at e : ℕ) → IsNoWord w parts at → RunsTo g w p parts at e → ⊥
-no_word g w p [] at e h run = h
-no_word g w p (Word c ∷ rest) at e h run = h run.1.0
-no_word g w p (Phrase c ∷ rest) at e h run = h

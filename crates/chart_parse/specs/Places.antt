@@ -68,6 +68,14 @@ abbrev pub RunsTo : (g : Numbered) (w : List LexKind) → Places → Alternative
 RunsTo g w p [] k l = k ≡ l
 RunsTo g w p (part ∷ rest) k l = (h : ℕ) × Advances g w p part k h × RunsTo g w p rest h l
 
+-- the parts lead nowhere from k
+abbrev pub LeadNowhere : (g : Numbered) (w : List LexKind) → Places → Alternative → (k : ℕ) → Type 0
+LeadNowhere g w p parts k = (e : ℕ) → RunsTo g w p parts k e → ⊥
+
+-- the parts lead from k where the rest of them leads from the other place
+abbrev pub LeadOn : (g : Numbered) (w : List LexKind) → Places → Alternative → (k : ℕ) → Alternative → (at : ℕ) → Type 0
+LeadOn g w p parts k rest at = (e : ℕ) → RunsTo g w p parts k e ↔ RunsTo g w p rest at e
+
 -- lists of all places that have only what is true, and from each nonterminal itself
 pub record IsPart (g : Numbered) (w : List LexKind) (p : Places) : Type 0 where
   pub few : length g < 4294967296
@@ -126,12 +134,6 @@ abbrev pub BeginsOther : Alternative → Type 0
 BeginsOther [] = Unit {0}
 BeginsOther (Word c ∷ rest) = Unit {0}
 BeginsOther (Phrase c ∷ rest) = ⊥
-
--- the parts begin with a word of another kind than the lexeme at the place
-abbrev pub IsNoWord : List LexKind → Alternative → ℕ → Type 0
-IsNoWord w [] at = ⊥
-IsNoWord w (Word c ∷ rest) at = slice_get w at ≡ Some c → ⊥
-IsNoWord w (Phrase c ∷ rest) at = ⊥
 
 -- the parts are an alternative of m
 abbrev pub IsAlternative : Numbered → ℕ → Alternative → Type 0

@@ -1,5 +1,5 @@
 -- Rows of bits, and lists of them by nonterminal.
-use Rattle.std.specs.Prelude.{◌≡◌, ◌⊎◌, ◌↔◌, ℕ, ◌*◌, ◌<◌, ◌/◌, ◌%◌, List, [], ◌∷◌, slice_index, length}
+use Rattle.std.specs.Prelude.{◌≡◌, ◌⊎◌, ◌↔◌, ℕ, ◌+◌, ◌-◌, ◌*◌, ◌<◌, ◌≤◌, ◌/◌, ◌%◌, List, [], ◌∷◌, slice_index, length}
 use Rattle.std.specs.Int.{bit_at}
 use Rattle.chart_parse.specs.declared.rows.Entry.{Entry}
 
@@ -28,6 +28,10 @@ ListsRow width old new x = (n e : ℕ) → e < 64 * width → Lists new n e ↔ 
 -- the new list has what the two have
 abbrev pub ListsBoth : ℕ → List Entry → List Entry → List Entry → Type 0
 ListsBoth width old added new = (n e : ℕ) → e < 64 * width → Lists new n e ↔ (Lists old n e ⊎ Lists added n e)
+
+-- the word, whose first bit has the number `first`, has the bit of the number
+abbrev pub IsBitOf : (word first : ℕ) → ℕ → Type 0
+IsBitOf word first e = (first ≤ e) × (e < first + 64) × (bit_at word (e - first) ≡ 1)
 
 -- the number is below the bound, and the row has it, and the other row doesn't
 abbrev pub IsExtra : (below : ℕ) → List ℕ → List ℕ → ℕ → Type 0

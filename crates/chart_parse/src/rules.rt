@@ -7,7 +7,7 @@ ghost use Rattle.chart_parse.specs.Places.{grammar_of, width_of, IsListed, IsTru
 
 use crate::numbers::difference;
 use crate::rows::{Entry, add_at};
-use crate::runs::{can_begin, first_phrase, run_ends};
+use crate::runs::{after_words, can_begin, first_phrase, run_ends};
 use crate::source::Source;
 use acg_base::Memory;
 use bumpalo::Bump;
@@ -133,6 +133,40 @@ fn add_growths<'a>(
     Ok(more)
 }
 
+// Adds the nonterminal itself where the parts end, and what else grows from it there, and tells
+// whether that is more.
+fn add_far<'a>(
+    alloc: Global,
+    arena: &'a Bump,
+    source: &Source<'_>,
+    near: &[Vec<u64>],
+    places: &mut Vec<Vec<Vec<Entry<'a>>>>,
+    parts: &[Symbol],
+    nonterminal: usize,
+    into: ListAt,
+) -> Result<bool, Memory>
+    requires nonterminal { nonterminal < length (grammar_of source.now) }
+    requires into { (into.place ≤ length source.now.kinds.now)
+        × (into.number ≤ length (grammar_of source.now)) }
+    requires part { IsPart (grammar_of source.now) source.now.kinds.now places.old.items }
+    requires near { AreNear (grammar_of source.now) source.now.kinds.now
+        places.old.items (into.place + 1) near.now }
+    requires right { IsRule (grammar_of source.now) source.now.kinds.now into.place nonterminal
+        parts.now into.number }
+    ensures added { OnOk result (IsAdded (grammar_of source.now) source.now.kinds.now into.place
+        places.old.items places.new.items) }
+    ensures same { IfOk result (λ more. more ≡ false → IsSame places.old.items places.new.items) }
+    ensures follows { IfOk result (λ more. more ≡ false
+        → Follows (grammar_of source.now) source.now.kinds.now
+        places.new.items into.place nonterminal parts.now into.number) }
+{
+    let ends = run_ends(alloc, source, places, parts, into.place)?;
+    let itself = add_itself(arena, source, places, &ends, nonterminal, into)?;
+    let far = difference(alloc, &ends, &near[nonterminal], source.kinds.len() + 1)?;
+    let more = add_growths(alloc, arena, source, places, &far, nonterminal, into)?;
+    Ok(itself || more)
+}
+
 // Adds what grows from the nonterminal where the parts end, and tells whether that is more.
 fn add_run<'a>(
     alloc: Global,
@@ -159,14 +193,20 @@ fn add_run<'a>(
         → Follows (grammar_of source.now) source.now.kinds.now
         places.new.items into.place nonterminal parts.now into.number) }
 {
-    if !can_begin(source, places, parts, into.place) {
+    let Some((rest, at)) = after_words(source.kinds, parts, into.place) else {
+        return Ok(false);
+    };
+    if rest.is_empty() {
+        let from = ListAt {
+            place: at,
+            number: nonterminal,
+        };
+        return add_list(alloc, arena, source, places, from, into);
+    }
+    if !can_begin(source, places, rest, at) {
         return Ok(false);
     }
-    let ends = run_ends(alloc, source, places, parts, into.place)?;
-    let itself = add_itself(arena, source, places, &ends, nonterminal, into)?;
-    let far = difference(alloc, &ends, &near[nonterminal], source.kinds.len() + 1)?;
-    let more = add_growths(alloc, arena, source, places, &far, nonterminal, into)?;
-    Ok(itself || more)
+    add_far(alloc, arena, source, near, places, parts, nonterminal, into)
 }
 
 // Follows the rule of an alternative at a place, and tells whether anything was more.

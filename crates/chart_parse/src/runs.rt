@@ -1,8 +1,9 @@
 //! Where parts of an alternative end, by what the chart has so far.
 ghost use Rattle.std.specs.Prelude.{◌≡◌, ◌∷◌, drop, MatchOption, ◌⊎◌, ℕ, ◌+◌, ◌*◌, ◌/◌, ◌≤◌, ◌<◌, ◌↔◌, false, length, slice_get, Some, IsTrue, IfOk};
+ghost use Rattle.source_lex.specs.Numbered.{Numbered};
 ghost use Rattle.source_lex.specs.declared.numbered.Symbol.TheVariants.{Phrase};
 ghost use Rattle.chart_parse.specs.Rows.{Has, Lists, AreWide};
-ghost use Rattle.chart_parse.specs.Places.{grammar_of, width_of, Advances, AdvancesFrom, RunsTo, IsPart, BeginsOther, IsNoWord};
+ghost use Rattle.chart_parse.specs.Places.{Places, grammar_of, width_of, Advances, AdvancesFrom, RunsTo, IsPart, LeadNowhere, LeadOn, BeginsOther};
 
 use crate::numbers::difference;
 use crate::rows::{Entry, empty, insert, join};
@@ -125,15 +126,32 @@ pub fn first_phrase(parts: &[Symbol]) -> Option<u32>
     }
 }
 
-// Whether parts that don't begin with a phrase can begin at the place.
-fn can_begin_other(kinds: &[LexKind], parts: &[Symbol], at: usize) -> bool
-    requires { BeginsOther parts.now }
-    ensures { result ≡ false → IsNoWord kinds.now parts.now at }
+/// What is left of the parts behind the words with which they begin, and where that begins; None
+/// where one of these words doesn't stand there.
+pub fn after_words<'s>(
+    kinds: &[LexKind],
+    parts: &'s [Symbol],
+    start: usize,
+) -> Option<(&'s [Symbol], usize)>
+    requires start { start ≤ length kinds.now }
+    ensures { MatchOption result
+        ((g : Numbered) (p : Places) → LeadNowhere g kinds.now p parts.now start)
+        (λ r. (r.1 ≤ length kinds.now)
+        × ((g : Numbered) (p : Places) → LeadOn g kinds.now p parts.now start r.0.now r.1)) }
 {
-    match parts.first() {
-        Some(Symbol::Word(kind)) => is_kind(kinds, at, *kind),
-        _ => true,
+    let mut at = start;
+    for k in 0..parts.len() {
+        match parts[k] {
+            Symbol::Word(kind) => {
+                if !is_kind(kinds, at, kind) {
+                    return None;
+                }
+                at += 1;
+            }
+            Symbol::Phrase(_) => return Some((&parts[k..], at)),
+        }
     }
+    Some((&parts[parts.len()..], at))
 }
 
 /// Whether the parts can begin at the place. Where they can't, they lead nowhere from there.
@@ -149,9 +167,32 @@ pub fn can_begin(
         → RunsTo (grammar_of source.now) source.now.kinds.now places.now parts.now at e → ⊥ }
 {
     match first_phrase(parts) {
-        None => can_begin_other(source.kinds, parts, at),
+        None => true,
         Some(nonterminal) => is_present(&places[at][source.nonterminals.len()], nonterminal),
     }
+}
+
+// The places at which the parts end, where the first of them begins at the start.
+fn ends_behind(
+    alloc: Global,
+    source: &Source<'_>,
+    places: &[Vec<Vec<Entry<'_>>>],
+    parts: &[Symbol],
+    start: usize,
+) -> Result<Vec<u64>, Memory>
+    requires some { 0 < length parts.now }
+    requires start { start ≤ length source.now.kinds.now }
+    requires part { IsPart (grammar_of source.now) source.now.kinds.now places.now }
+    ensures len { IfOk result (λ r. length r.items ≡ width_of source.now.kinds.now) }
+    ensures ends { IfOk result (λ r. (e : ℕ) → e ≤ length source.now.kinds.now → Has r.items e
+        ↔ RunsTo (grammar_of source.now) source.now.kinds.now places.now parts.now start e) }
+{
+    let mut ends = empty(alloc, source.kinds.len() / 64 + 1)?;
+    advance(source, places, parts[0], start, &mut ends);
+    for p in 1..parts.len() {
+        ends = follow(alloc, source, places, parts[p], &ends)?;
+    }
+    Ok(ends)
 }
 
 /// The places at which the parts end that begin at the start.
@@ -168,10 +209,14 @@ pub fn run_ends(
     ensures ends { IfOk result (λ r. (e : ℕ) → e ≤ length source.now.kinds.now → Has r.items e
         ↔ RunsTo (grammar_of source.now) source.now.kinds.now places.now parts.now start e) }
 {
-    let mut ends = empty(alloc, source.kinds.len() / 64 + 1)?;
-    insert(&mut ends, start);
-    for p in 0..parts.len() {
-        ends = follow(alloc, source, places, parts[p], &ends)?;
+    let width = source.kinds.len() / 64 + 1;
+    let Some((rest, at)) = after_words(source.kinds, parts, start) else {
+        return empty(alloc, width);
+    };
+    if rest.is_empty() {
+        let mut ends = empty(alloc, width)?;
+        insert(&mut ends, at);
+        return Ok(ends);
     }
-    Ok(ends)
+    ends_behind(alloc, source, places, rest, at)
 }

@@ -1,13 +1,13 @@
 //! Charts of sources.
-ghost use Rattle.std.specs.Prelude.{◌≡◌, ℕ, ◌+◌, ◌/◌, ◌<◌, ◌≤◌, ◌↔◌, length, IsTrue, IfOk, Contains};
+ghost use Rattle.std.specs.Prelude.{◌≡◌, ◌⊎◌, ℕ, ◌+◌, ◌/◌, ◌<◌, ◌≤◌, ◌↔◌, length, IsTrue, IfOk, OnOk, Contains};
 ghost use Rattle.source_lex.specs.Trees.{Has};
 ghost use Rattle.chart_parse.specs.Rows.{Lists, AreWide};
+ghost use Rattle.chart_parse.specs.Rows as rows;
 ghost use Rattle.chart_parse.specs.Growths.{Grows};
 ghost use Rattle.chart_parse.specs.Places.{grammar_of, HaveRoom, IsExact};
 
-use crate::numbers::difference;
+use crate::numbers::add_numbers;
 use crate::rows::{self, Entry};
-use crate::runs::join_ends;
 use crate::source::Source;
 use acg_base::Memory;
 use std::alloc::Global;
@@ -45,7 +45,25 @@ fn is_listed(list: &[Entry<'_>], nonterminal: u32, e: usize) -> bool
     false
 }
 
-// The numbers up to the last one that the entries of the nonterminal have, in order.
+// Adds the numbers up to the last one that the entry has, if it is of the nonterminal.
+fn add_entry(
+    entry: Entry<'_>,
+    nonterminal: u32,
+    last: usize,
+    list: &mut Vec<usize>,
+) -> Result<(), Memory>
+    requires wide { length entry.row.now ≡ last / 64 + 1 }
+    requires small { last < 4294967296 }
+    ensures { OnOk result ((e : ℕ) → Contains list.new.items e ↔ (Contains list.old.items e
+        ⊎ ((e ≤ last) × (entry.entry.nonterm ≡ nonterminal) × rows.Has entry.entry.row.now e))) }
+{
+    if entry.nonterm != nonterminal {
+        return Ok(());
+    }
+    add_numbers(entry.row, last + 1, list)
+}
+
+// The numbers up to the last one that the entries of the nonterminal have.
 fn listed(
     alloc: Global,
     list: &[Entry<'_>],
@@ -57,10 +75,11 @@ fn listed(
     ensures { IfOk result (λ r. (e : ℕ) → Contains r.items e
         ↔ ((e ≤ last) × Lists list.now nonterminal e)) }
 {
-    let mut row = rows::empty(alloc, last / 64 + 1)?;
-    join_ends(list, nonterminal, &mut row);
-    let none = rows::empty(alloc, last / 64 + 1)?;
-    difference(alloc, &row, &none, last + 1)
+    let mut numbers = Vec::new(alloc);
+    for k in 0..list.len() {
+        add_entry(list[k], nonterminal, last, &mut numbers)?;
+    }
+    Ok(numbers)
 }
 
 // The numbers as those of places.

@@ -9,7 +9,7 @@ use Rattle.rv_asm.specs.WordMachine.{WordState, Has}
 use Rattle.rv_asm.specs.declared.item.Item.TheVariants.{Plain}
 use Rattle.rv_asm.proofs.Labels.{total-append}
 use Rattle.rv_asm.proofs.Sending.{code_from-plain, total-plain}
-use Rattle.action_terms.specs.Information.{Binds, Data, Storage}
+use Rattle.action_terms.specs.Information.{Binds, Data, Datum, Storage}
 use Rattle.action_terms.specs.Actions.{Item, Single, Them, Yielder}
 use Rattle.action_terms.specs.Need.{items_yielder_count, yielder_count}
 use Rattle.action_terms.specs.Performances.{OneOf, Here, Later}
@@ -38,6 +38,11 @@ holds-length base heap words f [] [] h = refl
 holds-length base heap words f [] (x ∷ d) h = absurd h
 holds-length base heap words f (o ∷ os) [] h = absurd h
 holds-length base heap words f (o ∷ os) (x ∷ d) h = omega (arith, holds-length base heap words f os d h.1)
+
+-- no data stand at no places
+pub holds-none : (base : ℕ) (heap : Heap) (words : List ℕ) (f : ℕ) (os : List ℕ) → length {A = Datum} [] ≡ length os → Holds base heap words f os []
+holds-none base heap words f [] same = tt
+holds-none base heap words f (o ∷ os) same = absurd (omega (arith, same))
 
 -- the code of the yielders among items can be made
 abbrev pub AreBuilt : List Item → Type 0
@@ -85,7 +90,7 @@ module _ (base : ℕ) (code : List Inst) (heap : Heap) (f : ℕ) where
       go None h g = written-then base code f l1 l2 limit t r (t ++ r) c p nothing a g few (λ o m. one_of-first t r o m) (λ o m. one_of-second t r o m)
 
   -- the first item yields nothing
-  gave-nothing : (l limit : ℕ) (out : List ℕ) (c : WordState) (nothing : ℕ) → l ≤ limit → Arrives base code l 10 10 c nothing → HasWritten base code f limit out c nothing
+  pub gave-nothing : (l limit : ℕ) (out : List ℕ) (c : WordState) (nothing : ℕ) → l ≤ limit → Arrives base code l 10 10 c nothing → HasWritten base code f limit out c nothing
   gave-nothing l limit out c nothing few a = record {
     count = a.count;
     few = omega (arith, a.few, few);

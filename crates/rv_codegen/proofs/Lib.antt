@@ -73,3 +73,13 @@ pub mod ItemLengths
 pub mod DataItems
 pub mod Framed
 pub mod BuiltCode
+pub mod Failing
+pub mod Alternating
+pub mod ArmsDone
+pub mod Committing
+pub mod Pointing
+pub mod EscapingWith
+pub mod CheckingWith
+pub mod PlacedData
+pub mod EscapingItems
+pub mod SendingWith

@@ -79,6 +79,11 @@ module _ (s : Setting) (laid : Laid s) (x : Starting s) where
           output = output ∙ x.shown;
         }
 
+    -- the way leaves the registers below 31
+    pub did-registers : (tree : Tree) (from to : Point) (at : address ≡ address_of from.place) (near_from : from.place < 2 ^ 28) (near_to : to.place < 2 ^ 28) (rank : from.rank ≤ (start s x.k).rank) (paid : limit + 66 ≤ s.factor) (way : Way (code s) from to) (k : ℕ) → k < 31
+        → (written-did tree from to at near_from near_to rank paid way).end.registers k ≡ w.end.registers k
+    did-registers tree from to at near_from near_to rank paid way k less = (way-runs s.base (code s) w.end from to near_from near_to (w.at ∙ at) way).others k less
+
     -- or it has arrived, by an instruction at least
     abbrev pub written-there : (tree : Tree) (to : Point) → address ≡ address_of to.place → 0 < w.count → limit + 64 ≤ s.factor → Did s laid x (silent tree) to
     written-there tree to at some paid =

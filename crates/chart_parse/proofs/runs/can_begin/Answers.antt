@@ -4,7 +4,6 @@ use Rattle.source_lex.specs.Numbered.{Alternative, plain_alternatives}
 use Rattle.chart_parse.specs.declared.rows.Entry.{Entry}
 use Rattle.chart_parse.specs.Rows.{Lists}
 use Rattle.chart_parse.specs.Places.{grammar_of, list_of, RunsTo}
-use Rattle.chart_parse.proofs.Followed.{no_word}
 use Rattle.chart_parse.proofs.Stored.{lists_there, list_there}
 use Rattle.chart_parse.proofs.runs.can_begin.Goals as goal
 
@@ -15,7 +14,7 @@ index-requires c =
     omega (arith, len, c.requires.part.tables c.args.at c.requires.at, length-map c.args.source.now.nonterminals.now plain_alternatives, c.index-places-at.result.ok.0)
 
 pub returns-in-None : goal.returns-in-None
-returns-in-None c q e run = no_word (grammar_of c.args.source.now) c.args.source.now.kinds.now c.args.places.now c.args.parts.now c.args.at e (c.can_begin_other.ensures q) run
+returns-in-None c q e run = absurd (cc)
 
 pub returns-in-Some : goal.returns-in-Some
 returns-in-Some c q e run =

@@ -1,30 +1,36 @@
-use Rattle.std.proofs.Common.{◌≡◌, ◌∙◌, ◌+◌, ◌≤◌, inl, inr, ℕ, List, Contains, length, sym, ap, subst, arith, Vec, Global}
+use Rattle.std.proofs.Common.{◌≡◌, inl, inr, ◌+◌, ◌/◌, ◌≤◌, ◌++◌, sym, subst, List, [], ◌∷◌, take, take_all, get_or, Contains, add-one}
 use Rattle.std.specs.Prelude.{◌↔◌}
-use Rattle.chart_parse.specs.Rows.{Has, Lists, IsExtra}
-use Rattle.chart_parse.proofs.Answered.{if_ok}
-use Rattle.chart_parse.proofs.Stored.{written_back}
+use Rattle.std.proofs.Math.Seq.{take-suc}
+use Rattle.chart_parse.specs.declared.rows.Entry.{Entry}
+use Rattle.chart_parse.specs.Rows.{Lists}
+use Rattle.chart_parse.proofs.Lists.{wide_at, push_lists}
 use Rattle.chart_parse.proofs.spans.listed.Goals as goal
 
+abbrev no_entry : Entry
+no_entry = record { nonterm = 0; row = record { ref_ptr = (0, 0); now = [] } }
+
+pub add_entry-requires-clause-wide : goal.add_entry-requires-clause-wide
+add_entry-requires-clause-wide c = wide_at (c.args.last / 64 + 1) c.args.list.now c.loop-k.k no_entry c.loop-k-test.true c.requires.wide
+
+pub loop-k-preserved : goal.loop-k-preserved
+loop-k-preserved c e =
+    let list : List Entry = c.args.list.now in
+    let x : Entry = get_or list c.loop-k.k no_entry in
+    let next : take (c.loop-k.k + 1) list ≡ take c.loop-k.k list ++ x ∷ [] = rw (add-one c.loop-k.k) (take-suc list c.loop-k.k no_entry c.loop-k-test.true) in
+    let h = c.loop-k.invariant e in
+    let add = c.in_ok-add_entry.ensures e in
+    let p = push_lists (take c.loop-k.k list) x c.args.nonterminal e in
+    subst (λ (t : List Entry). Contains c.add_entry.new.list.items e ↔ ((e ≤ c.args.last) × Lists t c.args.nonterminal e)) (sym next) (
+      λ y. elim (add.0 y) [
+        | inl o ↦ let q = h.0 o in (q.0, p.1 (inl q.1))
+        | inr q ↦ (q.0, p.1 (inr (q.1, q.2)))
+      ],
+      λ y. elim (p.0 y.1) [
+        | inl o ↦ add.1 (inl (h.1 (y.0, o)))
+        | inr q ↦ add.1 (inr (y.0, q.0, q.1))
+      ],
+    )
+
 pub returns : goal.returns
-returns c =
-    let row : List ℕ = c.in_ok-row.row.items in
-    let new : List ℕ = c.join_ends.new.into in
-    let was : c.deref_mut.result.now ≡ row = c.deref_mut.ensures.value in
-    let len : length new ≡ length row = c.join_ends.ensures.len ∙ ap length was in
-    let back : c.deref.result.now ≡ new = c.deref.ensures.value ∙ written_back new row c.in_ok-row.row.len (omega (arith, c.in_ok-row.row.ok.0)) len in
-    if_ok c.difference.result (λ (r : Vec ℕ Global). (e : ℕ) → Contains r.items e ↔ IsExtra (c.args.last + 1) c.deref.result.now c.deref-2.result.now e) (λ (r : Vec ℕ Global). (e : ℕ) → Contains r.items e ↔ ((e ≤ c.args.last) × Lists c.args.list.now c.args.nonterminal e))
-    c.difference.ensures
-    (λ r h e. (
-      λ y.
-          let q = (h e).0 y in
-          let le : e ≤ c.args.last = (let lt = q.0 in omega arith) in (
-            le,
-            elim ((c.join_ends.ensures.joined e (omega (arith, le, ap length was, c.in_ok-row.ensures.len))).0 (subst (λ (t : List ℕ). Has t e) back q.1)) [
-              | inl o ↦ absurd (c.in_ok-row.ensures.none e (subst (λ (t : List ℕ). Has t e) was o))
-              | inr l ↦ l
-            ],
-          ),
-      λ y.
-          let le : e ≤ c.args.last = y.0 in
-          (h e).1 (omega (arith, le), subst (λ (t : List ℕ). Has t e) (sym back) ((c.join_ends.ensures.joined e (omega (arith, le, ap length was, c.in_ok-row.ensures.len))).1 (inr y.1)), λ z. c.in_ok-none.ensures.none e (subst (λ (t : List ℕ). Has t e) c.deref-2.ensures.value z)),
-    ))
+returns c e =
+    subst (λ (t : List Entry). Contains c.loop-k.numbers.items e ↔ ((e ≤ c.args.last) × Lists t c.args.nonterminal e)) (take_all c.loop-k.k c.args.list.now c.loop-k-test.false) (c.loop-k.invariant e)

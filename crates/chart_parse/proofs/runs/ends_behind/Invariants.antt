@@ -2,7 +2,7 @@ use Rattle.std.proofs.Common.{◌≡◌, ℕ, ◌≤◌, drop, length}
 use Rattle.std.specs.Prelude.{◌↔◌}
 use Rattle.chart_parse.specs.Places.{grammar_of, width_of, RunsTo}
 use Rattle.chart_parse.proofs.Followed.{RunsBy}
-use Rattle.chart_parse.proofs.runs.run_ends.Given as goal
+use Rattle.chart_parse.proofs.runs.ends_behind.Given as goal
 
 abbrev pub invariant-loop-p : goal.invariant-loop-p
 invariant-loop-p l = record {

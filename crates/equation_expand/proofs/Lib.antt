@@ -1,0 +1,4 @@
+pub mod Identifiers
+pub mod WholeMeanings
+pub mod FoundEquations
+pub mod Fitting

@@ -1,0 +1,16 @@
+pub mod Cursors
+pub mod Fresh
+pub mod Jumps
+pub mod Arrivals
+pub mod Commitments
+pub mod Restoring
+pub mod UnitsTaken
+pub mod Input
+pub mod Cells
+pub mod Records
+pub mod Opening
+pub mod Closing
+pub mod PieceFacts
+pub mod Started
+pub mod Entered
+pub mod EntryFacts

@@ -1,0 +1,5 @@
+pub mod Region
+pub mod Pieces
+pub mod Items
+pub mod PieceRuns
+pub mod EntryRuns
