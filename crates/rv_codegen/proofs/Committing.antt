@@ -12,7 +12,7 @@ use Rattle.rv_prelude.specs.PieceRuns.{Comes, HasRegion, quietly}
 use Rattle.rv_prelude.specs.Region.{committed_words}
 use Rattle.rv_codegen.proofs.Around.{Chains, committed}
 use Rattle.rv_codegen.proofs.AroundKept.{frames-high}
-use Rattle.rv_codegen.proofs.Ending.{LeavesNone, binds-none}
+use Rattle.rv_codegen.proofs.Ending.{nothing-done}
 use Rattle.rv_codegen.proofs.Holding.{Holds, grows-same}
 use Rattle.rv_codegen.proofs.InputLeft.{left-same}
 use Rattle.rv_codegen.proofs.Performing.{Did, step-done}

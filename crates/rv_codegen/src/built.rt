@@ -39,11 +39,7 @@ fn are_built(graph: &Graph<'_>, needs: &[usize], items: &[u32]) -> bool
 }
 
 // whether there is code for a node that is done in one step
-fn is_built_primitive(
-    graph: &Graph<'_>,
-    needs: &[usize],
-    primitive: PrimitiveView<'_>,
-) -> bool
+fn is_built_primitive(graph: &Graph<'_>, needs: &[usize], primitive: PrimitiveView<'_>) -> bool
     requires operands { HasPrimitiveOperands graph.now.yielders primitive }
     requires needs { AreNeeds graph.now.yielders needs.now }
     ensures { result

@@ -161,8 +161,12 @@ pub fn generate(
     ensures right { IfOk result (λ code. IsRight
         (compiled_image (instruction_bytes code.words.items)
         capacity.stack capacity.units)
-        (record { action = action_of graph.now; table = unmarked table.now;
-        stack = capacity.stack; units = capacity.units })) }
+        (record {
+          action = action_of graph.now;
+          table = unmarked table.now;
+          stack = capacity.stack;
+          units = capacity.units;
+        })) }
     ensures full { IfOk result (λ code. capacity.stack < words_at (frames_of layout.now) 0
         → map Some code.words.items ≡ map encode (exit_with 3)) }
 {

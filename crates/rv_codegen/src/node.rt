@@ -89,7 +89,12 @@ fn append_escape(asm: &mut Asm, plan: Plan<'_, '_, '_>, k: usize) -> Result<(), 
 
 /// Appends what leaves data where node k does. Where one of their items yields nothing, that goes
 /// to the entry for failures.
-fn append_gives(asm: &mut Asm, plan: Plan<'_, '_, '_>, k: usize, items: &[u32]) -> Result<(), Memory>
+fn append_gives(
+    asm: &mut Asm,
+    plan: Plan<'_, '_, '_>,
+    k: usize,
+    items: &[u32],
+) -> Result<(), Memory>
     requires node { k < length plan.graph.now.nodes }
     requires made { first_label + length plan.labels.row.now ≤ asm.old.labels }
     requires items { AreItems plan.graph.now.yielders items.now }
@@ -242,7 +247,12 @@ fn append_sending(
 
 /// Appends what goes on where a yielder yields `true`, and else to the entry for failures.
 #[tactic(auto, using(crate::proofs::Fresh::freshness))]
-fn append_checks(asm: &mut Asm, plan: Plan<'_, '_, '_>, k: usize, yielder: u32) -> Result<(), Memory>
+fn append_checks(
+    asm: &mut Asm,
+    plan: Plan<'_, '_, '_>,
+    k: usize,
+    yielder: u32,
+) -> Result<(), Memory>
     requires node { k < length plan.graph.now.nodes }
     requires made { first_label + length plan.labels.row.now ≤ asm.old.labels }
     requires datum { IsDatum plan.graph.now.yielders yielder }

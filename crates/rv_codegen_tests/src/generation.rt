@@ -56,8 +56,8 @@ fn code_of(
     let capacity = Capacity { stack, units: 1 };
     match infer(alloc, arena, graph) {
         Ok(table) => {
-            let layout = layout(alloc, arena, graph, &table)?;
-            Ok(generate(alloc, graph, &table, &layout, capacity)?)
+            let frames = layout(alloc, arena, graph, &table)?;
+            Ok(generate(alloc, graph, &table, &frames, capacity)?)
         }
         Err(_error) => Err("no table".into()),
     }
