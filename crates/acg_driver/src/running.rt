@@ -11,9 +11,13 @@ ghost use Rattle.acg_driver.specs.Runs.{IsRun, IsLoaded};
 
 use crate::image::compiled_image;
 use crate::machine_run::run_machine;
-use acg_base::{DEFAULT_BUDGET, DEFAULT_STACK, DEFAULT_UNITS, Memory, Sink, SinkError, Status};
+use acg_base::{
+    Capacity, DEFAULT_BUDGET, DEFAULT_STACK, DEFAULT_UNITS, Memory, Sink, SinkError, Status,
+};
 use acg_words::print_header;
 use action_terms::Graph;
+use bumpalo::Bump;
+use frame_layout::layout;
 use rv_codegen::generate;
 use rv_machine::Machine;
 use sort_rules::{Table, factor};
@@ -34,7 +38,13 @@ pub fn load(alloc: Global, graph: &Graph<'_>, table: &Table<'_>) -> Result<Loade
     requires proper { IsTableOf (action_of graph.now) table.now }
     ensures { IfOk result (λ loaded. IsLoaded graph.now loaded) }
 {
-    let code = generate(alloc, graph)?;
+    let arena = Bump::new(alloc);
+    let frames = layout(alloc, &arena, graph, table)?;
+    let capacity = Capacity {
+        stack: DEFAULT_STACK,
+        units: DEFAULT_UNITS,
+    };
+    let code = generate(alloc, graph, table, &frames, capacity)?;
     let image = compiled_image(alloc, &code.words)?;
     let machine = Machine::load(alloc, image)?;
     let factor = factor(alloc, graph, table)?;

@@ -103,6 +103,79 @@ fn checks(rt: HostRuntime) -> Result<(), Fail> {
     Ok(())
 }
 
+// What is given is read where it was left, and nodes leave what they give one behind the other.
+#[test]
+fn data(rt: HostRuntime) -> Result<(), Fail> {
+    let alloc = rt.alloc();
+    assert!(rt;
+        acts(
+            alloc,
+            b"(give 1) then (send the given integer)",
+            b"stack 1048576 units 262144 factor 496\n1\ncompleted\n",
+            Status::Done,
+        )?
+    );
+    assert!(rt;
+        acts(
+            alloc,
+            b"(give 1 and (give 2 and then give 3)) \
+                then send difference(the given integer # 1, the given integer # 3)",
+            b"stack 1048576 units 262144 factor 784\n-2\ncompleted\n",
+            Status::Done,
+        )?
+    );
+    assert!(rt;
+        acts(
+            alloc,
+            b"(give (4, true)) then (regive then (check the given truth-value # 2 \
+                and then send the given integer # 1))",
+            b"stack 1048576 units 262144 factor 616\n4\ncompleted\n",
+            Status::Done,
+        )?
+    );
+    assert!(rt;
+        acts(
+            alloc,
+            b"(give 7) then escape",
+            b"stack 1048576 units 262144 factor 496\nescaped\n",
+            Status::Escaped,
+        )?
+    );
+    assert!(rt;
+        acts(
+            alloc,
+            b"give integer-quotient(1, 0) then send the given integer",
+            b"stack 1048576 units 262144 factor 592\nfailed\n",
+            Status::Failed,
+        )?
+    );
+    Ok(())
+}
+
+// Of 64 data the first and the last are read, in a frame of more than 4,095 words, where each of so many nodes moves
+// them on.
+#[test]
+fn data_of_64_places(rt: HostRuntime) -> Result<(), Fail> {
+    let mut action = Vec::from_slice(rt.alloc(), b"give (1, 2)")?;
+    for _turn in 0..5 {
+        action.extend_from_slice(b" then give (them, them)")?;
+    }
+    for _turn in 0..32 {
+        action.extend_from_slice(b" then regive")?;
+    }
+    action.extend_from_slice(b" then ((send the given integer # 1)")?;
+    action.extend_from_slice(b" and (send the given integer # 64))")?;
+    assert!(rt;
+        acts(
+            rt.alloc(),
+            &action,
+            b"stack 1048576 units 262144 factor 5080\n1\n2\ncompleted\n",
+            Status::Done,
+        )?
+    );
+    Ok(())
+}
+
 // Actions with no admissible table, those whose nodes have no code among them.
 const ILL_SORTED: [(&[u8], &[u8]); 7] = [
     (b"enact 1", b"ill-sorted 0\n"),
@@ -143,11 +216,11 @@ fn too_many_places(rt: HostRuntime) -> Result<(), Fail> {
 #[test]
 fn refusals(rt: HostRuntime) -> Result<(), Fail> {
     let alloc = rt.alloc();
-    assert!(rt; acts(alloc, b"give 1", b"unbuilt 0\n", Status::Action)?);
+    assert!(rt; acts(alloc, b"bind \"x\" to 1", b"unbuilt 0\n", Status::Action)?);
     assert!(rt;
         acts(
             alloc,
-            b"complete and give 1",
+            b"complete and bind \"x\" to 1",
             b"unbuilt 2\n",
             Status::Action
         )?

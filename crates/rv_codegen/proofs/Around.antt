@@ -1,5 +1,5 @@
 -- What stands in the machine for what stands around a node, and around an end.
-use Rattle.std.proofs.Common.{◌≡◌, ℕ, zero, suc, ◌+◌, ◌*◌, ◌<◌, ◌≤◌, List, [], ◌∷◌, ◌++◌}
+use Rattle.std.proofs.Common.{◌≡◌, ℕ, zero, suc, ◌+◌, ◌*◌, ◌<◌, ◌≤◌, List, [], ◌∷◌, ◌++◌, length}
 use Rattle.rv_asm.specs.Assembly.{address_of}
 use Rattle.rv_asm.specs.DataWords.{Heap}
 use Rattle.action_terms.specs.Information.{Token, Binds, Data}
@@ -52,15 +52,20 @@ module _ (s : Setting) where
     pub stays : Apart (s.places.Writes r) (s.places.out l)
     pub stays_bound : ApartSlots (s.places.Writes r) (s.places.bound_out l)
 
+  -- where a node leaves as many data as its parts, it leaves those of both. Where it leaves others, it never completes
+  abbrev pub JoinsData : (n l r : ℕ) → Type 0
+  JoinsData n l r =
+      length (s.places.out l) + length (s.places.out r) ≡ length (s.places.out n) → s.places.out n ≡ s.places.out l ++ s.places.out r
+
   -- the second part finds the data that the node found, and the node leaves those of both
   pub record Shares (n l r : ℕ) : Type 0 where
     pub right_given : s.places.given r ≡ s.places.given n
-    pub joins : s.places.out n ≡ s.places.out l ++ s.places.out r
+    pub joins : JoinsData n l r
 
   -- the second part finds the data that the first left, and the node leaves those of the second
   pub record HandsOver (n l r : ℕ) : Type 0 where
     pub right_given : s.places.given r ≡ s.places.out l
-    pub ends : s.places.out n ≡ s.places.out r
+    pub ends : length (s.places.out r) ≡ length (s.places.out n) → s.places.out n ≡ s.places.out r
 
   -- what a record of an alternative or a trap keeps
   pub record Kept (words : List ℕ) (n f : ℕ) (before : Chains) (arm : Point) : Type 0 where

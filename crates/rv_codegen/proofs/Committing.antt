@@ -12,7 +12,7 @@ use Rattle.rv_prelude.specs.PieceRuns.{Comes, HasRegion, quietly}
 use Rattle.rv_prelude.specs.Region.{committed_words}
 use Rattle.rv_codegen.proofs.Around.{Chains, committed}
 use Rattle.rv_codegen.proofs.AroundKept.{frames-high}
-use Rattle.rv_codegen.proofs.Ending.{LeavesNone, binds-none}
+use Rattle.rv_codegen.proofs.Ending.{nothing-done}
 use Rattle.rv_codegen.proofs.Holding.{Holds, grows-same}
 use Rattle.rv_codegen.proofs.InputLeft.{left-same}
 use Rattle.rv_codegen.proofs.Performing.{Did, step-done}
@@ -83,9 +83,5 @@ module _ (s : Setting) where
         }
 
     -- every alternative around the node is closed
-    pub commits-go : node_at s.action x.k ≡ Simple Commit → LeavesNone s x.k → StartGoesOn s x
-    commits-go e none =
-        let did = commit-did in
-        step-done s laid x n [] NoBinds (open-run s x.k x.d x.b x.world (Simple Commit) n e Here) refl did
-        (subst (λ os. Holds s.base did.heap did.words x.runs.here.f os []) (sym none.out) tt)
-        (binds-none s x.k none did.heap did.words x.runs.here.f)
+    pub commits-go : node_at s.action x.k ≡ Simple Commit → StartGoesOn s x
+    commits-go e = nothing-done s laid x n (open-run s x.k x.d x.b x.world (Simple Commit) n e Here) refl commit-did

@@ -1,35 +1,57 @@
--- The code of an action whose nodes are built has all that is asked of it: no node has data or bindings, and none is called.
-use Rattle.std.proofs.Common.{◌≡◌, ℕ, suc, ◌+◌, ◌*◌, ◌<◌, ◌≤◌, ℤ, true, false, List, [], ◌++◌, length, get_or, Option, Some, None, refl, sym, ap, ◌∙◌, subst, arith, inl, inr}
-use Rattle.std.specs.Prelude.{slice_get}
+-- The code of an action whose nodes are built has all that is asked of it, with the places of a layout for data: no node has bindings, and none is called.
+use Rattle.std.proofs.Common.{◌≡◌, ℕ, suc, ◌+◌, ◌*◌, ◌<◌, ◌≤◌, ℤ, true, false, List, [], ◌++◌, length, replicate, get_or, Option, Some, None, refl, sym, ap, ◌∙◌, subst, arith, inl, inr}
+use Rattle.std.specs.Prelude.{All, slice_get}
+use Rattle.std.proofs.lemmas.List.{length-replicate}
 use Rattle.std.proofs.lemmas.Option.{slice_get-get_or, slice_get_within}
 use Rattle.rv_asm.specs.Arrivals.{LabelsStand}
 use Rattle.rv_asm.specs.Assembly.{address_of, total, spot, code_of}
 use Rattle.rv_asm.specs.Conventions.{region_address, region_size, region_words}
 use Rattle.rv_asm.specs.Pieces.{exit_with}
 use Rattle.rv_asm.specs.WordMachine.{Has}
+use Rattle.rv_asm.specs.declared.item.Item.{Item}
 use Rattle.rv_asm.proofs.Labels.{length-code}
 use Rattle.rv_asm.proofs.Regions.{compiled-below}
-use Rattle.action_terms.specs.Actions.{Complete, Join, Chain, Then, Node, Simple, Both, Phases, Stray, Action, node_at, node_or_stray}
+use Rattle.action_terms.specs.Actions.{Complete, Join, Chain, AndThen, Then, Hence, Before, Node, Simple, Both, Phases, Stray, Action, node_at, node_or_stray}
+use Rattle.action_terms.specs.Information.{NoBinds, World}
 use Rattle.action_terms.specs.Literals.{NumbersFit}
 use Rattle.action_terms.specs.Need.{node_yielder_count}
-use Rattle.rv_codegen.specs.Blocks.{first_label, start_of, exits_of, action_items, opening, goes, body}
-use Rattle.sort_rules.specs.Measures.{sizes}
+use Rattle.rv_codegen.specs.Blocks.{first_label, start_of, exits_of, framed_items, opening, goes, body}
+use Rattle.sort_rules.specs.Admissible.{IsAdmissible}
+use Rattle.sort_rules.specs.Measures.{sizes, width}
+use Rattle.sort_rules.specs.Procedures.{procedure_of}
+use Rattle.frame_layout.specs.Layouts.{HasApartNodes, IsLayout}
+use Rattle.frame_layout.specs.Places.{Frame, PlacedNode}
+use Rattle.frame_layout.proofs.GraphParts.{HasTrees}
+use Rattle.rv_codegen.specs.Aliases.{AreByNumber, nowhere, place_at, places_in, put_frames, words_at}
 use Rattle.rv_codegen.specs.Measures.{factor_by}
 use Rattle.rv_codegen.specs.RightImage.{Subject}
 use Rattle.rv_codegen.specs.Built.{is_built_node}
-use Rattle.rv_codegen.proofs.Around.{IsPlaced, InOrder}
+use Rattle.rv_codegen.proofs.AliasLengths.{length-out_of}
+use Rattle.rv_codegen.proofs.AliasPlaces.{HasOwnWords, given-not_out, given-within, out-once, out-within}
+use Rattle.rv_codegen.proofs.AliasRows.{given-row}
+use Rattle.rv_codegen.proofs.AliasRules.{Passes, both-given_left, both-given_right, both-joined, phases-given_left, phases-given_right, phases-joined, then-ends, then-given_right}
+use Rattle.rv_codegen.proofs.AliasSettings.{alias-placed, both-stays, data_places, phases-stays, same-frame}
+use Rattle.rv_codegen.proofs.Around.{InOrder, Shares}
+use Rattle.rv_codegen.proofs.Ending.{none-long}
 use Rattle.rv_codegen.proofs.ExitLaws.{HasTree, PartExits, both-exits, phases-exits, root-exit}
+use Rattle.rv_codegen.proofs.Holding.{Apart}
+use Rattle.rv_codegen.proofs.LayoutWords.{in-fits, layout-words, words-reached, words-within}
 use Rattle.rv_codegen.proofs.NodeParts.{IsNode, IsPartOf, part-node}
-use Rattle.rv_codegen.proofs.RestPoints.{PhasePlaces, LaidPhases, LaidBoth}
-use Rattle.rv_codegen.proofs.Settings.{Way, DataPlaces, Procedures, Bodies, Setting, code, point, front, start}
+use Rattle.rv_codegen.proofs.PuttingPlaces.{put-by_number}
+use Rattle.rv_codegen.proofs.RestPoints.{DataLaid, PhasePlaces, LaidPhases, LaidBoth}
+use Rattle.rv_codegen.proofs.Settings.{Way, Bodies, Setting, code, point, front, start, frame_words}
 use Rattle.rv_codegen.proofs.Standing.{Stood, NodeStands, opens, action-stands}
+use Rattle.rv_codegen.proofs.Suited.{runs-in_shape}
+use Rattle.rv_codegen.proofs.SuitedEnds.{tree-completes}
+use Rattle.rv_codegen.proofs.SuitedPlaces.{out-length, out-width, suits}
 use Rattle.rv_codegen.proofs.Turns.{Compiled}
-use Rattle.rv_codegen.proofs.Unbound.{no_slots, NoTokens, joins-none, chains-none}
+use Rattle.rv_codegen.proofs.Unbound.{joins-none, chains-none}
 use Rattle.rv_codegen.proofs.Walk.{Cursor, way-stands}
 
 -- an action whose nodes have code and make a tree
 pub record IsCompilable (a : Action) : Type 0 where
   pub tree : HasTree a
+  pub trees : HasTrees a
   pub built : (k : ℕ) (n : Node) → slice_get a k ≡ Some n → is_built_node n ≡ true
   pub numbers : NumbersFit a
   pub few : (k : ℕ) → node_yielder_count (node_at a k) < 65536
@@ -45,21 +67,20 @@ built-node : (n : Node) → is_built_node n ≡ true → IsNode n
 built-node Stray h = absurd (let r : false ≡ true = h in cc)
 built-node _ h = tt
 
--- ---- no data, no bindings, no bodies
-
-abbrev empty_places : DataPlaces
-empty_places = record { given = λ k. []; out = λ k. []; bound = no_slots; bound_out = no_slots; BindsAt = NoTokens; Writes = λ k x. Unit {0}; keep = λ k. 0 }
-
-abbrev one_procedure : Procedures
-one_procedure = record { root_of = λ k. 0; words = λ r. 0; calls = λ n c. ⊥ }
+-- ---- no bindings, no bodies
 
 abbrev no_bodies : Bodies
 no_bodies = record { slots = λ c. []; entry = λ c. 0; words = λ c. 0; own = λ c. None; inside = λ c. tt }
 
--- the code of the action, in the region behind it
-abbrev pub setting : (x : Subject) → 400 ≤ factor_by x.action x.table → List ℤ → Setting
-setting x ample input =
-    let items = action_items x.action in
+-- frames in which the nodes of the action have places for what an admissible table gives them
+pub record HasFrames (x : Subject) (fs : List Frame) : Type 0 where
+  pub admissible : IsAdmissible x.action x.table
+  pub layout : IsLayout x.action x.table fs
+  pub apart : All HasApartNodes fs
+
+-- some code for the action, in the region behind it
+abbrev pub setting : (x : Subject) (fs : List Frame) (items : List Item) → 400 ≤ factor_by x.action x.table → List ℤ → Setting
+setting x fs items ample input =
     record {
       action = x.action;
       sizes = sizes x.action x.table;
@@ -71,9 +92,9 @@ setting x ample input =
       items = items;
       exits = exits_of x.action;
       labels = first_label + 4 * length x.action + 4;
-      widest = 0;
-      places = empty_places;
-      procedures = one_procedure;
+      widest = width (length x.action) x.table;
+      places = data_places x.action (places_in x.action fs) (words_at fs);
+      procedures = record { root_of = procedure_of x.action; words = words_at fs; calls = λ n c. ⊥ };
       bodies = no_bodies;
       base = region_address (4 * length (code_of items));
       count = region_words x.stack x.units;
@@ -81,12 +102,33 @@ setting x ample input =
       Takes = ⊥;
     }
 
-module _ (x : Subject) (ok : IsCompilable x.action) (labels : LabelsStand (action_items x.action)) (small : 4 * total (action_items x.action) < 1073741824) (ample : 400 ≤ factor_by x.action x.table) (paid : (k n : ℕ) → n ≤ 0 → 400 + 24 * (n + 1) * (node_yielder_count (node_at x.action k) + 1) ≤ factor_by x.action x.table) (some_words : 1 ≤ x.stack) (few_words : x.stack ≤ 16777216) (few_units : x.units ≤ 4194304) (input : List ℤ) where
-  abbrev s : Setting
-  s = setting x ample input
+-- what is asked of numbers
+pub record IsSized (x : Subject) (items : List Item) : Type 0 where
+  pub small : 4 * total items < 1073741824
+  pub ample : 400 ≤ factor_by x.action x.table
+  pub paid : (k n : ℕ) → n ≤ width (length x.action) x.table → 400 + 24 * (n + 1) * (node_yielder_count (node_at x.action k) + 1) ≤ factor_by x.action x.table
+  pub some_words : 1 ≤ x.stack
+  pub few_words : x.stack ≤ 16777216
+  pub few_units : x.units ≤ 4194304
 
-  pub stood : Stood (action_items x.action) x.action
-  stood = action-stands x.action (action_items x.action) refl labels
+module _ (x : Subject) (fs : List Frame) (ok : IsCompilable x.action) (framed : HasFrames x fs) (labels : LabelsStand (framed_items x.action fs)) (sized : IsSized x (framed_items x.action fs)) (input : List ℤ) where
+  abbrev s : Setting
+  s = setting x fs (framed_items x.action fs) sized.ample input
+
+  abbrev ns : List PlacedNode
+  ns = put_frames fs (replicate (length x.action) nowhere)
+
+  abbrev p : ℕ → PlacedNode
+  p = place_at ns
+
+  by_number : AreByNumber x.action fs ns
+  by_number = put-by_number x.action x.table fs framed.layout ns (record { start = replicate (length x.action) nowhere; long = length-replicate (length x.action) nowhere; are = refl })
+
+  own : HasOwnWords x.action p (words_at fs)
+  own = layout-words x.action ok.trees x.table fs framed.layout framed.apart ns by_number
+
+  pub stood : Stood (framed_items x.action fs) s.places.given s.places.out x.action
+  stood = action-stands s.places.given s.places.out x.action (framed_items x.action fs) refl labels
 
   here : (k : ℕ) → IsNode (node_at x.action k) → slice_get x.action k ≡ Some (node_at x.action k)
   here k h = there (slice_get x.action k) h
@@ -103,7 +145,7 @@ module _ (x : Subject) (ok : IsCompilable x.action) (labels : LabelsStand (actio
   part-there n k part = within-node k (ok.tree.within n k (node_at x.action n) (here n (part-node (node_at x.action n) k part)) part)
 
   -- the code of a node that is there
-  each : (k : ℕ) → IsNode (node_at x.action k) → NodeStands s.items s.exits k (node_at x.action k)
+  each : (k : ℕ) → IsNode (node_at x.action k) → NodeStands s.items s.places.given s.places.out s.exits k (node_at x.action k)
   each k h = stood.each k (node_at x.action k) (here k h)
 
   -- the front of a node leads to its start without an instruction
@@ -114,86 +156,108 @@ module _ (x : Subject) (ok : IsCompilable x.action) (labels : LabelsStand (actio
       inl (o.front ∙ sym o.start, omega (arith, lt))
 
   -- the start of a node with parts leads to that of its first part
-  start-leads : (k l : ℕ) (n : Node) → IsNode n → NodeStands s.items s.exits k n → k < length x.action → body k (get_or s.exits k 0) n ≡ goes (start_of (suc k)) (start_of l) → Way (code s) (start s k) (start s l)
+  start-leads : (k l : ℕ) (n : Node) → IsNode n → NodeStands s.items s.places.given s.places.out s.exits k n → k < length x.action → body (s.places.given k) (s.places.out k) k (get_or s.exits k 0) n ≡ goes (start_of (suc k)) (start_of l) → Way (code s) (start s k) (start s l)
   start-leads k l n node stands lt is =
       let c = subst (λ b. Cursor s.items stands.place (b ++ (opening (suc k) ++ stands.behind))) is stands.opened.cursor in
       way-stands s stands.place (start_of k) (start_of (suc k)) (start_of l) (opening (suc k) ++ stands.behind) stands.opened.start c (λ c'. (opens s.items labels (suc k) stands.place stands.behind c').start) (omega (arith, lt))
 
-  in-order : (k l r : ℕ) → IsNode (node_at x.action r) → Way (code s) (start s k) (start s l) → PartExits x.action ok.tree k l r → InOrder s k l r
-  in-order k l r node enter exits = record {
-    enter = enter;
-    first_exit = ap (point s) exits.first;
-    turn = front-leads r node;
-    second_exit = ap (point s) exits.second;
-    stays = tt;
-    stays_bound = tt;
-  }
+  -- the parts of a node with two parts are performed in order
+  in-order : (k l r : ℕ) (n : Node) → node_at x.action k ≡ n → IsNode n → IsPartOf n r → body (s.places.given k) (s.places.out k) k (get_or s.exits k 0) n ≡ goes (start_of (suc k)) (start_of l) → PartExits x.action ok.tree k l r → Apart (s.places.Writes r) (s.places.out l) → InOrder s k l r
+  in-order k l r n e some part is exits stays =
+      let node : IsNode (node_at x.action k) = subst IsNode (sym e) some in
+      let second = part-there k r (subst (λ m. IsPartOf m r) (sym e) part) in
+      let stands = subst (NodeStands s.items s.places.given s.places.out s.exits k) e (each k node) in
+      record {
+        enter = start-leads k l n some stands (within k node) is;
+        first_exit = ap (point s) exits.first;
+        turn = front-leads r second;
+        second_exit = ap (point s) exits.second;
+        stays = stays;
+        stays_bound = tt;
+      }
 
   node-there : (k : ℕ) (n : Node) → node_at x.action k ≡ n → IsNode n → slice_get x.action k ≡ Some n
   node-there k n e h = here k (subst IsNode (sym e) h) ∙ ap Some e
 
-  -- the parts of a node with two parts are performed in order
-  parts-in-order : (k l r : ℕ) (n : Node) → node_at x.action k ≡ n → IsNode n → IsPartOf n r → body k (get_or s.exits k 0) n ≡ goes (start_of (suc k)) (start_of l) → PartExits x.action ok.tree k l r → InOrder s k l r
-  parts-in-order k l r n e some part is exits =
-      let node : IsNode (node_at x.action k) = subst IsNode (sym e) some in
-      let second = part-there k r (subst (λ m. IsPartOf m r) (sym e) part) in
-      let stands = subst (NodeStands s.items s.exits k) e (each k node) in
-      in-order k l r second (start-leads k l n some stands (within k node) is) exits
-
-  -- no data have places
-  no-data : (q : Chain) (k l r : ℕ) → PhasePlaces s q k l r
-  no-data Then k l r = record { right_given = refl; ends = refl }
-  no-data _ k l r = record { right_given = refl; joins = refl }
+  -- a node leaves as many data as it has words of its own
+  long : (k : ℕ) → length (s.places.out k) ≡ length (p k).data_out
+  long k = length-out_of x.action ok.trees p k
 
   both-laid : (k l r : ℕ) (j : Join) → node_at x.action k ≡ Both j l r → LaidBoth s j k l r
   both-laid k l r j e = record {
-    order = inl (parts-in-order k l r (Both j l r) e tt (inr refl) refl (both-exits x.action ok.tree k l r j (node-there k (Both j l r) e tt)));
-    left_given = refl;
-    right_given = refl;
+    order = inl (in-order k l r (Both j l r) e tt (inr refl) refl (both-exits x.action ok.tree k l r j (node-there k (Both j l r) e tt)) (both-stays s ok.trees p (words_at fs) own k l r j e));
+    left_given = both-given_left x.action ok.trees p k l r j e;
+    right_given = both-given_right x.action ok.trees p k l r j e;
     left_bound = refl;
     right_bound = refl;
-    joins = refl;
+    joins = λ q. both-joined x.action ok.trees p k l r j e (omega (arith, q, long l, long r));
     binds = joins-none j k l r;
   }
 
+  shared : (q : Chain) (k l r : ℕ) → node_at x.action k ≡ Phases q l r → Passes x.action ok.trees p q → Shares s k l r
+  shared q k l r e passes = record {
+    right_given = phases-given_right x.action ok.trees p k l r q passes e;
+    joins = λ z. phases-joined x.action ok.trees p k l r q passes e (omega (arith, z, long l, long r));
+  }
+
+  phase-places : (q : Chain) (k l r : ℕ) → node_at x.action k ≡ Phases q l r → PhasePlaces s q k l r
+  phase-places Then k l r e = record {
+    right_given = then-given_right x.action ok.trees p k l r e;
+    ends = λ z. then-ends x.action ok.trees p k l r e (sym (long r) ∙ z);
+  }
+  phase-places AndThen k l r e = shared AndThen k l r e tt
+  phase-places Hence k l r e = shared Hence k l r e tt
+  phase-places Before k l r e = shared Before k l r e tt
+
   phases-laid : (k l r : ℕ) (q : Chain) → node_at x.action k ≡ Phases q l r → LaidPhases s q k l r
   phases-laid k l r q e = record {
-    order = parts-in-order k l r (Phases q l r) e tt (inr refl) refl (phases-exits x.action ok.tree k l r q (node-there k (Phases q l r) e tt));
-    left_given = refl;
+    order = in-order k l r (Phases q l r) e tt (inr refl) refl (phases-exits x.action ok.tree k l r q (node-there k (Phases q l r) e tt)) (phases-stays s ok.trees p (words_at fs) own k l r q e);
+    left_given = phases-given_left x.action ok.trees p k l r q e;
     left_bound = refl;
-    places = no-data q k l r;
+    places = phase-places q k l r e;
     binds = chains-none q k l r;
   }
 
-  placed : IsPlaced s
-  placed = record {
-    given_apart = λ k. tt;
-    bound_apart = λ k. tt;
-    inside = λ n k o part w. tt;
-    beyond = λ k o le. tt;
-    low = λ k o w lt. absurd (omega arith);
-    some_frame = λ n c h. absurd h;
-    keep_apart = λ opens. absurd opens;
+  data-laid : DataLaid s
+  data-laid = record {
+    reached = λ k h. words-reached x.action ok.trees x.table fs framed.layout framed.apart ns by_number k (within k h);
+    given_within = λ k o h m. (given-within x.action ok.trees p (words_at fs) own k o (within k h) m).1;
+    out_within = λ k o h m. (out-within x.action ok.trees p (words_at fs) own k o (within k h) m).1;
+    apart = λ k o h m n. given-not_out x.action ok.trees p (words_at fs) own k o (within k h) m n;
+    once = λ k h. out-once x.action ok.trees p (words_at fs) own k (within k h);
+    few = λ k h. out-width x.action ok.trees x.table fs framed.layout framed.apart ns by_number k (within k h);
+    written = λ k o m. inr (inl m);
+    row = λ k. given-row x.action ok.trees x.table fs framed.layout framed.apart ns by_number k;
+    unbound = λ k. refl;
+    escaped = λ k. (p k).escaped;
+    suits = λ steps frames k d b w node reached. suits x.action ok.trees x.table fs framed.layout framed.apart ns by_number framed.admissible input steps frames k (within k node) d b w reached;
+    fills = λ steps frames n t w m e u node own_tree reached step ends.
+        (tree-completes x.action x.table framed.admissible input steps frames n t w m e u own_tree reached step ends).given
+        ∙ sym (out-length x.action ok.trees x.table fs framed.layout framed.apart ns by_number n (within n node));
   }
 
   base-below : s.base + region_size x.stack x.units < 2000000000
-  base-below = compiled-below (4 * length (code s)) x.stack x.units (omega (arith, length-code (spot s.items) 0 s.items)) few_words few_units
+  base-below = compiled-below (4 * length (code s)) x.stack x.units (omega (arith, length-code (spot s.items) 0 s.items, sized.small)) sized.few_words sized.few_units
+
+  main-within : frame_words s 0 ≤ s.sizes.main_slots
+  main-within = words-within x.action ok.trees x.table fs framed.layout framed.apart ns by_number 0 ok.some
 
   pub compiled : Compiled s
   compiled = record {
     laid = record {
-      placed = placed;
+      placed = alias-placed s ok.trees p (words_at fs) own (λ n c h. absurd h);
+      data_laid = data-laid;
       part_node = part-there;
-      same_frame = λ n k part. refl;
-      main_within = omega arith;
+      same_frame = λ n k part. same-frame s ok.trees p (words_at fs) own n k part;
+      main_within = main-within;
       body_within = λ n c h. absurd h;
       phases = phases-laid;
       both = both-laid;
-      small = omega (arith, small);
-      paid = paid;
+      small = omega (arith, sized.small);
+      paid = sized.paid;
       aligned = omega arith;
       below = omega (arith, base-below);
-      some = omega (arith, some_words);
+      some = omega (arith, sized.some_words);
       units_inside = omega arith;
     };
     labels = labels;
@@ -202,8 +266,6 @@ module _ (x : Subject) (ok : IsCompilable x.action) (labels : LabelsStand (actio
     numbers = ok.numbers;
     few = ok.few;
     within = λ k h. omega (arith, within k h);
-    unfed = λ k. refl;
-    none = λ k p e. record { out = refl; bound_out = refl };
     closed = λ h. h;
     uncalled = λ n c h. h;
     completed = subst (λ i. Has (code s) (address_of (spot s.items i)) (exit_with 0)) (sym (root-exit x.action ok.tree ok.some)) stood.completed;
@@ -215,3 +277,10 @@ module _ (x : Subject) (ok : IsCompilable x.action) (labels : LabelsStand (actio
   -- the root is a node
   pub root-there : IsNode (node_at x.action 0)
   root-there = within-node 0 ok.some
+
+  -- nothing is given to the root
+  pub root-places : s.places.given 0 ≡ []
+  root-places =
+      let w : World = record { cells = []; output = []; input = input } in
+      let none = runs-in_shape x.action x.table framed.admissible input [] [] 0 [] NoBinds w refl in
+      none-long (p 0).data_in (none.given ∙ sym (in-fits x.action ok.trees x.table fs framed.layout framed.apart ns by_number 0 ok.some))

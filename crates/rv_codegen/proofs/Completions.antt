@@ -1,6 +1,7 @@
 -- A node that completes where its last part did: its frame's own step needs no instruction.
-use Rattle.std.proofs.Common.{◌≡◌, ℕ, List, ◌∷◌, refl, sym, ap, ◌∙◌, subst, arith, inl, inr}
+use Rattle.std.proofs.Common.{◌≡◌, ℕ, ◌+◌, List, ◌∷◌, ◌++◌, length, refl, sym, ap, ◌∙◌, subst, arith, inl, inr, length-append}
 use Rattle.rv_asm.specs.Assembly.{address_of}
+use Rattle.rv_asm.specs.DataWords.{Heap}
 use Rattle.rv_asm.proofs.Moments.{quiet-advance}
 use Rattle.action_terms.specs.Information.{Binds, Data}
 use Rattle.action_terms.specs.Actions.{node_at}
@@ -9,13 +10,22 @@ use Rattle.action_terms.specs.Performances.{OneOf}
 use Rattle.action_terms.specs.Steps.{Letter, open_steps}
 use Rattle.action_terms.specs.Frames.{Frame, InTail, wrap, plugged}
 use Rattle.action_terms.proofs.Parts.{quiet, reaches-quiet}
-use Rattle.rv_codegen.proofs.Around.{Leaves, BindsLeft, TailFrame, Around}
+use Rattle.rv_codegen.proofs.Around.{JoinsData, Leaves, BindsLeft, TailFrame, Around}
 use Rattle.rv_codegen.proofs.Configurations.{depth, performances}
-use Rattle.rv_codegen.proofs.Holding.{Holds, HoldsBinds}
+use Rattle.rv_codegen.proofs.GivenItems.{holds-length}
+use Rattle.rv_codegen.proofs.Holding.{Holds, HoldsBinds, holds-append}
 use Rattle.rv_codegen.proofs.NodeParts.{IsPartOf, tail-part, part-node}
 use Rattle.rv_codegen.proofs.RestPoints.{Laid, IsAt, Completing, completes, EndGoesOn}
 use Rattle.rv_codegen.proofs.Settings.{Setting, code, exit}
 use Rattle.rv_codegen.proofs.Units.{units-more}
+
+-- the data of both parts, where the node leaves those of both
+pub both-left : (s : Setting) (heap : Heap) (words : List ℕ) (f n l r : ℕ) (d1 d2 : Data) → JoinsData s n l r → Leaves s heap words f l d1 → Leaves s heap words f r d2 → length (d1 ++ d2) ≡ length (s.places.out n) → Leaves s heap words f n (d1 ++ d2)
+both-left s heap words f n l r d1 d2 joins left right full =
+    let first = holds-length s.base heap words f (s.places.out l) d1 left in
+    let second = holds-length s.base heap words f (s.places.out r) d2 right in
+    subst (λ os. Holds s.base heap words f os (d1 ++ d2)) (sym (joins (omega (arith, full, length-append d1 d2, first, second))))
+    (holds-append s.base heap words f (s.places.out l) (s.places.out r) d1 d2 left right)
 
 module _ (s : Setting) (laid : Laid s) where
   -- node n around the part that has completed

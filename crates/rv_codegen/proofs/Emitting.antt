@@ -1,14 +1,17 @@
 -- What the functions that append code leave, put together from what each of them ensures.
-use Rattle.std.proofs.Common.{◌≡◌, ◌≢◌, ℕ, ◌<◌, ◌+◌, ◌≤◌, List, [], ◌∷◌, ◌++◌, false, OnOk, Result, Ok, Err, map, sym, ap, ◌∙◌, subst, arith, inl, inr, append_assoc}
+use Rattle.std.proofs.Common.{◌≡◌, ◌≢◌, ℕ, ◌<◌, ◌+◌, ◌≤◌, List, [], ◌∷◌, ◌++◌, length, false, OnOk, Result, Ok, Err, map, refl, sym, ap, ◌∙◌, subst, arith, inl, inr, append_assoc}
+use Rattle.std.proofs.lemmas.List.{map-append}
 use Rattle.rv_asm.specs.Assembly.{Listing, is_placed, total}
 use Rattle.rv_asm.specs.Pieces.{appended}
 use Rattle.rv_code.specs.declared.instruction.Inst.{Inst}
 use Rattle.rv_asm.specs.declared.item.Item.{Item}
 use Rattle.rv_asm.specs.declared.item.Item.TheVariants.{Plain, Mark, Jump, Address}
 use Rattle.rv_asm.proofs.Labels.{total-append}
-use Rattle.rv_codegen.specs.Blocks.{first_label, joint_of, front_of, start_of, stop_of, opening, prelude, entries}
+use Rattle.rv_yield.proofs.ItemLaws.{IsShort, placed-unmarked}
+use Rattle.rv_codegen.specs.Blocks.{first_label, joint_of, front_of, start_of, stop_of, opening, prelude, entries, address_items}
 use Rattle.rv_codegen.specs.Marks.{extended, AreFresh, PlacesStop}
-use Rattle.rv_codegen.proofs.Fresh.{fresh-mark, fresh-plain, fresh-jump, fresh-opening, total-jump}
+use Rattle.rv_codegen.proofs.Fresh.{fresh-mark, fresh-plain, fresh-jump, fresh-opening, total-jump, total-plain}
+use Rattle.rv_codegen.proofs.FrameAddresses.{length-address}
 
 -- what an `Ok` tells tells what follows from it
 pub OnOk-then : {T E A B : Type 0} (r : Result T E) → (A → B) → OnOk r A → OnOk r B
@@ -78,14 +81,14 @@ call-short s s1 s2 s3 l m e1 e2 e3 =
 pub mark-short : (s s1 : Listing) (l : ℕ) → s1 ≡ marked s l → total s1.items ≡ total s.items
 mark-short s s1 l e = ap (λ z. total z.items) e ∙ total-append s.items (Mark l ∷ []) ∙ omega arith
 
--- an instruction and a jump
-module _ (s s1 s2 : Listing) (i : Inst) (m : ℕ) (first : s1 ≡ appended s (i ∷ [])) (second : s2 ≡ record s1 { items = s1.items ++ Jump m ∷ [] }) where
+-- instructions and a jump
+module _ (s s1 s2 : Listing) (is : List Inst) (m : ℕ) (first : s1 ≡ appended s is) (second : s2 ≡ record s1 { items = s1.items ++ Jump m ∷ [] }) where
   pub jumping-keeps : (k : ℕ) → PlacesStop k s.items s2.items
   jumping-keeps k l ne h =
-      subst (λ z. is_placed z.items l ≡ false) (sym second) (fresh-jump s1.items m l (subst (λ z. is_placed z.items l ≡ false) (sym first) (fresh-plain s.items (i ∷ []) l h)))
+      subst (λ z. is_placed z.items l ≡ false) (sym second) (fresh-jump s1.items m l (subst (λ z. is_placed z.items l ≡ false) (sym first) (fresh-plain s.items is l h)))
 
-  pub jumping-short : total s2.items ≤ total s.items + 3
-  jumping-short = omega (arith, ap (λ z. total z.items) first, total-append s.items (map Plain (i ∷ [])), ap (λ z. total z.items) second, total-jump s1.items m)
+  pub jumping-short : total s2.items ≡ total s.items + length is + 2
+  jumping-short = omega (arith, ap (λ z. total z.items) first, total-append s.items (map Plain is), total-plain is, ap (λ z. total z.items) second, total-jump s1.items m)
 
 -- one piece and then another
 pub both-appended : (s s1 s2 : Listing) (a b b' : List Item) → s1 ≡ record s { items = s.items ++ a } → s2 ≡ record s1 { items = s1.items ++ b } → b ≡ b' → s2 ≡ record s { items = s.items ++ (a ++ b') }
@@ -99,3 +102,29 @@ OnOk-always A (Err e) a = tt
 pub OnOk-both : {T E : Type 0} (A B : Type 0) (r : Result T E) → OnOk r A → OnOk r B → OnOk r (A × B)
 OnOk-both A B (Ok x) a b = (a, b)
 OnOk-both A B (Err e) a b = tt
+
+-- instructions behind others
+pub plain-both : (s s1 s2 : Listing) (a b : List Inst) → s1 ≡ appended s a → s2 ≡ appended s1 b → s2 ≡ appended s (a ++ b)
+plain-both s s1 s2 a b e1 e2 = both-appended s s1 s2 (map Plain a) (map Plain b) (map Plain b) e1 e2 refl ∙ ap (λ l. record s { items = s.items ++ l }) (sym (map-append Plain a b))
+
+-- a short piece and the stop of a node
+module _ (s s1 s2 : Listing) (piece : List Item) (limit m : ℕ) (short : IsShort limit piece) (first : s1 ≡ record s { items = s.items ++ piece }) (second : s2 ≡ marked s1 m) where
+  pub piece-short : total s2.items ≤ total s.items + limit
+  piece-short = omega (arith, mark-short s1 s2 m second, ap (λ z. total z.items) first, total-append s.items piece, short.few)
+
+  pub piece-keeps : (k : ℕ) → m ≡ stop_of k → PlacesStop k s.items s2.items
+  piece-keeps k is l ne h =
+      let kept : is_placed s1.items l ≡ false = ap (λ z. is_placed z.items l) first ∙ placed-unmarked s.items piece l short.unmarked ∙ h in
+      mark-keeps s1 s2 m l second (λ e. ne (sym (sym is ∙ e))) kept
+
+-- a piece and a mark behind it
+pub whole-piece : (s s1 s2 : Listing) (piece : List Item) (m : ℕ) → s1 ≡ record s { items = s.items ++ piece } → s2 ≡ marked s1 m → s2 ≡ record s { items = s.items ++ (piece ++ Mark m ∷ []) }
+whole-piece s s1 s2 piece m e1 e2 = both-appended s s1 s2 piece (Mark m ∷ []) (Mark m ∷ []) e1 e2 refl
+
+-- where a short piece was appended, a label that wasn't placed still isn't
+pub piece-unplaced : (s s1 : Listing) (piece : List Item) (limit m : ℕ) → IsShort limit piece → s1 ≡ record s { items = s.items ++ piece } → is_placed s.items m ≡ false → is_placed s1.items m ≡ false
+piece-unplaced s s1 piece limit m short first h = ap (λ z. is_placed z.items m) first ∙ placed-unmarked s.items piece m short.unmarked ∙ h
+
+-- the address of a word and a jump
+pub address-short : (s s1 s2 : Listing) (o m : ℕ) → s1 ≡ appended s (address_items o) → s2 ≡ record s1 { items = s1.items ++ Jump m ∷ [] } → total s2.items ≤ total s.items + 11
+address-short s s1 s2 o m first second = omega (arith, jumping-short s s1 s2 (address_items o) m first second, length-address o)

@@ -1,5 +1,5 @@
--- Nodes whose code is a way at most: `complete`, `commit`, `regive` where nothing is given, and `fail`.
-use Rattle.std.proofs.Common.{◌≡◌, ℕ, suc, ◌<◌, List, [], ◌∷◌, ◌++◌, None, Some, get_or, refl, sym, ap, ap₂, ◌∙◌, subst, arith, inr}
+-- Nodes whose code is a way at most: `complete`, `commit` and `fail`.
+use Rattle.std.proofs.Common.{◌≡◌, ℕ, suc, ◌<◌, List, [], ◌∷◌, ◌++◌, length, None, Some, get_or, refl, sym, ap, ap₂, ◌∙◌, subst, arith, inr}
 use Rattle.rv_asm.specs.Arrivals.{LabelsStand}
 use Rattle.rv_asm.specs.Assembly.{address_of, far_jump, spot}
 use Rattle.rv_asm.specs.DataWords.{Heap}
@@ -7,14 +7,14 @@ use Rattle.rv_asm.specs.WordMachine.{Has}
 use Rattle.rv_asm.specs.declared.item.Item.{Item}
 use Rattle.rv_asm.proofs.Stretches.{quiet-between}
 use Rattle.action_terms.specs.Information.{NoBinds}
-use Rattle.action_terms.specs.Actions.{Primitive, Complete, Failing, Commit, Regive, Simple, node_at}
-use Rattle.action_terms.specs.Acting.{Done, Ended}
+use Rattle.action_terms.specs.Actions.{Primitive, Complete, Failing, Commit, Simple, node_at}
+use Rattle.action_terms.specs.Acting.{Run}
 use Rattle.action_terms.specs.Performances.{OneOf, Here, messages_bytes}
-use Rattle.action_terms.specs.Steps.{Step, Commits, silent, with_effect, commits, world_after, done, failed, making, closures_of, performed}
+use Rattle.action_terms.specs.Steps.{Step, Commits, silent, with_effect, commits, world_after, done, failed, making, closures_of, performed, open_steps}
 use Rattle.action_terms.specs.Frames.{plugged}
 use Rattle.rv_codegen.specs.Blocks.{fail_label, front_of, start_of, opening, leaves, body}
 use Rattle.rv_codegen.proofs.Around.{committed, BindsLeft}
-use Rattle.rv_codegen.proofs.Holding.{Holds, HoldsBinds, grows-same, none-held}
+use Rattle.rv_codegen.proofs.Holding.{Holds, HoldsBinds, grows-same}
 use Rattle.rv_codegen.proofs.InputLeft.{Left, left-same}
 use Rattle.rv_codegen.proofs.Performing.{chains_after, Did, step-done, step-failed}
 use Rattle.rv_codegen.proofs.RestPoints.{Laid, Region, Starting, StartGoesOn, near, open-run, went-stands}
@@ -23,15 +23,15 @@ use Rattle.rv_codegen.proofs.Standing.{NodeStands, opens}
 use Rattle.rv_codegen.proofs.Units.{Units, units-more}
 use Rattle.rv_codegen.proofs.Walk.{Cursor, way-stands, jump-stands}
 
--- a node that leaves no data and binds nothing
-pub record LeavesNone (s : Setting) (k : ℕ) : Type 0 where
-  pub out : s.places.out k ≡ []
-  pub bound_out : s.places.bound_out k ≡ []
+-- no words are listed where there are none
+pub none-long : (os : List ℕ) → 0 ≡ length os → os ≡ []
+none-long [] e = refl
+none-long (o ∷ os) e = absurd (omega arith)
 
 module _ (s : Setting) where
-  pub binds-none : (k : ℕ) → LeavesNone s k → (heap : Heap) (words : List ℕ) (f : ℕ) → BindsLeft s heap words f k NoBinds
+  pub binds-none : (k : ℕ) → s.places.bound_out k ≡ [] → (heap : Heap) (words : List ℕ) (f : ℕ) → BindsLeft s heap words f k NoBinds
   binds-none k none heap words f = record {
-    held = subst (λ ss. HoldsBinds s.base heap words f ss NoBinds) (sym none.bound_out) tt;
+    held = subst (λ ss. HoldsBinds s.base heap words f ss NoBinds) (sym none) tt;
     table = record { ascends = tt; among = λ t x q. absurd (let r : None ≡ Some x = q in cc) };
   }
 
@@ -41,9 +41,13 @@ module _ (s : Setting) where
       way-stands s n from (front_of (suc k)) (get_or s.exits k 0) (opening (suc k) ++ behind) here c (λ c'. (opens s.items labels (suc k) n behind c').front) (omega arith)
 
   module _ (laid : Laid s) (x : Starting s) where
-    -- where there are no places for what is given, nothing is
-    pub none-given : s.places.given x.k ≡ [] → x.d ≡ []
-    none-given unfed = none-held s.base x.runs.here.heap x.runs.here.words x.runs.here.f x.d (subst (λ os. Holds s.base x.runs.here.heap x.runs.here.words x.runs.here.f os x.d) unfed x.runs.given)
+    -- the node completes without data and bindings
+    pub nothing-done : (n : Step) → OneOf n (open_steps s.action x.world (Run x.k x.d x.b)) → n.tree ≡ done → Did s laid x n (exit s x.k) → StartGoesOn s x
+    nothing-done n o tree did =
+        let none = none-long (s.places.out x.k) (laid.data_laid.fills x.steps x.frames x.k (Run x.k x.d x.b) x.world n [] NoBinds x.runs.here.node refl x.reached o tree) in
+        step-done s laid x n [] NoBinds o tree did
+        (subst (λ os. Holds s.base did.heap did.words x.runs.here.f os []) (sym none) tt)
+        (binds-none x.k (laid.data_laid.unbound x.k) did.heap did.words x.runs.here.f)
 
     -- a way from the node's start is all that its code does, for a step that leaves the world as it is
     way-did : (n : Step) (to : ℕ) → world_after n.effect x.world ≡ x.world → Region s x.runs.here.words (chains_after (commits n.effect) x.runs.here.chains) → Way (code s) (start s x.k) (point s to) → Did s laid x n (point s to)
@@ -69,34 +73,26 @@ module _ (s : Setting) where
           output = g.output ∙ x.shown ∙ ap (λ w. messages_bytes w.output) (sym same);
         }
 
-    -- the node completes without data and bindings, where its code goes on at once
-    ends-goes : (p : Primitive) (n : Step) → node_at s.action x.k ≡ Simple p → performed p x.d x.b x.world ≡ n → closures_of p ≡ [] → n.made ≡ [] → n.tree ≡ done → world_after n.effect x.world ≡ x.world → Region s x.runs.here.words (chains_after (commits n.effect) x.runs.here.chains) → LabelsStand s.items → start_of x.k < s.labels → LeavesNone s x.k → NodeStands s.items s.exits x.k (Simple p) → body x.k (get_or s.exits x.k 0) (Simple p) ≡ leaves x.k (get_or s.exits x.k 0) → StartGoesOn s x
-    ends-goes p n e is none_made none_in tree same region labels within none stands code_is =
+    -- so it does where its code goes on at once
+    ends-goes : (p : Primitive) (n : Step) → node_at s.action x.k ≡ Simple p → performed p x.d x.b x.world ≡ n → closures_of p ≡ [] → n.made ≡ [] → n.tree ≡ done → world_after n.effect x.world ≡ x.world → Region s x.runs.here.words (chains_after (commits n.effect) x.runs.here.chains) → LabelsStand s.items → start_of x.k < s.labels → NodeStands s.items s.places.given s.places.out s.exits x.k (Simple p) → body (s.places.given x.k) (s.places.out x.k) x.k (get_or s.exits x.k 0) (Simple p) ≡ leaves x.k (get_or s.exits x.k 0) → StartGoesOn s x
+    ends-goes p n e is none_made none_in tree same region labels within stands code_is =
         let cursor = subst (λ b. Cursor s.items stands.place (b ++ (opening (suc x.k) ++ stands.behind))) code_is stands.opened.cursor in
         let way = leaves-stand labels x.k stands.place (start_of x.k) stands.behind stands.opened.start (omega arith) within cursor in
         let did = way-did n (get_or s.exits x.k 0) same region way in
         let made : making (closures_of p) x.b (performed p x.d x.b x.world) ≡ n = ap₂ (λ cs m. making cs x.b m) none_made is ∙ ap (λ ms. record n { made = ms }) (sym none_in) in
         let o = open-run s x.k x.d x.b x.world (Simple p) n e (subst (λ m. OneOf n (m ∷ [])) (sym made) Here) in
-        step-done s laid x n [] NoBinds o tree did
-        (subst (λ os. Holds s.base did.heap did.words x.runs.here.f os []) (sym none.out) tt)
-        (binds-none x.k none did.heap did.words x.runs.here.f)
+        nothing-done n o tree did
 
-    pub complete-goes : node_at s.action x.k ≡ Simple Complete → LabelsStand s.items → start_of x.k < s.labels → LeavesNone s x.k → NodeStands s.items s.exits x.k (Simple Complete) → StartGoesOn s x
-    complete-goes e labels within none stands = ends-goes Complete (silent done) e refl refl refl refl refl x.runs.here.region labels within none stands refl
+    pub complete-goes : node_at s.action x.k ≡ Simple Complete → LabelsStand s.items → start_of x.k < s.labels → NodeStands s.items s.places.given s.places.out s.exits x.k (Simple Complete) → StartGoesOn s x
+    complete-goes e labels within stands = ends-goes Complete (silent done) e refl refl refl refl refl x.runs.here.region labels within stands refl
 
     -- no alternative is open, so nothing has to be closed
-    pub commit-goes : (s.Opens → ⊥) → node_at s.action x.k ≡ Simple Commit → LabelsStand s.items → start_of x.k < s.labels → LeavesNone s x.k → NodeStands s.items s.exits x.k (Simple Commit) → StartGoesOn s x
-    commit-goes closed e labels within none stands =
+    pub commit-goes : (s.Opens → ⊥) → node_at s.action x.k ≡ Simple Commit → LabelsStand s.items → start_of x.k < s.labels → NodeStands s.items s.places.given s.places.out s.exits x.k (Simple Commit) → StartGoesOn s x
+    commit-goes closed e labels within stands =
         let region : Region s x.runs.here.words (committed x.runs.here.chains) = record { size = x.runs.here.region.size; alternative = λ o. absurd (closed o); trap = λ o. absurd (closed o); mark = λ o. absurd (closed o) } in
-        ends-goes Commit (with_effect Commits done) e refl refl refl refl refl region labels within none stands refl
+        ends-goes Commit (with_effect Commits done) e refl refl refl refl refl region labels within stands refl
 
-    -- nothing is given, and so nothing is left
-    pub regive-goes : s.places.given x.k ≡ [] → node_at s.action x.k ≡ Simple Regive → LabelsStand s.items → start_of x.k < s.labels → LeavesNone s x.k → NodeStands s.items s.exits x.k (Simple Regive) → StartGoesOn s x
-    regive-goes unfed e labels within none stands =
-        let nothing = none-given unfed in
-        ends-goes Regive (silent done) e (ap (λ d. silent (Ended (Done d NoBinds))) nothing) refl refl refl refl x.runs.here.region labels within none stands refl
-
-    pub fail-goes : node_at s.action x.k ≡ Simple Failing → NodeStands s.items s.exits x.k (Simple Failing) → StartGoesOn s x
+    pub fail-goes : node_at s.action x.k ≡ Simple Failing → NodeStands s.items s.places.given s.places.out s.exits x.k (Simple Failing) → StartGoesOn s x
     fail-goes e stands =
         let far = jump-stands s.items stands.place fail_label (opening (suc x.k) ++ stands.behind) stands.opened.cursor in
         let way : Way (code s) (start s x.k) (failure s) = inr (subst (λ m. Has (code s) (address_of m) (far_jump m (spot s.items fail_label))) (sym stands.opened.start) far) in

@@ -1,10 +1,13 @@
 -- The image of the code that is generated for a graph is right.
-use Rattle.std.proofs.Common.{◌≡◌, ℕ, zero, suc, ◌+◌, ◌*◌, ◌≤◌, List, [], ◌∷◌, length, map, Some, Result, Ok, Err, IfOk, OnOk, sym, ap, ◌∙◌, subst, arith}
+use Rattle.std.proofs.Common.{◌≡◌, ℕ, zero, suc, ◌+◌, ◌*◌, ◌<◌, ◌≤◌, List, [], ◌∷◌, length, replicate, map, Some, Result, Ok, Err, IfOk, OnOk, refl, sym, ap, ◌∙◌, subst, arith}
+use Rattle.std.proofs.lemmas.List.{length-replicate}
 use Rattle.std.proofs.Math.Nat.{mul-le-mul_left}
 use Rattle.rv_code.specs.Encode.{encode}
 use Rattle.rv_asm.specs.Arrivals.{LabelsStand}
 use Rattle.rv_asm.specs.Assembly.{code_of, spot, total}
 use Rattle.rv_asm.specs.Conventions.{instruction_bytes, code_bytes}
+use Rattle.rv_asm.specs.Pieces.{exit_with}
+use Rattle.rv_asm.specs.declared.item.Item.{Item}
 use Rattle.rv_asm.proofs.Encodings.{words-encoded}
 use Rattle.rv_asm.proofs.Labels.{length-code}
 use Rattle.rv_asm.proofs.Places.{length-code_bytes}
@@ -15,15 +18,20 @@ use Rattle.action_terms.specs.Need.{node_yielder_count, most_yielders, factor}
 use Rattle.action_terms.specs.Numbering.{Listed, IsGraph}
 use Rattle.action_terms.proofs.CountLaws.{graph-counts}
 use Rattle.action_terms.proofs.GraphLaws.{length-nodes_some, length-nodes_few}
-use Rattle.rv_codegen.specs.Blocks.{action_items}
+use Rattle.frame_layout.specs.Places.{Frame}
+use Rattle.frame_layout.proofs.GraphParts.{trees-of_graph}
+use Rattle.rv_codegen.specs.Aliases.{nowhere, put_frames, words_at}
+use Rattle.rv_codegen.specs.Blocks.{framed_items}
 use Rattle.sort_rules.specs.Measures.{width}
 use Rattle.sort_rules.specs.Tables.{MarkedTable}
-use Rattle.rv_codegen.specs.Measures.{node_count, factor_by}
-use Rattle.rv_codegen.specs.RightImage.{compiled_image, Subject, IsRight}
+use Rattle.rv_codegen.specs.Measures.{node_count}
+use Rattle.rv_codegen.specs.RightImage.{compiled_image, Subject, Loads, IsRight}
 use Rattle.rv_codegen.specs.Built.{unbuilt}
-use Rattle.rv_codegen.proofs.Compiling.{IsCompilable}
+use Rattle.rv_codegen.proofs.Compiling.{IsCompilable, HasFrames, IsSized}
 use Rattle.rv_codegen.proofs.Loading.{code_bytes-small, compiled-loads}
-use Rattle.rv_codegen.proofs.Right.{image-shows}
+use Rattle.rv_codegen.proofs.PuttingPlaces.{put-by_number}
+use Rattle.rv_codegen.proofs.LayoutWords.{words-within}
+use Rattle.rv_codegen.proofs.Right.{full_items, full-shows, image-shows}
 use Rattle.sort_rules.proofs.YielderCounts.{node-few}
 use Rattle.rv_codegen.proofs.GraphNodes.{tree-of-graph, built-of-graph, length-action_of}
 
@@ -51,32 +59,72 @@ factor-covers w z n y a b =
 pub count-few : (g : Listed) → IsGraph g → node_count (action_of g) ≤ 65536
 count-few g graph = omega (arith, length-action_of g, graph-counts g graph, length-nodes_few g graph)
 
-module _ (g : Listed) (graph : IsGraph g) (numbers : NumbersFit (action_of g)) (none : unbuilt (action_of g) ≡ []) where
-  compilable : IsCompilable (action_of g)
-  compilable = record {
-    tree = tree-of-graph g graph;
-    built = λ k n e. built-of-graph (action_of g) none k n e;
-    numbers = numbers;
-    few = node-few g graph;
-    some = omega (arith, length-action_of g, length-nodes_some g graph);
-  }
+module _ (g : Listed) (graph : IsGraph g) (t : MarkedTable) (fs : List Frame) where
+  abbrev a : Action
+  a = action_of g
 
-  -- the image of the words is right, whatever table measures it
-  pub generated-right : (words : List ℕ) → LabelsStand (action_items (action_of g)) → total (action_items (action_of g)) ≤ 25 + 15 * node_count (action_of g) → map Some words ≡ map encode (code_of (action_items (action_of g))) → (t : MarkedTable) (stack units : ℕ) → 1 ≤ stack → stack ≤ 16777216 → 1 ≤ units → units ≤ 4194304 → IsRight (compiled_image (instruction_bytes words) stack units) (record { action = action_of g; table = t; stack = stack; units = units })
-  generated-right words labels short encoded t stack units s_low s u_low u =
-      let a = action_of g in
-      let items = action_items a in
+  -- how many words a node or a yielder of the code has at most
+  abbrev pub most_words : ℕ
+  most_words = 530
+
+  abbrev subject : (stack units : ℕ) → Subject
+  subject stack units = record { action = a; table = t; stack = stack; units = units }
+
+  sized : (items : List Item) (stack units : ℕ) → total items ≤ 25 + most_words * node_count a → 1 ≤ stack → stack ≤ 16777216 → units ≤ 4194304 → IsSized (subject stack units) items
+  sized items stack units short low few_words few_units =
+      let covers = factor-covers (width (length a) t) (most_yielders a) in
+      record {
+        small = omega (arith, short, count-few g graph);
+        ample = omega (arith, covers 0 0 (omega arith) (omega arith));
+        paid = λ k n le. covers n (node_yielder_count (node_at a k)) le (most-yielders a k);
+        some_words = low;
+        few_words = few_words;
+        few_units = few_units;
+      }
+
+  -- the image of words that are those of some items loads
+  image-loads : (items : List Item) (words : List ℕ) (stack units : ℕ) → map Some words ≡ map encode (code_of items) → IsSized (subject stack units) items → total items ≤ 25 + most_words * node_count a → Loads (compiled_image (code_bytes (code_of items)) stack units) (subject stack units)
+  image-loads items words stack units encoded it short =
       let code = code_of items in
-      let few = count-few g graph in
-      let known = words-encoded words code encoded in
-      let x : Subject = record { action = a; table = t; stack = stack; units = units } in
       let size_is : length (code_bytes code) ≡ 4 * total items = length-code_bytes code ∙ ap (λ n. 4 * n) (length-code (spot items) 0 items) in
-      let w = width (length a) t in
-      let covers = factor-covers w (most_yielders a) in
-      let ample : 400 ≤ factor_by a t = omega (arith, covers 0 0 (omega arith) (omega arith)) in
-      let paid = λ (k n : ℕ) (le : n ≤ 0). covers n (node_yielder_count (node_at a k)) (omega (arith, le)) (most-yielders a k) in
-      subst (λ b. IsRight (compiled_image b stack units) x) (sym known.bytes)
-      (record {
-        loads = compiled-loads (code_bytes code) x (code_bytes-small code) few s u (omega (arith, size_is, short));
-        shows = λ input is_bytes m. image-shows x compilable labels (omega (arith, short, few)) ample paid s_low s u input is_bytes known.encodable m;
-      })
+      compiled-loads (code_bytes code) (subject stack units) (code_bytes-small code) (count-few g graph) it.few_words it.few_units (omega (arith, size_is, short))
+
+  module _ (numbers : NumbersFit a) (none : unbuilt a ≡ []) (framed : (stack units : ℕ) → HasFrames (subject stack units) fs) where
+    compilable : IsCompilable a
+    compilable = record {
+      tree = tree-of-graph g graph;
+      trees = trees-of_graph g graph;
+      built = λ k n e. built-of-graph a none k n e;
+      numbers = numbers;
+      few = node-few g graph;
+      some = omega (arith, length-action_of g, length-nodes_some g graph);
+    }
+
+    -- the image of the words is right where the main procedure has room
+    pub generated-right : (words : List ℕ) (stack units : ℕ) → words_at fs 0 ≤ stack → LabelsStand (framed_items a fs) → total (framed_items a fs) ≤ 25 + most_words * node_count a → map Some words ≡ map encode (code_of (framed_items a fs)) → 1 ≤ stack → stack ≤ 16777216 → units ≤ 4194304 → IsRight (compiled_image (instruction_bytes words) stack units) (subject stack units)
+    generated-right words stack units fits labels short encoded low few_words few_units =
+        let items = framed_items a fs in
+        let known = words-encoded words (code_of items) encoded in
+        let it = sized items stack units short low few_words few_units in
+        subst (λ b. IsRight (compiled_image b stack units) (subject stack units)) (sym known.bytes)
+        (record {
+          loads = image-loads items words stack units encoded it short;
+          shows = λ input is_bytes m. image-shows (subject stack units) fs compilable (framed stack units) labels it fits input is_bytes known.encodable m;
+        })
+
+    -- and where it hasn't the exit with 3 is
+    pub full-right : (words : List ℕ) (stack units : ℕ) → stack < words_at fs 0 → map Some words ≡ map encode (exit_with 3) → 1 ≤ stack → stack ≤ 16777216 → units ≤ 4194304 → IsRight (compiled_image (instruction_bytes words) stack units) (subject stack units)
+    full-right words stack units over encoded low few_words few_units =
+        let known = words-encoded words (code_of full_items) encoded in
+        let three : total full_items ≡ 3 = refl in
+        let short : total full_items ≤ 25 + most_words * node_count a = omega (arith, three) in
+        let it = sized full_items stack units short low few_words few_units in
+        let ns = put_frames fs (replicate (length a) nowhere) in
+        let has = framed stack units in
+        let by_number = put-by_number a t fs has.layout ns (record { start = replicate (length a) nowhere; long = length-replicate (length a) nowhere; are = refl }) in
+        let within = words-within a compilable.trees t fs has.layout has.apart ns by_number 0 compilable.some in
+        subst (λ b. IsRight (compiled_image b stack units) (subject stack units)) (sym known.bytes)
+        (record {
+          loads = image-loads full_items words stack units encoded it short;
+          shows = λ input is_bytes m. full-shows (subject stack units) fs it (omega (arith, over, within)) input is_bytes known.encodable m;
+        })

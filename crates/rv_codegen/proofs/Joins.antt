@@ -11,10 +11,10 @@ use Rattle.action_terms.proofs.Parts.{Reaches, quiet, reaches-quiet}
 use Rattle.rv_codegen.specs.Blocks.{start_of}
 use Rattle.rv_codegen.proofs.Around.{LeftFrame, RightFrame, InOrder, Given, Receives, Around}
 use Rattle.rv_codegen.proofs.BindTables.{both-leave}
-use Rattle.rv_codegen.proofs.Completions.{node-completes}
+use Rattle.rv_codegen.proofs.Completions.{both-left, node-completes}
 use Rattle.rv_codegen.proofs.Configurations.{pending, leaving}
-use Rattle.rv_codegen.proofs.Holding.{Holds, HoldsBinds, holds-append}
-use Rattle.rv_codegen.proofs.NodeParts.{IsPartOf, part-at}
+use Rattle.rv_codegen.proofs.Holding.{Holds, HoldsBinds}
+use Rattle.rv_codegen.proofs.NodeParts.{IsNode, IsPartOf, part-at}
 use Rattle.rv_codegen.proofs.RestPoints.{Laid, GoesOn, Starting, starts, StartGoesOn, Completing, completes, EndGoesOn, open-run, moved-here}
 use Rattle.rv_codegen.proofs.Settings.{Way, Setting, code, start, exit}
 use Rattle.rv_codegen.proofs.Ways.{goes-by-way, step-pays}
@@ -116,15 +116,17 @@ module _ (s : Setting) (laid : Laid s) where
       let r = frame.r in
       let p = laid.both n k r frame.j frame.node in
       let both = both-leave s.base h.heap h.words h.f s.places.bound s.places.bound_out s.places.BindsAt frame.j n k r x.d d1 x.b b1 p.binds x.done.binds frame.other.2 in
+      let o = joined-here n k r frame.j x.d d1 x.b b1 (Done (x.d ++ d1) (overlaid x.b b1)) x.world frame.node both.0 in
+      let full = laid.data_laid.fills x.steps x.frames n (Par n (Ended (Done x.d x.b)) (Ended (Done d1 b1))) x.world (quiet (Joins ∷ []) (Ended (Done (x.d ++ d1) (overlaid x.b b1)))) (x.d ++ d1) (overlaid x.b b1) (subst IsNode (sym frame.node) tt) refl x.reached o refl in
       node-completes s laid (InParLeft n (Ended (Done d1 b1))) x n (x.d ++ d1) (overlaid x.b b1)
       (record {
         part = part-at s.action n k (Both frame.j k r) frame.node (inl refl);
         exit_is = frame.other.0.second_exit;
         around = h.around.1;
-        leaves = subst (λ os. Holds s.base h.heap h.words h.f os (x.d ++ d1)) (sym p.joins) (holds-append s.base h.heap h.words h.f (s.places.out k) (s.places.out r) x.d d1 x.done.leaves frame.other.1);
+        leaves = both-left s h.heap h.words h.f n k r x.d d1 p.joins x.done.leaves frame.other.1 full;
         binds = both.1;
         letters = Joins ∷ [];
-        step = joined-here n k r frame.j x.d d1 x.b b1 (Done (x.d ++ d1) (overlaid x.b b1)) x.world frame.node both.0;
+        step = o;
       })
   left-done n y x = absurd (left_frame n y x).other
 
@@ -153,14 +155,16 @@ module _ (s : Setting) (laid : Laid s) where
       let l = frame.l in
       let p = laid.both n l k frame.j frame.node in
       let both = both-leave s.base h.heap h.words h.f s.places.bound s.places.bound_out s.places.BindsAt frame.j n l k d1 x.d b1 x.b p.binds frame.other.2 x.done.binds in
+      let o = joined-here n l k frame.j d1 x.d b1 x.b (Done (d1 ++ x.d) (overlaid b1 x.b)) x.world frame.node both.0 in
+      let full = laid.data_laid.fills x.steps x.frames n (Par n (Ended (Done d1 b1)) (Ended (Done x.d x.b))) x.world (quiet (Joins ∷ []) (Ended (Done (d1 ++ x.d) (overlaid b1 x.b)))) (d1 ++ x.d) (overlaid b1 x.b) (subst IsNode (sym frame.node) tt) refl x.reached o refl in
       node-completes s laid (InParRight n (Ended (Done d1 b1))) x n (d1 ++ x.d) (overlaid b1 x.b)
       (record {
         part = part-at s.action n k (Both frame.j l k) frame.node (inr refl);
         exit_is = frame.other.0.second_exit;
         around = h.around.1;
-        leaves = subst (λ os. Holds s.base h.heap h.words h.f os (d1 ++ x.d)) (sym p.joins) (holds-append s.base h.heap h.words h.f (s.places.out l) (s.places.out k) d1 x.d frame.other.1 x.done.leaves);
+        leaves = both-left s h.heap h.words h.f n l k d1 x.d p.joins frame.other.1 x.done.leaves full;
         binds = both.1;
         letters = Joins ∷ [];
-        step = joined-here n l k frame.j d1 x.d b1 x.b (Done (d1 ++ x.d) (overlaid b1 x.b)) x.world frame.node both.0;
+        step = o;
       })
   right-done n y x = absurd (right_frame n y x).other

@@ -83,7 +83,7 @@ words-are (h ∷ fs) f rising m = either
     behind true (inr e) less w = absurd {0} (let no_test = e.0 in cc)
     behind false e less w = w
 
-past-nowhere : (ns : List PlacedNode) (k : ℕ) → length ns ≤ k → place_at ns k ≡ nowhere
+pub past-nowhere : (ns : List PlacedNode) (k : ℕ) → length ns ≤ k → place_at ns k ≡ nowhere
 past-nowhere [] k past = refl
 past-nowhere (n ∷ ns) zero past = absurd (omega arith)
 past-nowhere (n ∷ ns) (suc k) past = past-nowhere ns k (omega arith)
@@ -194,6 +194,9 @@ module _ (a : Action) (trees : HasTrees a) where
         let f = has-frame k within in
         (placed-node k within f).lengths.escaped ∙ ap (λ j. part_length (t (Escaped j))) f.node
 
-    -- what a node escapes with has consecutive words
+    -- the words of its data, and of what it escapes with, are consecutive
+    pub in-row : (k : ℕ) → k < length a → AreConsecutive (place_at ns k).data_in
+    in-row k within = (placed-node k within (has-frame k within)).consecutive 0 [] (omega arith)
+
     pub escaped-row : (k : ℕ) → k < length a → AreConsecutive (place_at ns k).escaped
     escaped-row k within = (placed-node k within (has-frame k within)).consecutive 4 [] (omega arith)

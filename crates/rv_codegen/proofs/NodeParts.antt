@@ -1,5 +1,6 @@
 -- The parts of nodes, and what nodes call.
 use Rattle.std.proofs.Common.{◌≡◌, ◌⊎◌, ℕ, sym, subst, inr}
+use Rattle.action_terms.specs.Acting.{Tree, Run, Par, Second}
 use Rattle.action_terms.specs.Actions.{Node, Enact, Apply, Unfolding, Unfold, Furthermore, Both, Phases, Either, Trapping, Branch, Stray, Action, node_at}
 
 -- there is a node
@@ -37,6 +38,13 @@ abbrev pub KeepsRecord : Node → Type 0
 KeepsRecord (Either l r) = Unit {0}
 KeepsRecord (Trapping l r) = Unit {0}
 KeepsRecord _ = ⊥
+
+-- the tree is one of node n: the node is to be performed, or its parts are
+abbrev pub IsTreeOf : (n : ℕ) → Tree → Type 0
+IsTreeOf n (Run k d b) = k ≡ n
+IsTreeOf n (Par k x y) = k ≡ n
+IsTreeOf n (Second k d b x) = k ≡ n
+IsTreeOf n _ = ⊥
 
 pub tail-part : (n : Node) (k : ℕ) → IsTailOf n k → IsPartOf n k
 tail-part (Either l r) k h = inr h

@@ -7,11 +7,11 @@ use Rattle.action_terms.specs.Actions.{Stray, Action, node_or_stray, node_at}
 use Rattle.rv_codegen.specs.Blocks.{block, blocks_from}
 
 -- the code of one node, and then that of the nodes behind it
-pub blocks_from-next : (items : List Item) (exits : List ℕ) (a : Action) (k d : ℕ) → k < length a → k < length exits → (items ++ block k (get_or exits k d) (node_at a k)) ++ blocks_from (k + 1) exits (drop (k + 1) a) ≡ items ++ blocks_from k exits (drop k a)
-blocks_from-next items exits a k d lt within =
+pub blocks_from-next : (given out : ℕ → List ℕ) (items : List Item) (exits : List ℕ) (a : Action) (k d : ℕ) → k < length a → k < length exits → (items ++ block (given k) (out k) k (get_or exits k d) (node_at a k)) ++ blocks_from given out (k + 1) exits (drop (k + 1) a) ≡ items ++ blocks_from given out k exits (drop k a)
+blocks_from-next given out items exits a k d lt within =
     let e = drop_more a k Stray lt in
     let here : get_or exits k d ≡ get_or exits k 0 = get_or_default exits k d 0 within in
     let node : node_at a k ≡ get_or a k Stray = ap node_or_stray (slice_get-get_or a k Stray lt) in
-    append_assoc items (block k (get_or exits k d) (node_at a k)) (blocks_from (k + 1) exits (drop (k + 1) a))
-    ∙ ap (λ x. items ++ (block k x (node_at a k) ++ blocks_from (k + 1) exits (drop (k + 1) a))) here
+    append_assoc items (block (given k) (out k) k (get_or exits k d) (node_at a k)) (blocks_from given out (k + 1) exits (drop (k + 1) a))
+    ∙ ap (λ x. items ++ (block (given k) (out k) k x (node_at a k) ++ blocks_from given out (k + 1) exits (drop (k + 1) a))) here
     ∙ rw (node, e, add-one k) refl

@@ -1,15 +1,15 @@
 -- What the code of yielders brings nodes to: where nothing is yielded it has gone to the entry for failures.
-use Rattle.std.proofs.Common.{◌≡◌, ℕ, zero, suc, ◌+◌, ◌<◌, ◌≤◌, true, ◌&&◌, List, [], refl, ◌∙◌, arith, inl}
+use Rattle.std.proofs.Common.{◌≡◌, ℕ, zero, suc, ◌+◌, ◌<◌, ◌≤◌, true, List, [], refl, ◌∙◌, arith, inl}
 use Rattle.rv_code.specs.declared.instruction.Inst.{Inst}
 use Rattle.rv_asm.specs.Assembly.{address_of}
 use Rattle.rv_asm.specs.WordMachine.{WordState, Goes, run_words}
 use Rattle.rv_asm.proofs.Places.{and-true}
 use Rattle.rv_asm.proofs.Stretches.{quiet-between}
-use Rattle.action_terms.specs.Actions.{Negation, Yielder, NumberLiteral, OnTwo, OnOne}
+use Rattle.action_terms.specs.Actions.{Yielder, NumberLiteral, TruthLiteral, Given, GivenAt, OnTwo, OnOne}
 use Rattle.action_terms.specs.Literals.{YielderFits}
 use Rattle.action_terms.specs.Frames.{plugged}
 use Rattle.action_terms.specs.Steps.{silent, failed, closures_in}
-use Rattle.rv_yield.specs.Registers.{is_arithmetic, is_integral, HasWords}
+use Rattle.rv_yield.specs.Registers.{is_built, HasWords}
 use Rattle.rv_yield.proofs.Steps.{Arrives}
 use Rattle.rv_codegen.proofs.Holding.{grows-same}
 use Rattle.rv_codegen.proofs.InputLeft.{left-same}
@@ -21,14 +21,16 @@ use Rattle.rv_codegen.proofs.Units.{units-more}
 -- ---- yielders whose code can be made
 
 -- they make no closure
-pub no-closures : (y : Yielder) → is_integral y ≡ true → closures_in y ≡ []
-no-closures (NumberLiteral z) built = refl
-no-closures (OnTwo f y1 y2) built =
-    let p = and-true (is_arithmetic f) (is_integral y1 && is_integral y2) built in
-    let q = and-true (is_integral y1) (is_integral y2) p.1 in
-    rw (no-closures y1 q.0, no-closures y2 q.1) refl
-no-closures (OnOne Negation y) built = no-closures y built
-no-closures _ built = absurd (cc)
+pub built-makes_none : (y : Yielder) → is_built y ≡ true → closures_in y ≡ []
+built-makes_none (NumberLiteral z) built = refl
+built-makes_none (TruthLiteral t) built = refl
+built-makes_none (Given sort) built = refl
+built-makes_none (GivenAt sort place) built = refl
+built-makes_none (OnTwo f y1 y2) built =
+    let q = and-true (is_built y1) (is_built y2) built in
+    rw (built-makes_none y1 q.0, built-makes_none y2 q.1) refl
+built-makes_none (OnOne f y) built = built-makes_none y built
+built-makes_none _ built = absurd (cc)
 
 -- the numbers in a yielder are those of 64 bits
 pub has-words : (y : Yielder) → YielderFits y → HasWords y

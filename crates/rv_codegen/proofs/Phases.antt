@@ -1,5 +1,5 @@
 -- Nodes with two parts in order: the first part begins, then the second, and the node completes where the second does.
-use Rattle.std.proofs.Common.{◌≡◌, ℕ, [], ◌∷◌, ◌++◌, Bool, true, false, map, get_or, refl, sym, ◌∙◌, subst, arith, inl, inr}
+use Rattle.std.proofs.Common.{◌≡◌, ℕ, [], ◌∷◌, ◌++◌, length, Bool, true, false, map, get_or, refl, sym, ap, ◌∙◌, subst, arith, inl, inr}
 use Rattle.std.specs.Prelude.{if◌then◌else◌}
 use Rattle.action_terms.specs.Bindings.{meets, overlaid}
 use Rattle.action_terms.specs.Information.{Binds, Data}
@@ -10,11 +10,12 @@ use Rattle.action_terms.specs.Steps.{silent, second_part, chained_parts, handed_
 use Rattle.action_terms.specs.Frames.{InFirst, InSecond, plugged}
 use Rattle.action_terms.proofs.Parts.{reaches-quiet}
 use Rattle.rv_codegen.specs.Blocks.{start_of}
-use Rattle.rv_codegen.proofs.Around.{FirstFrame, SecondFrame, Given, Leaves, BindsLeft}
+use Rattle.rv_codegen.proofs.Around.{FirstFrame, SecondFrame, HandsOver, Given, Leaves, BindsLeft}
 use Rattle.rv_codegen.proofs.BindTables.{second-receives, second-leaves}
-use Rattle.rv_codegen.proofs.Completions.{node-completes}
-use Rattle.rv_codegen.proofs.Holding.{Holds, HoldsBinds, holds-append}
-use Rattle.rv_codegen.proofs.NodeParts.{IsPartOf, part-at}
+use Rattle.rv_codegen.proofs.Completions.{both-left, node-completes}
+use Rattle.rv_codegen.proofs.GivenItems.{holds-length}
+use Rattle.rv_codegen.proofs.Holding.{Holds, HoldsBinds}
+use Rattle.rv_codegen.proofs.NodeParts.{IsNode, IsPartOf, part-at}
 use Rattle.rv_codegen.proofs.RestPoints.{Laid, PhasePlaces, GoesOn, Starting, starts, StartGoesOn, Completing, completes, EndGoesOn, open-run, moved-here}
 use Rattle.rv_codegen.proofs.Settings.{Way, Setting, code, start, exit}
 use Rattle.rv_codegen.proofs.Ways.{goes-by-way, step-pays}
@@ -111,34 +112,40 @@ module _ (s : Setting) (laid : Laid s) where
     behind = x.done.here.around.0
 
     -- the node completes with data e and bindings u, where the second part did
-    second-ends : (q : Chain) (e : Data) (u : Binds) → node_at s.action n ≡ Phases q behind.l x.done.k → chained q d1 b1 x.d x.b ≡ Done e u → Leaves s x.done.here.heap x.done.here.words x.done.here.f n e → BindsLeft s x.done.here.heap x.done.here.words x.done.here.f n u → EndGoesOn s (InSecond n d1 b1) x
+    second-ends : (q : Chain) (e : Data) (u : Binds) → node_at s.action n ≡ Phases q behind.l x.done.k → chained q d1 b1 x.d x.b ≡ Done e u → (length e ≡ length (s.places.out n) → Leaves s x.done.here.heap x.done.here.words x.done.here.f n e) → BindsLeft s x.done.here.heap x.done.here.words x.done.here.f n u → EndGoesOn s (InSecond n d1 b1) x
     second-ends q e u node same leaves binds =
         let next = Ended (Done e u) in
         let o : OneOf (silent next) (open_steps s.action x.world (Second n d1 b1 (Ended (Done x.d x.b)))) = subst (λ n'. OneOf (silent next) (map silent (chained_parts n' d1 b1 x.d x.b))) (sym node) (subst (λ z. OneOf (silent next) (silent (Ended z) ∷ [])) (sym same) Here) in
+        let full = laid.data_laid.fills x.steps x.frames n (Second n d1 b1 (Ended (Done x.d x.b))) x.world (silent next) e u (subst IsNode (sym node) tt) refl x.reached o refl in
         node-completes s laid (InSecond n d1 b1) x n e u
         (record {
           part = part-at s.action n x.done.k (Phases q behind.l x.done.k) node (inr refl);
           exit_is = behind.order.second_exit;
           around = x.done.here.around.1;
-          leaves = leaves;
+          leaves = leaves full;
           binds = binds;
           letters = [];
           step = o;
         })
 
+    -- the data of the second part alone
+    second-left : HandsOver s n behind.l x.done.k → length x.d ≡ length (s.places.out n) → Leaves s x.done.here.heap x.done.here.words x.done.here.f n x.d
+    second-left hands full =
+        let h = x.done.here in
+        let second = holds-length s.base h.heap h.words h.f (s.places.out x.done.k) x.d x.done.leaves in
+        subst (λ os. Holds s.base h.heap h.words h.f os x.d) (sym (hands.ends (sym second ∙ full))) x.done.leaves
+
     pub second-done : EndGoesOn s (InSecond n d1 b1) x
     second-done = by behind.q behind.node (laid.phases n behind.l x.done.k behind.q behind.node).places
       where
-        joined : Holds s.base x.done.here.heap x.done.here.words x.done.here.f (s.places.out behind.l ++ s.places.out x.done.k) (d1 ++ x.d)
-        joined = holds-append s.base x.done.here.heap x.done.here.words x.done.here.f (s.places.out behind.l) (s.places.out x.done.k) d1 x.d behind.result x.done.leaves
-
-        ends : (q : Chain) → node_at s.action n ≡ Phases q behind.l x.done.k → (e : Data) → ((u : Binds) (e' : Data) → chained q d1 b1 x.d x.b ≡ Done e' u → e' ≡ e) → Leaves s x.done.here.heap x.done.here.words x.done.here.f n e → EndGoesOn s (InSecond n d1 b1) x
-        ends q node e same holds =
+        ends : (q : Chain) → node_at s.action n ≡ Phases q behind.l x.done.k → (e : Data) → ((u : Binds) (e' : Data) → chained q d1 b1 x.d x.b ≡ Done e' u → e' ≡ e) → (length e ≡ length (s.places.out n) → Leaves s x.done.here.heap x.done.here.words x.done.here.f n e) → EndGoesOn s (InSecond n d1 b1) x
+        ends q node e same leaves =
             let z = second-leaves s.base x.done.here.heap x.done.here.words x.done.here.f s.places.bound s.places.bound_out s.places.BindsAt q n behind.l x.done.k d1 x.d b1 x.b (laid.phases n behind.l x.done.k q node).binds behind.binds x.done.binds in
-            second-ends q z.1 z.0 node z.2 (subst (λ v. Leaves s x.done.here.heap x.done.here.words x.done.here.f n v) (sym (same z.0 z.1 z.2)) holds) z.3
+            let is : z.1 ≡ e = same z.0 z.1 z.2 in
+            second-ends q z.1 z.0 node z.2 (λ full. subst (λ v. Leaves s x.done.here.heap x.done.here.words x.done.here.f n v) (sym is) (leaves (ap length (sym is) ∙ full))) z.3
 
         by : (q : Chain) → node_at s.action n ≡ Phases q behind.l x.done.k → PhasePlaces s q n behind.l x.done.k → EndGoesOn s (InSecond n d1 b1) x
-        by AndThen node y = ends AndThen node (d1 ++ x.d) (λ u e' q. united-data (d1 ++ x.d) e' b1 x.b u q) (subst (λ os. Holds s.base x.done.here.heap x.done.here.words x.done.here.f os (d1 ++ x.d)) (sym y.joins) joined)
-        by Then node y = ends Then node x.d (λ u e' q. united-data x.d e' b1 x.b u q) (subst (λ os. Holds s.base x.done.here.heap x.done.here.words x.done.here.f os x.d) (sym y.ends) x.done.leaves)
-        by Hence node y = ends Hence node (d1 ++ x.d) (λ u e' q. done-data (d1 ++ x.d) e' _ u q) (subst (λ os. Holds s.base x.done.here.heap x.done.here.words x.done.here.f os (d1 ++ x.d)) (sym y.joins) joined)
-        by Before node y = ends Before node (d1 ++ x.d) (λ u e' q. done-data (d1 ++ x.d) e' _ u q) (subst (λ os. Holds s.base x.done.here.heap x.done.here.words x.done.here.f os (d1 ++ x.d)) (sym y.joins) joined)
+        by AndThen node y = ends AndThen node (d1 ++ x.d) (λ u e' q. united-data (d1 ++ x.d) e' b1 x.b u q) (both-left s x.done.here.heap x.done.here.words x.done.here.f n behind.l x.done.k d1 x.d y.joins behind.result x.done.leaves)
+        by Then node y = ends Then node x.d (λ u e' q. united-data x.d e' b1 x.b u q) (second-left y)
+        by Hence node y = ends Hence node (d1 ++ x.d) (λ u e' q. done-data (d1 ++ x.d) e' _ u q) (both-left s x.done.here.heap x.done.here.words x.done.here.f n behind.l x.done.k d1 x.d y.joins behind.result x.done.leaves)
+        by Before node y = ends Before node (d1 ++ x.d) (λ u e' q. done-data (d1 ++ x.d) e' _ u q) (both-left s x.done.here.heap x.done.here.words x.done.here.f n behind.l x.done.k d1 x.d y.joins behind.result x.done.leaves)

@@ -79,7 +79,7 @@ length-put_each : (ms ns : List PlacedNode) → length (put_each ms ns) ≡ leng
 length-put_each [] ns = refl
 length-put_each (m ∷ ms) ns = length-put_each ms (set ns m.node m) ∙ length-set ns m.node m
 
-length-put_frames : (fs : List Frame) (ns : List PlacedNode) → length (put_frames fs ns) ≡ length ns
+pub length-put_frames : (fs : List Frame) (ns : List PlacedNode) → length (put_frames fs ns) ≡ length ns
 length-put_frames [] ns = refl
 length-put_frames (f ∷ fs) ns = length-put_frames fs (put_each f.nodes ns) ∙ length-put_each f.nodes ns
 

@@ -1,5 +1,5 @@
 -- Where the machine stands as the code follows a performance: the rest points, and what is asked of the code and its places.
-use Rattle.std.proofs.Common.{◌≡◌, ◌⊎◌, ℕ, ◌+◌, ◌*◌, ◌%◌, ◌^◌, ◌<◌, ◌≤◌, List, ◌∷◌, ◌++◌, length, get_or, refl, sym, ◌∙◌, subst, arith}
+use Rattle.std.proofs.Common.{◌≡◌, ◌⊎◌, ℕ, ◌+◌, ◌*◌, ◌%◌, ◌^◌, ◌<◌, ◌≤◌, List, [], ◌∷◌, ◌++◌, length, get_or, refl, sym, ◌∙◌, subst, arith}
 use Rattle.rv_asm.specs.Assembly.{address_of, total}
 use Rattle.rv_asm.specs.Conventions.{region_register, frame_register}
 use Rattle.rv_asm.specs.DataWords.{Heap}
@@ -14,13 +14,15 @@ use Rattle.action_terms.specs.Performances.{OneOf, messages_bytes}
 use Rattle.action_terms.specs.Steps.{Step, run_steps, open_steps}
 use Rattle.action_terms.specs.Frames.{Frame, plug, wrap}
 use Rattle.action_terms.proofs.Parts.{Reaches}
-use Rattle.rv_codegen.proofs.Around.{Chains, IsPlaced, InOrder, Shares, HandsOver, Given, Receives, Leaves, BindsLeft, Around}
+use Rattle.rv_codegen.proofs.AliasWords.{IsOnce}
+use Rattle.rv_codegen.proofs.Around.{Chains, IsPlaced, InOrder, JoinsData, Shares, HandsOver, Given, Receives, Leaves, BindsLeft, Around}
 use Rattle.rv_codegen.proofs.BindTables.{ChainBinds, JoinBinds}
 use Rattle.rv_codegen.proofs.Configurations.{Configuration, depth, performances}
 use Rattle.rv_codegen.proofs.Holding.{Holds, in_row}
 use Rattle.rv_codegen.proofs.InputLeft.{Left}
-use Rattle.rv_codegen.proofs.NodeParts.{IsNode, IsPartOf}
+use Rattle.rv_codegen.proofs.NodeParts.{IsNode, IsPartOf, IsTreeOf}
 use Rattle.rv_codegen.proofs.Settings.{Point, Went, Setting, code, point, start, exit, failure, escape, frame_words}
+use Rattle.rv_codegen.proofs.Suited.{SuitsAt}
 use Rattle.rv_codegen.proofs.Units.{Units, units-kept}
 
 module _ (s : Setting) where
@@ -126,11 +128,31 @@ module _ (s : Setting) where
     pub right_given : s.places.given r ≡ s.places.given n
     pub left_bound : s.places.bound l ≡ s.places.bound n
     pub right_bound : s.places.bound r ≡ s.places.bound n
-    pub joins : s.places.out n ≡ s.places.out l ++ s.places.out r
+    pub joins : JoinsData s n l r
     pub binds : JoinBinds s.places.bound s.places.bound_out s.places.BindsAt j n l r
+
+  -- the words of data, and what the sorts tell of what nodes are given and leave
+  pub record DataLaid : Type 0 where
+    pub reached : (k : ℕ) → IsNode (node_at s.action k) → frame_words s k ≤ 33554432
+    pub given_within : (k x : ℕ) → IsNode (node_at s.action k) → OneOf x (s.places.given k) → x < frame_words s k
+    pub out_within : (k x : ℕ) → IsNode (node_at s.action k) → OneOf x (s.places.out k) → x < frame_words s k
+    pub apart : (k x : ℕ) → IsNode (node_at s.action k) → OneOf x (s.places.given k) → OneOf x (s.places.out k) → ⊥
+    pub once : (k : ℕ) → IsNode (node_at s.action k) → IsOnce (s.places.out k)
+    pub few : (k : ℕ) → IsNode (node_at s.action k) → length (s.places.out k) ≤ s.widest
+    pub written : (k x : ℕ) → OneOf x (s.places.out k) → s.places.Writes k x
+    -- what a node is given stands in a row
+    pub row : (k : ℕ) → s.places.given k ≡ in_row (get_or (s.places.given k) 0 0) (length (s.places.given k))
+    -- no bindings are left
+    pub unbound : (k : ℕ) → s.places.bound_out k ≡ []
+    -- what the code of a node counts on, with the words of what it escapes with
+    pub escaped : ℕ → List ℕ
+    pub suits : (steps : List Step) (fs : List Frame) (k : ℕ) (d : Data) (b : Binds) (w : World) → IsNode (node_at s.action k) → Reaches s.action s.input steps (plug fs (Run k d b)) w → SuitsAt s.action s.places.out escaped k d b w
+    -- a node completes with as many data as it has words for them
+    pub fills : (steps : List Step) (fs : List Frame) (n : ℕ) (t : Tree) (w : World) (m : Step) (e : Data) (u : Binds) → IsNode (node_at s.action n) → IsTreeOf n t → Reaches s.action s.input steps (plug fs t) w → OneOf m (open_steps s.action w t) → m.tree ≡ Ended (Done e u) → length e ≡ length (s.places.out n)
 
   pub record Laid : Type 0 where
     pub placed : IsPlaced s
+    pub data_laid : DataLaid
     pub part_node : (n k : ℕ) → IsPartOf (node_at s.action n) k → IsNode (node_at s.action k)
     pub same_frame : (n k : ℕ) → IsPartOf (node_at s.action n) k → frame_words s k ≡ frame_words s n
     -- the words of frames are within what procedures need

@@ -1,6 +1,6 @@
 -- The image of an action's code is right for the action.
-use Rattle.std.proofs.Common.{◌≡◌, ℕ, ◌+◌, ◌-◌, ◌*◌, ◌^◌, ◌<◌, ◌≤◌, true, List, [], ◌∷◌, ◌++◌, length, refl, sym, ap, ◌∙◌, subst, arith, ⊎_elim, append-nil}
-use Rattle.std.specs.Prelude.{replicate, All}
+use Rattle.std.proofs.Common.{◌≡◌, ℕ, ◌+◌, ◌-◌, ◌*◌, ◌^◌, ◌<◌, ◌≤◌, true, List, [], ◌∷◌, ◌++◌, length, refl, sym, ap, ◌∙◌, subst, arith, inl, inr, ⊎_elim, append-nil}
+use Rattle.std.specs.Prelude.{map, replicate, All}
 use Rattle.std.proofs.lemmas.List.Elements.{All-head, All-tail}
 use Rattle.std.proofs.lemmas.List.{length-replicate}
 use Rattle.rv_code.specs.Encode.{is_encodable}
@@ -12,34 +12,39 @@ use Rattle.rv_asm.specs.Conventions.{code_address, code_bytes, compiled_segments
 use Rattle.rv_asm.specs.DataWords.{Heap}
 use Rattle.rv_asm.specs.WordMachine.{WordState, Goes, start_state, run_words}
 use Rattle.rv_asm.specs.Assembly.{address_of, total, spot, code_of}
+use Rattle.rv_asm.specs.Pieces.{exit_with}
 use Rattle.rv_asm.specs.declared.item.Item.{Item}
+use Rattle.rv_asm.specs.declared.item.Item.TheVariants.{Plain}
 use Rattle.rv_asm.specs.Meanings.{IsShown}
+use Rattle.rv_asm.proofs.Calls.{before_exit, before_exit-runs, exit-stops}
 use Rattle.rv_asm.proofs.Follows.{follows-compiled}
 use Rattle.rv_asm.proofs.Labels.{length-code, spot_le-total}
-use Rattle.rv_asm.proofs.Moments.{CodeFollows}
+use Rattle.rv_asm.proofs.Moments.{CodeFollows, Stops, quiet-stop}
 use Rattle.rv_asm.proofs.Places.{length-code_bytes}
 use Rattle.rv_asm.proofs.Regions.{compiled-below}
 use Rattle.rv_asm.proofs.Stretches.{then-runs}
 use Rattle.action_terms.specs.Information.{NoBinds, World}
-use Rattle.action_terms.specs.Actions.{node_at}
 use Rattle.action_terms.specs.Acting.{End, Done, Esc, Fail, Tree, Run, Ended}
-use Rattle.action_terms.specs.Need.{Passes, node_yielder_count}
+use Rattle.action_terms.specs.Need.{Passes}
 use Rattle.action_terms.specs.Performances.{messages_bytes, records}
 use Rattle.action_terms.specs.Steps.{Step}
 use Rattle.action_terms.specs.Frames.{Frame, plug}
 use Rattle.action_terms.proofs.Parts.{Reaches}
-use Rattle.rv_codegen.specs.Blocks.{end_label, action_items}
-use Rattle.sort_rules.specs.Measures.{sizes}
-use Rattle.rv_codegen.specs.Measures.{factor_by}
+use Rattle.rv_codegen.specs.Blocks.{end_label, framed_items}
+use Rattle.sort_rules.specs.Measures.{sizes, slots}
+use Rattle.frame_layout.specs.Places.{Frame as PlacedFrame}
+use Rattle.rv_codegen.specs.Aliases.{words_at}
 use Rattle.rv_codegen.specs.RightImage.{compiled_image, Subject, SomeEnd, ShowsExit, Shows}
 use Rattle.rv_codegen.proofs.Configurations.{Configuration, EndCode, depth, performances}
 use Rattle.rv_codegen.proofs.Entering.{round_up-runs}
+use Rattle.rv_codegen.proofs.Around.{Given}
+use Rattle.rv_codegen.proofs.Holding.{Holds}
 use Rattle.rv_codegen.proofs.InputLeft.{AreBytes, left-same}
 use Rattle.rv_codegen.proofs.Jumps.{addressed, address-runs}
 use Rattle.rv_codegen.proofs.RestPoints.{IsAt}
 use Rattle.rv_codegen.proofs.Settings.{Setting, start}
 use Rattle.rv_codegen.proofs.Standing.{Stood}
-use Rattle.rv_codegen.proofs.Compiling.{IsCompilable, setting, compiled, stood, root-there}
+use Rattle.rv_codegen.proofs.Compiling.{IsCompilable, HasFrames, IsSized, setting, compiled, stood, root-there, root-places}
 use Rattle.rv_codegen.proofs.Turns.{turn}
 use Rattle.rv_codegen.proofs.Units.{Units}
 
@@ -62,10 +67,8 @@ are-bytes : (input : List ℕ) → All (λ b. b < 256) input → AreBytes input
 are-bytes [] h = tt
 are-bytes (b ∷ bs) h = (All-head (λ c. c < 256) b bs h, are-bytes bs (All-tail (λ c. c < 256) b bs h))
 
-module _ (x : Subject) (ok : IsCompilable x.action) (labels : LabelsStand (action_items x.action)) (small : 4 * total (action_items x.action) < 1073741824) (ample : 400 ≤ factor_by x.action x.table) (paid : (k n : ℕ) → n ≤ 0 → 400 + 24 * (n + 1) * (node_yielder_count (node_at x.action k) + 1) ≤ factor_by x.action x.table) (some_words : 1 ≤ x.stack) (few_words : x.stack ≤ 16777216) (few_units : x.units ≤ 4194304) (input : List ℕ) (bytes : All (λ b. b < 256) input) where
-  abbrev items : List Item
-  items = action_items x.action
-
+-- the code with these items, in the region behind it
+module _ (x : Subject) (fs : List PlacedFrame) (items : List Item) (sized : IsSized x items) (input : List ℕ) (bytes : All (λ b. b < 256) input) where
   abbrev code : List Inst
   code = code_of items
 
@@ -73,107 +76,13 @@ module _ (x : Subject) (ok : IsCompilable x.action) (labels : LabelsStand (actio
   base = region_address (4 * length code)
 
   abbrev s : Setting
-  s = setting x ample (records input)
+  s = setting x fs items sized.ample (records input)
 
-  near : (l : ℕ) → spot items l < 2 ^ 28
-  near l = omega (arith, spot_le-total items l, small)
-
-  stands : Stood items x.action
-  stands = stood x ok labels small ample paid some_words few_words few_units (records input)
-
-  entry : WordState
+  abbrev entry : WordState
   entry = start_state s.count input
 
-  first : Configuration
+  abbrev first : Configuration
   first = record { steps = []; frames = []; focus = Run 0 [] NoBinds; world = record { cells = []; output = []; input = records input } }
-
-  -- no unit is spent
-  nothing-spent : Units s no_heap (replicate s.count 0) [] []
-  nothing-spent = record {
-    spent = 0;
-    few = omega arith;
-    now = record {
-      counted = λ t. absurd t;
-      first_at = λ t. absurd t;
-      end_at = λ t. absurd t;
-      within = omega arith;
-      held = record {
-        many = refl;
-        cell = λ c i y p q. absurd (cc);
-        closure = λ n m p. absurd (cc);
-        cell_low = λ c i p. absurd (cc);
-        cell_free = λ c i p. absurd (cc);
-        closure_low = λ n m p. absurd (cc);
-        closure_free = λ n m p. absurd (cc);
-        cells_apart = λ c c' i i' p. absurd (cc);
-        closures_apart = λ c i n m p. absurd (cc);
-      };
-    };
-  }
-
-  -- the run comes to the root of the action by 9 instructions
-  record Enters : Type 0 where
-    to : WordState
-    runs : run_words base code 9 entry ≡ Goes to
-    rests : IsAt s (start s 0).rank to first
-    quiet : to.output ≡ entry.output
-
-  enters : Enters
-  unfolding entry first
-  enters =
-      let end = spot items end_label in
-      let size : length code ≡ total items = length-code (spot items) 0 items in
-      let s1 = addressed entry 2 0 end in
-      let r1 = address-runs base code entry 2 0 end (omega arith) (near end_label) refl stands.address in
-      let here : s1.registers 3 ≡ 65536 + 4 * length code = ap address_of (stands.end ∙ sym size) in
-      let s2 = round_up-runs base (4 * length code) code s1 (omega (arith, size, small)) here stands.round in
-      record {
-        to = s2.to;
-        runs = then-runs base code 2 7 entry s1 s2.to r1 s2.runs;
-        rests = record {
-          rests = record {
-            here = record {
-              f = 512;
-              chains = record { alternative = 0; trap = 0; mark = 0 };
-              heap = no_heap;
-              words = replicate s.count 0;
-              stands = record { region = s2.region; frame_at = s2.stack; words_are = s2.words };
-              region = record { size = length-replicate s.count 0; alternative = λ o. absurd o; trap = λ o. absurd o; mark = λ o. absurd o };
-              clear = omega arith;
-              units_are = nothing-spent;
-              around = (refl, refl, refl, refl);
-              node = root-there x ok labels small ample paid some_words few_words few_units (records input);
-            };
-            at = s2.at ∙ ap address_of (sym stands.root);
-            rank_is = refl;
-            given = tt;
-            receives = tt;
-          };
-          shown = s2.output;
-          left = left-same {ys = s2.to.input} s2.input (refl, are-bytes input bytes);
-        };
-        quiet = s2.output;
-      }
-
-  follows : CodeFollows base code (performances s) entry
-  unfolding entry first
-  follows =
-      let e = enters in
-      record {
-        depth = depth;
-        IsAt = IsAt s;
-        turn = turn s (compiled x ok labels small ample paid some_words few_words few_units (records input));
-        rank = (start s 0).rank;
-        first = 9;
-        state = e.to;
-        initial = first;
-        runs = e.runs;
-        quiet = e.quiet;
-        output = e.quiet;
-        related = e.rests;
-        reached = refl;
-        paid = omega arith;
-      }
 
   -- ---- what the run shows is what a right image shows
 
@@ -211,11 +120,201 @@ module _ (x : Subject) (ok : IsCompilable x.action) (labels : LabelsStand (actio
   shows-of m (Trapped cause) h = absurd h
 
   below32 : base + region_size x.stack x.units ≤ 2 ^ 32
-  below32 = omega (arith, compiled-below (4 * length code) x.stack x.units (omega (arith, length-code (spot items) 0 items, small)) few_words few_units)
+  below32 = omega (arith, compiled-below (4 * length code) x.stack x.units (omega (arith, length-code (spot items) 0 items, sized.small)) sized.few_words sized.few_units)
 
-  -- after m instructions of the image
-  pub image-shows : All (λ i. is_encodable i ≡ true) code → (m : ℕ) → Shows x input m (run m (started (compiled_image (code_bytes code) x.stack x.units) input))
-  unfolding entry
-  image-shows encodable m =
+  -- after m instructions of the image, where the code follows performances
+  pub follows-shows : All (λ i. is_encodable i ≡ true) code → CodeFollows base code (performances s) entry → (m : ℕ) → Shows x input m (run m (started (compiled_image (code_bytes code) x.stack x.units) input))
+  follows-shows encodable follows m =
       subst (λ z. Shows x input m (run m z)) (sym (started-compiled code x.stack x.units input))
       (shows-of m _ (follows-compiled code x.stack x.units input (performances s) encodable below32 bytes follows m))
+
+-- ---- the main procedure fits the stack
+
+module _ (x : Subject) (fs : List PlacedFrame) (ok : IsCompilable x.action) (framed : HasFrames x fs) (labels : LabelsStand (framed_items x.action fs)) (sized : IsSized x (framed_items x.action fs)) (fits : words_at fs 0 ≤ x.stack) (input : List ℕ) (bytes : All (λ b. b < 256) input) where
+  abbrev framed_code : List Inst
+  framed_code = code_of (framed_items x.action fs)
+
+  abbrev framed_base : ℕ
+  framed_base = region_address (4 * length framed_code)
+
+  abbrev framed_setting : Setting
+  framed_setting = setting x fs (framed_items x.action fs) sized.ample (records input)
+
+  near : (l : ℕ) → spot (framed_items x.action fs) l < 2 ^ 28
+  near l = omega (arith, spot_le-total (framed_items x.action fs) l, sized.small)
+
+  stands : Stood (framed_items x.action fs) framed_setting.places.given framed_setting.places.out x.action
+  stands = stood x fs ok framed labels sized (records input)
+
+  framed_entry : WordState
+  framed_entry = start_state framed_setting.count input
+
+  framed_first : Configuration
+  framed_first = record { steps = []; frames = []; focus = Run 0 [] NoBinds; world = record { cells = []; output = []; input = records input } }
+
+  -- no unit is spent
+  nothing-spent : Units framed_setting no_heap (replicate framed_setting.count 0) [] []
+  nothing-spent = record {
+    spent = 0;
+    few = omega arith;
+    now = record {
+      counted = λ t. absurd t;
+      first_at = λ t. absurd t;
+      end_at = λ t. absurd t;
+      within = omega arith;
+      held = record {
+        many = refl;
+        cell = λ c i y p q. absurd (cc);
+        closure = λ n m p. absurd (cc);
+        cell_low = λ c i p. absurd (cc);
+        cell_free = λ c i p. absurd (cc);
+        closure_low = λ n m p. absurd (cc);
+        closure_free = λ n m p. absurd (cc);
+        cells_apart = λ c c' i i' p. absurd (cc);
+        closures_apart = λ c i n m p. absurd (cc);
+      };
+    };
+  }
+
+  -- nothing is given to the root: its row has no data
+  root-given : Given framed_setting no_heap (replicate framed_setting.count 0) 512 0 []
+  root-given = none-given (root-places x fs ok framed labels sized (records input))
+    where
+      none-given : framed_setting.places.given 0 ≡ [] → Given framed_setting no_heap (replicate framed_setting.count 0) 512 0 []
+      none-given e = subst (λ os. Holds framed_setting.base no_heap (replicate framed_setting.count 0) 512 os []) (sym e) tt
+
+  -- the run comes to the root of the action by 9 instructions
+  record Enters : Type 0 where
+    to : WordState
+    runs : run_words framed_base framed_code 9 framed_entry ≡ Goes to
+    rests : IsAt framed_setting (start framed_setting 0).rank to framed_first
+    quiet : to.output ≡ framed_entry.output
+
+  enters : Enters
+  unfolding framed_entry framed_first
+  enters =
+      let end = spot (framed_items x.action fs) end_label in
+      let size : length framed_code ≡ total (framed_items x.action fs) = length-code (spot (framed_items x.action fs)) 0 (framed_items x.action fs) in
+      let s1 = addressed framed_entry 2 0 end in
+      let r1 = address-runs framed_base framed_code framed_entry 2 0 end (omega arith) (near end_label) refl stands.address in
+      let here : s1.registers 3 ≡ 65536 + 4 * length framed_code = ap address_of (stands.end ∙ sym size) in
+      let s2 = round_up-runs framed_base (4 * length framed_code) framed_code s1 (omega (arith, size, sized.small)) here stands.round in
+      record {
+        to = s2.to;
+        runs = then-runs framed_base framed_code 2 7 framed_entry s1 s2.to r1 s2.runs;
+        rests = record {
+          rests = record {
+            here = record {
+              f = 512;
+              chains = record { alternative = 0; trap = 0; mark = 0 };
+              heap = no_heap;
+              words = replicate framed_setting.count 0;
+              stands = record { region = s2.region; frame_at = s2.stack; words_are = s2.words };
+              region = record { size = length-replicate framed_setting.count 0; alternative = λ o. absurd o; trap = λ o. absurd o; mark = λ o. absurd o };
+              clear = omega (arith, fits);
+              units_are = nothing-spent;
+              around = (refl, refl, refl, refl);
+              node = root-there x fs ok framed labels sized (records input);
+            };
+            at = s2.at ∙ ap address_of (sym stands.root);
+            rank_is = refl;
+            given = root-given;
+            receives = tt;
+          };
+          shown = s2.output;
+          left = left-same {ys = s2.to.input} s2.input (refl, are-bytes input bytes);
+        };
+        quiet = s2.output;
+      }
+
+  follows : CodeFollows framed_base framed_code (performances framed_setting) framed_entry
+  unfolding framed_entry framed_first
+  follows =
+      let e = enters in
+      record {
+        depth = depth;
+        IsAt = IsAt framed_setting;
+        turn = turn framed_setting (compiled x fs ok framed labels sized (records input));
+        rank = (start framed_setting 0).rank;
+        first = 9;
+        state = e.to;
+        initial = framed_first;
+        runs = e.runs;
+        quiet = e.quiet;
+        output = e.quiet;
+        related = e.rests;
+        reached = refl;
+        paid = omega arith;
+      }
+
+  -- after m instructions of the image
+  pub image-shows : All (λ i. is_encodable i ≡ true) framed_code → (m : ℕ) → Shows x input m (run m (started (compiled_image (code_bytes framed_code) x.stack x.units) input))
+  unfolding framed_entry
+  image-shows encodable m = follows-shows x fs (framed_items x.action fs) sized input bytes encodable follows m
+
+-- ---- the main procedure needs more words than the stack has: the code is an exit with 3 at once
+
+-- the exit as items
+abbrev pub full_items : List Item
+full_items = map Plain (exit_with 3)
+
+module _ (x : Subject) (fs : List PlacedFrame) (sized : IsSized x full_items) (over : x.stack < slots x.action x.table 0) (input : List ℕ) (bytes : All (λ b. b < 256) input) where
+  abbrev full_code : List Inst
+  full_code = code_of full_items
+
+  abbrev full_base : ℕ
+  full_base = region_address (4 * length full_code)
+
+  abbrev full_setting : Setting
+  full_setting = setting x fs full_items sized.ample (records input)
+
+  full_entry : WordState
+  full_entry = start_state full_setting.count input
+
+  full_first : Configuration
+  full_first = record { steps = []; frames = []; focus = Run 0 [] NoBinds; world = record { cells = []; output = []; input = records input } }
+
+  -- the one point of such code
+  abbrev AtOnce : ℕ → WordState → Configuration → Type 0
+  AtOnce rank state c = (state ≡ full_entry) × (c ≡ full_first)
+
+  -- from the start the run ends as full: the need of the start passes the words
+  stops : Stops full_base full_code (performances full_setting) depth AtOnce full_entry full_first
+  unfolding full_entry full_first
+  stops =
+      quiet-stop full_base full_code (performances full_setting) depth AtOnce full_entry full_first
+      (record {
+        count = 2;
+        to = before_exit full_base full_code 3 full_entry;
+        last = full_first;
+        exit = 3;
+        runs = before_exit-runs full_base full_code 3 full_entry (omega arith) (refl, (refl, (refl, tt)));
+        quiet = refl;
+        output = refl;
+        exits = exit-stops full_base full_code 3 full_entry (omega arith) (refl, (refl, (refl, tt)));
+        reached = refl;
+        ends = inr (refl, inl (inl (omega (arith, over))));
+        paid = omega (arith, sized.ample);
+      })
+
+  follows-full : CodeFollows full_base full_code (performances full_setting) full_entry
+  unfolding full_entry full_first
+  follows-full = record {
+    depth = depth;
+    IsAt = AtOnce;
+    turn = λ rank state c at reached. inr (subst (λ z. Stops full_base full_code (performances full_setting) depth AtOnce z c) (sym at.0) (subst (λ z. Stops full_base full_code (performances full_setting) depth AtOnce full_entry z) (sym at.1) stops));
+    rank = 0;
+    first = 0;
+    state = full_entry;
+    initial = full_first;
+    runs = refl;
+    quiet = refl;
+    output = refl;
+    related = (refl, refl);
+    reached = refl;
+    paid = omega arith;
+  }
+
+  pub full-shows : All (λ i. is_encodable i ≡ true) full_code → (m : ℕ) → Shows x input m (run m (started (compiled_image (code_bytes full_code) x.stack x.units) input))
+  unfolding full_entry
+  full-shows encodable m = follows-shows x fs full_items sized input bytes encodable follows-full m

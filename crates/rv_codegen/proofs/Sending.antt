@@ -1,15 +1,16 @@
 -- Nodes that send: the value of their yielder is put into register 10, and the entry that sends is called. Where there is no
 -- value, the code has gone to the entry for failures.
-use Rattle.std.proofs.Common.{◌≡◌, ⊎_elim, ℕ, suc, ◌+◌, ◌*◌, ◌^◌, ◌<◌, ◌≤◌, true, List, [], ◌∷◌, ◌++◌, length, get_or, set, None, refl, sym, ap, ap₂, ◌∙◌, subst, arith, inl, length-set, get_or-set_other, append_assoc}
+use Rattle.std.proofs.Common.{◌≡◌, ⊎_elim, ℕ, suc, ◌+◌, ◌*◌, ◌^◌, ◌<◌, ◌≤◌, true, List, [], ◌∷◌, ◌++◌, length, get_or, set, Some, None, refl, sym, ap, ap₂, ◌∙◌, subst, arith, inl, length-set, get_or-set_other, append_assoc}
 use Rattle.rv_code.specs.Bytes.{bytes_of}
 use Rattle.rv_asm.specs.Arrivals.{LabelsStand}
 use Rattle.rv_asm.specs.Assembly.{address_of, far_address, far_jump, spot, total, code_from}
 use Rattle.rv_asm.specs.WordMachine.{WordState, Goes, run_words, Has}
 use Rattle.rv_asm.specs.declared.item.Item.{Item}
 use Rattle.rv_asm.specs.declared.item.Item.TheVariants.{Mark, Jump, Address}
+use Rattle.rv_asm.specs.DataWords.{StandsFor}
 use Rattle.rv_asm.specs.PieceRuns.{CanSend}
 use Rattle.rv_asm.proofs.Stretches.{Between, then-runs, between-then-quiet, quiet-then-between}
-use Rattle.action_terms.specs.Information.{NoBinds}
+use Rattle.action_terms.specs.Information.{Datum, Number}
 use Rattle.action_terms.specs.Actions.{Yielder, Send, Simple, node_at}
 use Rattle.action_terms.specs.Literals.{YielderFits}
 use Rattle.action_terms.specs.Need.{yielder_count, node_yielder_count}
@@ -17,22 +18,25 @@ use Rattle.action_terms.specs.Performances.{OneOf, Here}
 use Rattle.action_terms.specs.Steps.{Step, Sends as SendsEffect, with_effect, silent, done, failed, sent, making, closures_in, open_steps}
 use Rattle.action_terms.specs.Acting.{Run}
 use Rattle.action_terms.specs.Frames.{plugged}
+use Rattle.action_terms.specs.Suited.{IsOfSort, IsSuitedNode, IsSuitedPrimitive}
 use Rattle.action_terms.specs.Yielding.{yields}
-use Rattle.rv_yield.specs.Registers.{is_integral}
-use Rattle.rv_yield.specs.Evaluates.{HasFrame}
+use Rattle.action_terms.specs.declared.kinds.Sort.TheVariants as sort
+use Rattle.rv_yield.specs.Registers.{is_built}
 use Rattle.rv_yield.specs.YielderCode.{value_items}
-use Rattle.rv_yield.proofs.Integral.{integral-comes}
+use Rattle.rv_yield.proofs.Evaluation.{value-comes}
 use Rattle.rv_yield.proofs.NeedLaws.{registers-enough}
-use Rattle.rv_yield.proofs.Steps.{Arrives, Outcome, Present, outcome-cases}
+use Rattle.rv_yield.proofs.Steps.{Arrives, Present}
+use Rattle.rv_yield.proofs.Valued.{Known, Valued, valued-cases}
 use Rattle.rv_codegen.specs.Blocks.{fail_label, send_label, start_of, stop_of, opening, leaves, sends, send_entry}
 use Rattle.rv_codegen.proofs.AroundKept.{frames-high}
-use Rattle.rv_codegen.proofs.Ending.{LeavesNone, binds-none, leaves-stand}
-use Rattle.rv_codegen.proofs.Holding.{Holds, grows-same}
+use Rattle.rv_codegen.proofs.Ending.{leaves-stand, nothing-done}
+use Rattle.rv_codegen.proofs.FindsGiven.{all-members, finds-given}
+use Rattle.rv_codegen.proofs.Holding.{grows-same}
 use Rattle.rv_codegen.proofs.InputLeft.{left-same}
 use Rattle.rv_codegen.proofs.Jumps.{jumped, jump-runs, addressed, address-runs}
-use Rattle.rv_codegen.proofs.Nothing.{no-closures, has-words, nothing-did}
+use Rattle.rv_codegen.proofs.Nothing.{built-makes_none, has-words, nothing-did}
 use Rattle.rv_codegen.proofs.Messages.{bytes_of-message, messages_bytes-append}
-use Rattle.rv_codegen.proofs.Performing.{Did, step-done, step-failed}
+use Rattle.rv_codegen.proofs.Performing.{Did, step-failed}
 use Rattle.rv_codegen.proofs.RestPoints.{Laid, Starting, StartGoesOn, near, open-run}
 use Rattle.rv_codegen.proofs.SendEntry.{send_entry-runs}
 use Rattle.rv_codegen.proofs.Settings.{Way, way-runs, Setting, code, point, start, stop, exit, failure}
@@ -42,7 +46,7 @@ use Rattle.rv_codegen.proofs.Walk.{Cursor, stands, over, over-mark, mark-at, jum
 
 -- what the code of a node needs of the yielder that it sends
 pub record IsSendable (y : Yielder) : Type 0 where
-  pub built : is_integral y ≡ true
+  pub built : is_built y ≡ true
   pub few : yielder_count y < 65536
   pub fits : YielderFits y
 
@@ -50,20 +54,20 @@ module _ (s : Setting) where
   -- what stands in the code of node k, which sends what a yielder yields: the yielder's code, and the call of the entry
   record Calls (k : ℕ) (y : Yielder) : Type 0 where
     call : ℕ
-    value : Has (code s) (address_of (start s k).place) (code_from (spot s.items) (start s k).place (value_items [] 10 10 fail_label y))
-    behind_value : call ≡ (start s k).place + total (value_items [] 10 10 fail_label y)
+    value : Has (code s) (address_of (start s k).place) (code_from (spot s.items) (start s k).place (value_items (s.places.given k) 10 10 fail_label y))
+    behind_value : call ≡ (start s k).place + total (value_items (s.places.given k) 10 10 fail_label y)
     within : call + 2 < 2 ^ 28
     back : Has (code s) (address_of call) (far_address 1 call (stop s k).place)
     enter : Has (code s) (address_of (call + 2)) (far_jump (call + 2) (point s send_label).place)
     leave : Way (code s) (stop s k) (exit s k)
 
-  calls-stand : Laid s → LabelsStand s.items → (k : ℕ) (y : Yielder) (n : ℕ) (behind : List Item) → spot s.items (start_of k) ≡ n → stop_of k < s.labels → Cursor s.items n ((sends k y ++ leaves k (get_or s.exits k 0)) ++ (opening (suc k) ++ behind)) → Calls k y
+  calls-stand : Laid s → LabelsStand s.items → (k : ℕ) (y : Yielder) (n : ℕ) (behind : List Item) → spot s.items (start_of k) ≡ n → stop_of k < s.labels → Cursor s.items n ((sends (s.places.given k) k y ++ leaves k (get_or s.exits k 0)) ++ (opening (suc k) ++ behind)) → Calls k y
   calls-stand laid labels k y n behind here within c =
-      let value = value_items [] 10 10 fail_label y in
+      let value = value_items (s.places.given k) 10 10 fail_label y in
       let rest = leaves k (get_or s.exits k 0) ++ (opening (suc k) ++ behind) in
       let tail = Address 1 (stop_of k) ∷ Jump send_label ∷ Mark (stop_of k) ∷ rest in
-      let same : (sends k y ++ leaves k (get_or s.exits k 0)) ++ (opening (suc k) ++ behind) ≡ value ++ tail =
-      append_assoc (sends k y) (leaves k (get_or s.exits k 0)) (opening (suc k) ++ behind) ∙ append_assoc value (Address 1 (stop_of k) ∷ Jump send_label ∷ Mark (stop_of k) ∷ []) rest in
+      let same : (sends (s.places.given k) k y ++ leaves k (get_or s.exits k 0)) ++ (opening (suc k) ++ behind) ≡ value ++ tail =
+      append_assoc (sends (s.places.given k) k y) (leaves k (get_or s.exits k 0)) (opening (suc k) ++ behind) ∙ append_assoc value (Address 1 (stop_of k) ∷ Jump send_label ∷ Mark (stop_of k) ∷ []) rest in
       let c1 : Cursor s.items n (value ++ tail) = subst (Cursor s.items n) same c in
       let m = n + total value in
       let c2 = over s.items n value tail c1 in
@@ -181,28 +185,37 @@ module _ (s : Setting) where
           -- the node's one step is to send what the yielder yields
           open-sent : (n : Step) → sent (yields y x.d x.b x.world.cells) ≡ n → n.made ≡ [] → OneOf n (open_steps s.action x.world (Run x.k x.d x.b))
           open-sent n is none =
-              let same : making (closures_in y) x.b (sent (yields y x.d x.b x.world.cells)) ≡ n = ap₂ (λ bodies m. making bodies x.b m) (no-closures y ok.built) is ∙ ap (λ ms. record n { made = ms }) (sym none) in
+              let same : making (closures_in y) x.b (sent (yields y x.d x.b x.world.cells)) ≡ n = ap₂ (λ bodies m. making bodies x.b m) (built-makes_none y ok.built) is ∙ ap (λ ms. record n { made = ms }) (sym none) in
               open-run s x.k x.d x.b x.world (Simple (Send y)) n e (subst (λ m. OneOf n (m ∷ [])) (sym same) Here)
 
-          pub send-goes : (s.Opens → ⊥) → LabelsStand s.items → stop_of x.k < s.labels → LeavesNone s x.k → NodeStands s.items s.exits x.k (Simple (Send y)) → StartGoesOn s x
-          send-goes closed labels within none stands =
+          -- an integer is in the register
+          present : (address : ℕ) → (p : Known s.base (code s) x.runs.here.heap (12 * yielder_count y) 10 10 x.state address (yields y x.d x.b x.world.cells)) → IsOfSort sort.Integer (yields y x.d x.b x.world.cells) → Sent address
+          present address p sorted = by p.datum p.is p.stands (subst (IsOfSort sort.Integer) p.is sorted)
+            where
+              by : (z : Datum) → yields y x.d x.b x.world.cells ≡ Some z → StandsFor s.base x.runs.here.heap (p.arrives.end.registers 10) z → IsOfSort sort.Integer (Some z) → Sent address
+              by (Number n) is stands it = record { integer = n; is = is; fits = stands.1; arrives = p.arrives; value = stands.0 }
+              by _ is stands it = absurd (cc)
+
+          pub send-goes : (s.Opens → ⊥) → LabelsStand s.items → stop_of x.k < s.labels → NodeStands s.items s.places.given s.places.out s.exits x.k (Simple (Send y)) → StartGoesOn s x
+          send-goes closed labels within stands =
               let h = x.runs.here in
               let k = x.k in
+              let given = s.places.given k in
+              let inside = λ (o : ℕ) (m : OneOf o given). laid.data_laid.given_within k o h.node m in
+              let near_given = all-members (λ o. o < 33554432) given (λ o m. omega (arith, inside o m, laid.data_laid.reached k h.node)) in
               let calls = calls-stand laid labels k y stands.place stands.behind stands.opened.start within stands.opened.cursor in
-              let size = total (value_items [] 10 10 fail_label y) in
+              let size = total (value_items given 10 10 fail_label y) in
               let next : address_of ((start s k).place + size) ≡ address_of calls.call = ap address_of (sym calls.behind_value) in
               let less : (start s k).place < (failure s).place = omega (arith, stands.opened.start, stands.before_failure) in
               let v = yields y x.d x.b x.world.cells in
-              let frame : HasFrame s.base h.f x.state = record { aligned = laid.aligned; below = omega (arith, laid.below, ap length h.stands.words_are, h.region.size); frame = h.stands.frame_at } in
+              let suited : IsSuitedPrimitive (Send y) x.d x.b x.world.cells = subst (λ n. IsSuitedNode n x.d x.b x.world.cells) e (laid.data_laid.suits x.steps x.frames k x.d x.b x.world x.runs.here.node x.reached).suited in
               let outcome =
-              integral-comes s.base (code s) (spot s.items) fail_label (near s laid fail_label) x.d x.b x.world.cells h.f y ok.built (has-words y ok.fits) 10 10 (omega arith) (omega (arith, registers-enough y ok.few)) (inl refl) (start s k).place x.state (omega (arith, calls.within, calls.behind_value)) x.runs.at calls.value frame in
+              value-comes s.base (code s) (spot s.items) fail_label (near s laid fail_label) h.heap given near_given h.f x.d x.b x.world.cells y ok.built (has-words y ok.fits) suited.0 10 10 (omega arith) (omega (arith, registers-enough y ok.few)) (inl refl) (start s k).place x.state (omega (arith, calls.within, calls.behind_value)) x.runs.at calls.value (finds-given s laid x inside) in
               ⊎_elim
-              (λ (p : Sent (address_of calls.call)).
-              let did = send-did closed calls p in
-              step-done s laid x (with_effect (SendsEffect p.integer) done) [] NoBinds (open-sent (with_effect (SendsEffect p.integer) done) (ap sent p.is) refl) refl did
-              (subst (λ os. Holds s.base did.heap did.words h.f os []) (sym none.out) tt)
-              (binds-none s k none did.heap did.words h.f))
+              (λ (q : Known s.base (code s) h.heap (12 * yielder_count y) 10 10 x.state (address_of calls.call) v).
+              let p = present (address_of calls.call) q suited.1 in
+              nothing-done s laid x (with_effect (SendsEffect p.integer) done) (open-sent (with_effect (SendsEffect p.integer) done) (ap sent p.is) refl) refl (send-did closed calls p))
               (λ (p : (v ≡ None) × Comes (address_of (failure s).place)).
               step-failed s laid x (silent failed) (open-sent (silent failed) (ap sent p.0) refl) refl (nothing-did s laid x (12 * yielder_count y) (omega (arith, paid)) less p.1))
-              (outcome-cases s.base (code s) (12 * yielder_count y) 10 10 x.state (address_of calls.call) (address_of (failure s).place) v
-              (subst (λ p. Outcome s.base (code s) (12 * yielder_count y) 10 10 x.state p (address_of (failure s).place) v) next outcome))
+              (valued-cases s.base (code s) h.heap (12 * yielder_count y) 10 10 x.state (address_of calls.call) (address_of (failure s).place) v
+              (subst (λ p. Valued s.base (code s) h.heap (12 * yielder_count y) 10 10 x.state p (address_of (failure s).place) v) next outcome))

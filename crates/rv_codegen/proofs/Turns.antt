@@ -9,10 +9,10 @@ use Rattle.rv_asm.specs.WordMachine.{WordState, Has}
 use Rattle.rv_asm.proofs.Calls.{before_exit, before_exit-runs, exit-stops}
 use Rattle.rv_asm.proofs.Moments.{quiet-stop}
 use Rattle.action_terms.specs.Information.{Binds, Data, World}
-use Rattle.action_terms.specs.Actions.{Primitive, Complete, Failing, Escape, Commit, Regive, Check, Send, Node, Simple, Furthermore, Both, Phases, node_at}
+use Rattle.action_terms.specs.Actions.{Complete, Failing, Escape, Commit, Regive, Give, Check, Send, Node, Simple, Furthermore, Both, Phases, node_at}
 use Rattle.action_terms.specs.Literals.{NodeFits, NumbersFit}
 use Rattle.action_terms.specs.Acting.{Done, End, Esc, Fail, Tree, Run, Ended}
-use Rattle.action_terms.specs.Need.{node_yielder_count}
+use Rattle.action_terms.specs.Need.{items_yielder_count, node_yielder_count}
 use Rattle.action_terms.specs.Performances.{messages_bytes}
 use Rattle.action_terms.specs.Steps.{Step, failed}
 use Rattle.action_terms.specs.Frames.{Frame, InCalled, InParLeft, InParRight, InFirst, InSecond, InOr, InCut, InTrap, InOver, InTail, plug}
@@ -23,8 +23,10 @@ use Rattle.rv_codegen.proofs.Around.{Chains, Around}
 use Rattle.rv_codegen.proofs.Checking.{IsCheckable, check-goes}
 use Rattle.rv_codegen.proofs.Completions.{tail-done}
 use Rattle.rv_codegen.proofs.Configurations.{Configuration, EndCode, depth, performances}
-use Rattle.rv_codegen.proofs.Ending.{LeavesNone, complete-goes, commit-goes, regive-goes, fail-goes}
+use Rattle.rv_codegen.proofs.BuiltItems.{items-built, items-make_none}
+use Rattle.rv_codegen.proofs.Ending.{complete-goes, commit-goes, fail-goes}
 use Rattle.rv_codegen.proofs.Escaping.{escape-goes}
+use Rattle.rv_codegen.proofs.DataTurns.{gives-goes, regives-goes}
 use Rattle.rv_codegen.proofs.InputLeft.{Left}
 use Rattle.rv_codegen.proofs.Joins.{both-start, left-done, right-done}
 use Rattle.rv_codegen.proofs.NodeParts.{IsNode}
@@ -40,14 +42,12 @@ module _ (s : Setting) where
   pub record Compiled : Type 0 where
     pub laid : Laid s
     pub labels : LabelsStand s.items
-    pub each : (k : ℕ) → IsNode (node_at s.action k) → NodeStands s.items s.exits k (node_at s.action k)
+    pub each : (k : ℕ) → IsNode (node_at s.action k) → NodeStands s.items s.places.given s.places.out s.exits k (node_at s.action k)
     pub built : (k : ℕ) → IsNode (node_at s.action k) → is_built_node (node_at s.action k) ≡ true
     pub numbers : NumbersFit s.action
     pub few : (k : ℕ) → node_yielder_count (node_at s.action k) < 65536
     pub within : (k : ℕ) → IsNode (node_at s.action k) → stop_of k < s.labels
-    -- no data are given, the primitives that are built leave nothing, no alternatives or traps are opened, and nothing is called
-    pub unfed : (k : ℕ) → s.places.given k ≡ []
-    pub none : (k : ℕ) (p : Primitive) → node_at s.action k ≡ Simple p → LeavesNone s k
+    -- no alternatives or traps are opened, and nothing is called
     pub closed : s.Opens → ⊥
     pub uncalled : (n c : ℕ) → s.procedures.calls n c → ⊥
     pub completed : Has (code s) (address_of (exit s 0).place) (exit_with 0)
@@ -64,18 +64,22 @@ module _ (s : Setting) where
 
     -- ---- a node is to be performed
 
-    run-goes : (x : Starting s) (n : Node) → node_at s.action x.k ≡ n → NodeStands s.items s.exits x.k n → is_built_node n ≡ true → StartGoesOn s x
-    run-goes x (Simple Complete) e stands b = complete-goes s it.laid x e it.labels (omega (arith, it.within x.k x.runs.here.node)) (it.none x.k Complete e) stands
-    run-goes x (Simple Commit) e stands b = commit-goes s it.laid x it.closed e it.labels (omega (arith, it.within x.k x.runs.here.node)) (it.none x.k Commit e) stands
-    run-goes x (Simple Regive) e stands b = regive-goes s it.laid x (it.unfed x.k) e it.labels (omega (arith, it.within x.k x.runs.here.node)) (it.none x.k Regive e) stands
-    run-goes x (Simple Escape) e stands b = escape-goes s it.laid x (it.unfed x.k) e stands
+    run-goes : (x : Starting s) (n : Node) → node_at s.action x.k ≡ n → NodeStands s.items s.places.given s.places.out s.exits x.k n → is_built_node n ≡ true → StartGoesOn s x
+    run-goes x (Simple Complete) e stands b = complete-goes s it.laid x e it.labels (omega (arith, it.within x.k x.runs.here.node)) stands
+    run-goes x (Simple Commit) e stands b = commit-goes s it.laid x it.closed e it.labels (omega (arith, it.within x.k x.runs.here.node)) stands
+    run-goes x (Simple Regive) e stands b = regives-goes s it.laid x e it.labels (it.within x.k x.runs.here.node) stands
+    run-goes x (Simple (Give is)) e stands b =
+        let few : items_yielder_count is < 65536 = subst (λ n. node_yielder_count n < 65536) e (it.few x.k) in
+        let fits : NodeFits (Simple (Give is)) = subst NodeFits e (node-fits s.action x.k it.numbers) in
+        gives-goes s it.laid x is e (items-built is b fits few) (items-make_none is b) it.labels (it.within x.k x.runs.here.node) stands
+    run-goes x (Simple Escape) e stands b = escape-goes s it.laid x e stands
     run-goes x (Simple Failing) e stands b = fail-goes s it.laid x e stands
     run-goes x (Simple (Check y)) e stands b =
         let ok : IsCheckable y = record { built = b; few = subst (λ n. node_yielder_count n < 65536) e (it.few x.k); fits = subst NodeFits e (node-fits s.action x.k it.numbers) } in
-        check-goes s it.laid x y e ok (it.unfed x.k) it.labels (it.within x.k x.runs.here.node) (it.none x.k (Check y) e) stands
+        check-goes s it.laid x y e ok it.labels (it.within x.k x.runs.here.node) stands
     run-goes x (Simple (Send y)) e stands b =
         let ok : IsSendable y = record { built = b; few = subst (λ n. node_yielder_count n < 65536) e (it.few x.k); fits = subst NodeFits e (node-fits s.action x.k it.numbers) } in
-        send-goes s it.laid it.send x y e ok it.closed it.labels (it.within x.k x.runs.here.node) (it.none x.k (Send y) e) stands
+        send-goes s it.laid it.send x y e ok it.closed it.labels (it.within x.k x.runs.here.node) stands
     run-goes x (Both j l r) e stands b = both-start s it.laid x j l r e
     run-goes x (Phases q l r) e stands b = phases-start s it.laid x q l r e
     run-goes x _ e stands b = absurd (let r : false ≡ true = b in cc)

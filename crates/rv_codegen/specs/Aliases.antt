@@ -1,5 +1,5 @@
 -- Where nodes find the data that they are given, and where they leave those that they complete with. Nothing is copied from node to node: a part finds its data where its node does, or where the part before it left them, and leaves its own where its node does.
-use Rattle.std.specs.Prelude.{◌≡◌, ◌⊎◌, ℕ, zero, suc, ◌+◌, ◌<◌, ◌≤◌, List, [], ◌∷◌, length, take, drop, nat_eq, if◌then◌else◌, Option, Some, None, map, slice_index_or, slice_set}
+use Rattle.std.specs.Prelude.{◌≡◌, ◌⊎◌, ℕ, zero, suc, ◌+◌, ◌<◌, ◌≤◌, List, [], ◌∷◌, length, replicate, take, drop, nat_eq, if◌then◌else◌, Option, Some, None, map, slice_index_or, slice_set}
 use Rattle.std.specs.Borrow.{Bor}
 use Rattle.action_terms.specs.Actions.{Then, Node, Both, Phases, Trapping, Action, node_at}
 use Rattle.action_terms.specs.Performances.{OneOf}
@@ -101,6 +101,10 @@ put_each (m ∷ ms) ns = put_each ms (slice_set ns m.node m)
 abbrev pub put_frames : List Frame → List PlacedNode → List PlacedNode
 put_frames [] ns = ns
 put_frames (f ∷ fs) ns = put_frames fs (put_each f.nodes ns)
+
+-- the places of the nodes of an action in these frames, by number
+abbrev pub places_in : Action → List Frame → ℕ → PlacedNode
+places_in a fs = place_at (put_frames fs (replicate (length a) nowhere))
 
 -- the list has the places of all frames, put into a list of so many
 pub record ArePut (count : ℕ) (fs : List Frame) (ns : List PlacedNode) : Type 0 where

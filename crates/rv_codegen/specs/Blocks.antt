@@ -1,17 +1,22 @@
 -- The items that the code of an action is assembled from.
-use Rattle.std.specs.Prelude.{ℕ, suc, ◌+◌, ◌*◌, nat_eq, if◌then◌else◌, true, List, [], ◌∷◌, ◌++◌, map, pos, slice_index, slice_set, replicate, length}
+use Rattle.std.specs.Prelude.{ℕ, suc, ◌+◌, ◌*◌, nat_eq, nat_lt, if◌then◌else◌, true, List, [], ◌∷◌, ◌++◌, map, pos, slice_index, slice_set, replicate, length}
 use Rattle.rv_code.specs.declared.instruction.Inst.{Inst}
 use Rattle.rv_code.specs.declared.instruction.Inst.TheVariants.{Op, OpImm, Shift, Upper, Jalr}
 use Rattle.rv_code.specs.declared.instruction.OpOp.TheVariants.{Add}
 use Rattle.rv_code.specs.declared.instruction.OpImmOp.TheVariants.{Addi}
 use Rattle.rv_code.specs.declared.instruction.ShiftOp.TheVariants.{Slli, Srli}
 use Rattle.rv_code.specs.declared.instruction.UpperOp.TheVariants.{Lui}
-use Rattle.rv_asm.specs.Pieces.{send_word, exit_with}
+use Rattle.rv_asm.specs.Conventions.{frame_register}
+use Rattle.rv_asm.specs.Pieces.{send_word, exit_with, load_constant}
 use Rattle.rv_asm.specs.declared.item.Item.{Item}
 use Rattle.rv_asm.specs.declared.item.Item.TheVariants.{Plain, Mark, Jump, Address}
-use Rattle.action_terms.specs.Actions.{Yielder, Complete, Failing, Escape, Commit, Regive, Check, Send, Node, Simple, Both, Phases, Action}
+use Rattle.action_terms.specs.Actions.{Yielder, Item as DataItem, Complete, Failing, Escape, Commit, Regive, Give, Check, Send, Node, Simple, Both, Phases, Action}
 use Rattle.rv_yield.specs.Conditions.{condition_items}
+use Rattle.rv_yield.specs.Registers.{first_register}
 use Rattle.rv_yield.specs.YielderCode.{value_items}
+use Rattle.frame_layout.specs.Places.{Frame}
+use Rattle.rv_codegen.specs.Aliases.{given_of, out_of, places_in}
+use Rattle.rv_codegen.specs.GivenItems.{give_items, moves_items}
 
 -- ---- labels
 
@@ -98,42 +103,58 @@ abbrev pub leaves : (k exit : ℕ) → List Item
 leaves k exit = goes (front_of (suc k)) exit
 
 -- sends the integer of a yielder by the entry that sends; where the yielder yields nothing, this goes to the entry for failures
-abbrev pub sends : (k : ℕ) → Yielder → List Item
-sends k y = value_items [] 10 10 fail_label y ++ (Address 1 (stop_of k) ∷ Jump send_label ∷ Mark (stop_of k) ∷ [])
+abbrev pub sends : (given : List ℕ) → (k : ℕ) → Yielder → List Item
+sends given k y = value_items given 10 10 fail_label y ++ (Address 1 (stop_of k) ∷ Jump send_label ∷ Mark (stop_of k) ∷ [])
 
 -- goes on where a yielder yields `true`, and else to the entry for failures
-abbrev pub checks : (k : ℕ) → Yielder → List Item
-checks k y = condition_items [] true fail_label fail_label y ++ Mark (stop_of k) ∷ []
+abbrev pub checks : (given : List ℕ) → (k : ℕ) → Yielder → List Item
+checks given k y = condition_items given true fail_label fail_label y ++ Mark (stop_of k) ∷ []
 
--- escapes by the entry for escapes, which finds the address of the data in register 10. None are given, so it is that of the frame
-abbrev pub escapes : List Item
-escapes = Plain (OpImm Addi 10 2 (pos 0)) ∷ Jump escape_label ∷ []
+-- leaves data; where one of their items yields nothing, this goes to the entry for failures
+abbrev pub gives : (given out : List ℕ) → (k : ℕ) → List DataItem → List Item
+gives given out k is = give_items given out fail_label is ++ Mark (stop_of k) ∷ []
 
--- the code of node k behind its start, where the node goes on at a label. No data are given, and no alternative is open
-abbrev pub body : (k exit : ℕ) → Node → List Item
-body k exit (Simple Complete) = leaves k exit
-body k exit (Simple Commit) = leaves k exit
-body k exit (Simple Regive) = leaves k exit
-body k exit (Simple Failing) = Jump fail_label ∷ []
-body k exit (Simple Escape) = escapes
-body k exit (Simple (Check y)) = checks k y ++ leaves k exit
-body k exit (Simple (Send y)) = sends k y ++ leaves k exit
-body k exit (Both j l r) = goes (start_of (suc k)) (start_of l)
-body k exit (Phases q l r) = goes (start_of (suc k)) (start_of l)
-body k exit _ = []
+-- leaves what is given where the node leaves its data
+abbrev pub regives : (given out : List ℕ) → (k : ℕ) → List Item
+regives given out k = map Plain (moves_items given out) ++ Mark (stop_of k) ∷ []
+
+-- the address of the word at an offset of the frame goes to register 10
+abbrev pub address_items : (offset : ℕ) → List Inst
+address_items offset =
+    if nat_lt offset 256 then OpImm Addi first_register frame_register (pos (8 * offset)) ∷ []
+    else load_constant first_register (8 * offset) ++ Op Add first_register first_register frame_register ∷ []
+
+-- escapes by the entry for escapes, which finds the address of the data in register 10: they stand in a row from the first of these words on
+abbrev pub escapes : (given : List ℕ) → List Item
+escapes given = map Plain (address_items (slice_index given 0)) ++ Jump escape_label ∷ []
+
+-- the code of node k behind its start, where the node goes on at a label, finds its data at the words `given` and leaves them at the words `out`. No alternative is open
+abbrev pub body : (given out : List ℕ) → (k exit : ℕ) → Node → List Item
+body given out k exit (Simple Complete) = leaves k exit
+body given out k exit (Simple Commit) = leaves k exit
+body given out k exit (Simple Regive) = regives given out k ++ leaves k exit
+body given out k exit (Simple (Give is)) = gives given out k is ++ leaves k exit
+body given out k exit (Simple Failing) = Jump fail_label ∷ []
+body given out k exit (Simple Escape) = escapes given
+body given out k exit (Simple (Check y)) = checks given k y ++ leaves k exit
+body given out k exit (Simple (Send y)) = sends given k y ++ leaves k exit
+body given out k exit (Both j l r) = goes (start_of (suc k)) (start_of l)
+body given out k exit (Phases q l r) = goes (start_of (suc k)) (start_of l)
+body given out k exit _ = []
 
 -- the marks before the body of node k
 abbrev pub opening : (k : ℕ) → List Item
 opening k = Mark (joint_of k) ∷ Mark (front_of k) ∷ Mark (start_of k) ∷ []
 
 -- the code of node k
-abbrev pub block : (k exit : ℕ) → Node → List Item
-block k exit n = opening k ++ body k exit n
+abbrev pub block : (given out : List ℕ) → (k exit : ℕ) → Node → List Item
+block given out k exit n = opening k ++ body given out k exit n
 
--- the code of the nodes from number k on
-abbrev pub blocks_from : (k : ℕ) → List ℕ → Action → List Item
-blocks_from k exits [] = []
-blocks_from k exits (n ∷ a) = block k (slice_index exits k) n ++ blocks_from (suc k) exits a
+-- the code of the nodes from number k on, by where nodes find and leave data
+abbrev pub blocks_from : (given out : ℕ → List ℕ) → (k : ℕ) → List ℕ → Action → List Item
+blocks_from given out k exits [] = []
+blocks_from given out k exits (n ∷ a) =
+    block (given k) (out k) k (slice_index exits k) n ++ blocks_from given out (suc k) exits a
 
 -- ---- the entries
 
@@ -152,5 +173,9 @@ entries nodes =
     ++ (Mark send_label ∷ (map Plain send_entry ++ Mark end_label ∷ [])))))
 
 -- the code of an action: the first instructions, from which the run comes to the root, the nodes, and the entries
-abbrev pub action_items : Action → List Item
-action_items a = prelude ++ (blocks_from 0 (exits_of a) a ++ entries (length a))
+abbrev pub action_items : (given out : ℕ → List ℕ) → Action → List Item
+action_items given out a = prelude ++ (blocks_from given out 0 (exits_of a) a ++ entries (length a))
+
+-- the same, with the places that these frames have for data
+abbrev pub framed_items : Action → List Frame → List Item
+framed_items a fs = action_items (given_of (places_in a fs) a) (out_of (places_in a fs) a) a

@@ -1,29 +1,13 @@
 -- Which nodes have code.
-use Rattle.std.specs.Prelude.{◌≡◌, ℕ, suc, ◌<◌, Bool, true, false, ◌&&◌, ◌||◌, if◌then◌else◌, List, [], ◌∷◌, length, slice_index_or}
-use Rattle.action_terms.specs.Actions.{Two, Is, Less, BothOf, EitherOf, Not, Yielder, TruthLiteral, OnTwo, OnOne, Complete, Failing, Escape, Commit, Regive, Check, Send, Node, Simple, Both, Phases, Action}
-use Rattle.action_terms.specs.Forms.{yielder_at}
-use Rattle.action_terms.specs.Numbering.{ListedYielder}
-use Rattle.rv_yield.specs.Registers.{is_integral}
+use Rattle.std.specs.Prelude.{ℕ, suc, Bool, true, false, ◌&&◌, if◌then◌else◌, List, [], ◌∷◌}
+use Rattle.action_terms.specs.Actions.{Item, Single, Them, Complete, Failing, Escape, Commit, Regive, Give, Check, Send, Node, Simple, Both, Phases, Action}
+use Rattle.rv_yield.specs.Registers.{is_built}
 
--- whether an operation yields truth-values alone, by whether its operands are integers, and whether they are truth-values
-abbrev pub yields_truth : Two → (integers truths : Bool) → Bool
-yields_truth Is integers truths = integers || truths
-yields_truth Less integers truths = integers
-yields_truth BothOf integers truths = truths
-yields_truth EitherOf integers truths = truths
-yields_truth _ integers truths = false
-
--- the yielders of truth-values alone, whatever is given: literals, comparisons, and what joins such
-abbrev pub is_condition : Yielder → Bool
-is_condition (TruthLiteral t) = true
-is_condition (OnTwo f y1 y2) = yields_truth f (is_integral y1 && is_integral y2) (is_condition y1 && is_condition y2)
-is_condition (OnOne Not y) = is_condition y
-is_condition _ = false
-
--- this is known of the yielders, by their numbers
-pub record AreConditions (yielders : List ListedYielder) (known : List Bool) : Type 0 where
-  pub size : length known ≡ length yielders
-  pub each : (k : ℕ) → k < length yielders → slice_index_or known k false ≡ is_condition (yielder_at yielders k)
+-- whether the code of data can be generated: that of each yielder of a datum. `them` is moved
+abbrev pub are_built : List Item → Bool
+are_built [] = true
+are_built (Single y ∷ is) = is_built y && are_built is
+are_built (Them ∷ is) = are_built is
 
 -- whether the code of a node can be generated: its kind, and each yielder of it, is built
 abbrev pub is_built_node : Node → Bool
@@ -32,8 +16,9 @@ is_built_node (Simple Commit) = true
 is_built_node (Simple Regive) = true
 is_built_node (Simple Failing) = true
 is_built_node (Simple Escape) = true
-is_built_node (Simple (Check y)) = is_condition y
-is_built_node (Simple (Send y)) = is_integral y
+is_built_node (Simple (Give is)) = are_built is
+is_built_node (Simple (Check y)) = is_built y
+is_built_node (Simple (Send y)) = is_built y
 is_built_node (Both j l r) = true
 is_built_node (Phases q l r) = true
 is_built_node _ = false

@@ -5,3 +5,4 @@ pub mod Marks
 pub mod Built
 pub mod Aliases
 pub mod GivenItems
+pub mod ItemCode

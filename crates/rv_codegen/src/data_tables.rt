@@ -103,11 +103,8 @@ fn given_of_part<'a>(
             left,
             right: _,
         } => {
-            if part == left {
-                found
-            } else {
-                own_out(places, left)
-            }
+            let handed_on = own_out(places, left);
+            if part == left { found } else { handed_on }
         }
         NodeView::Trapping { left, right: _ } => {
             if part == left {
@@ -186,6 +183,7 @@ fn pass_givens<'a>(
 
 /// Where nodes find what they are given, and where they leave what they complete with, by their
 /// numbers.
+#[derive(Drop)]
 pub(crate) struct DataTables<'a> {
     /// Where each finds what it is given.
     pub(crate) given: Vec<&'a [u32]>,
@@ -200,6 +198,8 @@ pub(crate) fn data_tables<'a>(
     places: &[NodePlaces<'a>],
 ) -> Result<DataTables<'a>, Memory>
     requires { length places.now ≡ length graph.now.nodes }
+    ensures given_count { IfOk result (λ t. vec_len t.given ≡ length graph.now.nodes) }
+    ensures out_count { IfOk result (λ t. vec_len t.out ≡ length graph.now.nodes) }
     ensures given { IfOk result (λ t. (k : ℕ) → k < length graph.now.nodes
         → list_at (lists_of t.given.items) k
         ≡ given_of (place_at (map placed_node places.now)) (action_of graph.now) k) }

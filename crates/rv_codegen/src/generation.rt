@@ -1,41 +1,56 @@
 //! The code of an action, for any action whose nodes are built.
 
-ghost use Rattle.std.specs.Prelude.{◌≡◌, ℕ, ◌+◌, ◌*◌, ◌≤◌, [], OnOk, IfOk, length, Some, map, sum_by};
+ghost use Rattle.std.specs.Prelude.{◌≡◌, ℕ, ◌+◌, ◌*◌, ◌<◌, ◌≤◌, [], All, OnOk, IfOk, length, Some, map, sum_by};
 ghost use Rattle.rv_code.specs.Encode.{encode};
 ghost use Rattle.rv_asm.specs.Arrivals.{LabelsStand};
 ghost use Rattle.rv_asm.specs.Assembly.{total, code_of};
 ghost use Rattle.rv_asm.specs.Conventions.{instruction_bytes};
+ghost use Rattle.rv_asm.specs.Pieces.{exit_with};
 ghost use Rattle.action_terms.specs.Literals.{NumbersFit};
 ghost use Rattle.action_terms.specs.Meaning.{action_of};
 ghost use Rattle.action_terms.specs.Need.{node_yielder_count};
-ghost use Rattle.action_terms.specs.Numbering.{IsGraph};
+ghost use Rattle.sort_rules.specs.Admissible.{IsAdmissible};
+ghost use Rattle.sort_rules.specs.Measures.{width};
+ghost use Rattle.sort_rules.specs.Rows.{unmarked};
 ghost use Rattle.sort_rules.specs.Tables.{MarkedTable};
-ghost use Rattle.rv_codegen.specs.Blocks.{first_label, blocks_from, action_items};
+ghost use Rattle.frame_layout.specs.Layouts.{HasApartNodes, IsLayout};
+ghost use Rattle.frame_layout.specs.Places.{frames_of};
+ghost use Rattle.rv_codegen.specs.Aliases.{list_at, lists_of, words_at};
+ghost use Rattle.rv_codegen.specs.Blocks.{first_label, blocks_from, action_items, framed_items};
 ghost use Rattle.rv_codegen.specs.Marks.{extended, AreFresh};
 ghost use Rattle.rv_codegen.specs.Built.{unbuilt};
+ghost use Rattle.rv_codegen.specs.ItemCode.{AreReached};
+ghost use Rattle.rv_codegen.specs.Measures.{node_count};
 ghost use Rattle.rv_codegen.specs.RightImage.{compiled_image, IsRight};
 
+use crate::data_tables::data_tables;
 use crate::entries::{append_entries, append_prelude, make_entries};
 use crate::exits::make_exits;
 use crate::labels::{NodeLabels, make_labels};
 use crate::node::append_node;
+use crate::node_places::places_by_number;
 use crate::plan::Plan;
-use acg_base::Memory;
+use crate::room::{full_code, main_words};
+use acg_base::{Capacity, Memory};
 use action_terms::Graph;
+use frame_layout::Layout;
 use rv_asm::{Asm, Code};
 use rv_yield::registers_needed;
+use sort_rules::Table;
 use std::alloc::Global;
 
 /// Appends the code of all nodes, in the order of their numbers.
-fn append_nodes(asm: &mut Asm, plan: Plan<'_, '_>) -> Result<(), Memory>
+fn append_nodes(asm: &mut Asm, plan: Plan<'_, '_, '_>) -> Result<(), Memory>
     requires made { first_label + length plan.labels.row.now ≤ asm.old.labels }
     requires fresh { AreFresh 0 asm.old.items }
     ensures items { OnOk result (asm.new
-        ≡ extended asm.old (blocks_from 0 plan.entry.exits.now (action_of plan.entry.graph.now))) }
+        ≡ extended asm.old (blocks_from (list_at (lists_of plan.entry.given.now))
+        (list_at (lists_of plan.entry.out.now)) 0 plan.entry.exits.now
+        (action_of plan.entry.graph.now))) }
     ensures fresh { OnOk result (AreFresh (length plan.entry.graph.now.nodes) asm.new.items) }
     ensures short { OnOk result
-        (total asm.new.items ≤ total asm.old.items + 6 * length plan.entry.graph.now.nodes
-        + 15 * sum_by node_yielder_count (action_of plan.entry.graph.now)) }
+        (total asm.new.items ≤ total asm.old.items + 530 * length plan.entry.graph.now.nodes
+        + 520 * sum_by node_yielder_count (action_of plan.entry.graph.now)) }
 {
     let count = plan.graph.nodes().len();
     for k in 0..count {
@@ -45,29 +60,41 @@ fn append_nodes(asm: &mut Asm, plan: Plan<'_, '_>) -> Result<(), Memory>
 }
 
 /// Appends all of the code: the first instructions, the nodes and the entries.
-fn append_action(asm: &mut Asm, plan: Plan<'_, '_>) -> Result<(), Memory>
+fn append_action(asm: &mut Asm, plan: Plan<'_, '_, '_>) -> Result<(), Memory>
     requires empty { asm.old.items ≡ [] }
     requires made { first_label + length plan.labels.row.now ≤ asm.old.labels }
-    ensures items { OnOk result (asm.new.items ≡ action_items (action_of plan.entry.graph.now)) }
+    ensures items { OnOk result (asm.new.items
+        ≡ action_items (list_at (lists_of plan.entry.given.now))
+        (list_at (lists_of plan.entry.out.now)) (action_of plan.entry.graph.now)) }
     ensures short { OnOk result
-        (total asm.new.items ≤ 25 + 6 * length (action_of plan.entry.graph.now)
-        + 15 * sum_by node_yielder_count (action_of plan.entry.graph.now)) }
+        (total asm.new.items ≤ 25 + 530 * length (action_of plan.entry.graph.now)
+        + 520 * sum_by node_yielder_count (action_of plan.entry.graph.now)) }
 {
     append_prelude(asm, plan.entries)?;
     append_nodes(asm, plan)?;
     append_entries(asm, plan.labels, plan.graph.nodes().len(), plan.entries)
 }
 
-/// The code of a graph's action.
-fn assemble(alloc: Global, graph: &Graph<'_>) -> Result<Code, Memory>
+/// The code of a graph's action, by where its nodes find and leave data.
+fn assemble<'l>(
+    alloc: Global,
+    graph: &Graph<'_>,
+    given: &'l [&'l [u32]],
+    out: &'l [&'l [u32]],
+) -> Result<Code, Memory>
     requires built { unbuilt (action_of graph.now) ≡ [] }
+    requires given_count { length given.now ≡ length graph.now.nodes }
+    requires out_count { length out.now ≡ length graph.now.nodes }
+    requires given_reached { (k : ℕ) → AreReached (list_at (lists_of given.now) k) }
+    requires out_reached { (k : ℕ) → AreReached (list_at (lists_of out.now) k) }
     ensures words { IfOk result (λ code. map Some code.words.items
-        ≡ map encode (code_of (action_items (action_of graph.now)))) }
-    ensures labels { OnOk result (LabelsStand (action_items (action_of graph.now))) }
+        ≡ map encode (code_of (action_items (list_at (lists_of given.now))
+        (list_at (lists_of out.now)) (action_of graph.now)))) }
+    ensures labels { OnOk result (LabelsStand (action_items (list_at (lists_of given.now))
+        (list_at (lists_of out.now)) (action_of graph.now))) }
     ensures short { OnOk result
-        (total (action_items (action_of graph.now)) ≤ 25 + 6 * length (action_of graph.now)
-        + 15 * sum_by node_yielder_count (action_of graph.now)) }
-    ensures graph { OnOk result (IsGraph graph.now) }
+        (total (action_items (list_at (lists_of given.now)) (list_at (lists_of out.now))
+        (action_of graph.now)) ≤ 25 + 530 * node_count (action_of graph.now)) }
     ensures numbers { OnOk result (NumbersFit (action_of graph.now)) }
 {
     let count = graph.nodes().len();
@@ -82,6 +109,8 @@ fn assemble(alloc: Global, graph: &Graph<'_>) -> Result<Code, Memory>
         graph: &*graph,
         needs: &needs,
         labels,
+        given,
+        out,
         exits: &exits,
         entries: &entries,
     };
@@ -89,15 +118,63 @@ fn assemble(alloc: Global, graph: &Graph<'_>) -> Result<Code, Memory>
     asm.finish()
 }
 
-/// The code of an action whose nodes are built: words of 32 bits, for the image of which it is
-/// proved that it is right for the action, whatever table measures it, and whatever capacity in its
-/// ranges is written into it. An `Err` says want of memory.
-pub fn generate(alloc: Global, graph: &Graph<'_>) -> Result<Code, Memory>
+/// The code of a graph's action, with the places of a layout for its data.
+fn assemble_framed(alloc: Global, graph: &Graph<'_>, layout: &Layout<'_>) -> Result<Code, Memory>
     requires built { unbuilt (action_of graph.now) ≡ [] }
-    ensures right { IfOk result (λ code. (t : MarkedTable) (stack units : ℕ)
-        → 1 ≤ stack → stack ≤ 16777216 → 1 ≤ units → units ≤ 4194304
-        → IsRight (compiled_image (instruction_bytes code.words.items) stack units)
-        (record { action = action_of graph.now; table = t; stack = stack; units = units })) }
+    requires table { (t : MarkedTable) × (width (length (action_of graph.now)) t ≤ 64)
+        × IsLayout (action_of graph.now) t (frames_of layout.now) }
+    requires apart { All HasApartNodes (frames_of layout.now) }
+    ensures words { IfOk result (λ code. map Some code.words.items
+        ≡ map encode (code_of (framed_items (action_of graph.now) (frames_of layout.now)))) }
+    ensures labels { OnOk result
+        (LabelsStand (framed_items (action_of graph.now) (frames_of layout.now))) }
+    ensures short { OnOk result
+        (total (framed_items (action_of graph.now) (frames_of layout.now))
+        ≤ 25 + 530 * node_count (action_of graph.now)) }
+    ensures numbers { OnOk result (NumbersFit (action_of graph.now)) }
 {
-    assemble(alloc, graph)
+    let count = graph.nodes().len();
+    let places = places_by_number(alloc, layout, count)?;
+    let tables = data_tables(alloc, graph, &places)?;
+    assemble(alloc, graph, &tables.given, &tables.out)
+}
+
+/// The code of an action whose nodes are built, for an admissible table of its sorts, a layout of
+/// its frames by that table, and a capacity: words of 32 bits, for the image of which it is proved
+/// that it is right for the action, the table and the capacity. Where the frame of the main
+/// procedure needs more words than the stack has, the code exits as full at once. An `Err` says want
+/// of memory.
+pub fn generate(
+    alloc: Global,
+    graph: &Graph<'_>,
+    table: &Table<'_>,
+    layout: &Layout<'_>,
+    capacity: Capacity,
+) -> Result<Code, Memory>
+    requires built { unbuilt (action_of graph.now) ≡ [] }
+    requires admissible { IsAdmissible (action_of graph.now) (unmarked table.now) }
+    requires rows { length table.now.rows ≡ length graph.now.nodes }
+    requires layout { IsLayout (action_of graph.now) (unmarked table.now) (frames_of layout.now) }
+    requires apart { All HasApartNodes (frames_of layout.now) }
+    requires stack { (1 ≤ capacity.stack) × (capacity.stack ≤ 16777216) }
+    requires units { (1 ≤ capacity.units) × (capacity.units ≤ 4194304) }
+    ensures right { IfOk result (λ code. IsRight
+        (compiled_image (instruction_bytes code.words.items)
+        capacity.stack capacity.units)
+        (record {
+          action = action_of graph.now;
+          table = unmarked table.now;
+          stack = capacity.stack;
+          units = capacity.units;
+        })) }
+    ensures full { IfOk result (λ code. capacity.stack < words_at (frames_of layout.now) 0
+        → map Some code.words.items ≡ map encode (exit_with 3)) }
+{
+    // how many nodes and yielders there are, and how wide rows are, is limited
+    let _nodes = graph.nodes();
+    let _width = table.width();
+    if u64::from(main_words(layout)) > capacity.stack {
+        return full_code(alloc);
+    }
+    assemble_framed(alloc, graph, layout)
 }

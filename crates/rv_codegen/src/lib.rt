@@ -3,7 +3,7 @@
 #![tactic(auto)]
 
 mod built;
-mod conditions;
+mod data;
 mod data_tables;
 mod entries;
 mod exits;
@@ -12,6 +12,7 @@ mod labels;
 mod node;
 mod node_places;
 mod plan;
+mod room;
 
 pub use built::first_unbuilt;
 pub use generation::generate;

@@ -1,23 +1,27 @@
 //! The code of one node.
 
-ghost use Rattle.std.specs.Prelude.{◌≡◌, ℕ, ◌+◌, ◌*◌, ◌<◌, ◌≤◌, ◌++◌, OnOk, true, false, length};
+ghost use Rattle.std.specs.Prelude.{◌≡◌, ℕ, ◌+◌, ◌*◌, ◌<◌, ◌≤◌, ◌++◌, All, OnOk, true, false, length, map, slice_index};
 ghost use Rattle.rv_asm.specs.Assembly.{total, is_placed};
+ghost use Rattle.rv_asm.specs.declared.item.Item.TheVariants.{Plain};
 ghost use Rattle.action_terms.specs.Actions.{Simple, node_at};
-ghost use Rattle.action_terms.specs.Forms.{HasPrimitiveOperands, IsDatum, primitive_viewed, yielder_at};
+ghost use Rattle.action_terms.specs.Forms.{AreItems, HasPrimitiveOperands, IsDatum, items_at, primitive_viewed, yielder_at};
 ghost use Rattle.action_terms.specs.Meaning.{action_of};
-ghost use Rattle.action_terms.specs.Need.{node_yielder_count, yielder_count};
+ghost use Rattle.action_terms.specs.Need.{items_yielder_count, node_yielder_count, yielder_count};
 ghost use Rattle.action_terms.specs.Numbering.{node_limit};
-ghost use Rattle.rv_yield.specs.Registers.{is_integral};
-ghost use Rattle.rv_codegen.specs.Blocks.{first_label, start_of, stop_of, goes, leaves, escapes, checks, sends, body, block};
+ghost use Rattle.rv_yield.specs.Registers.{is_built};
+ghost use Rattle.rv_codegen.specs.Blocks.{first_label, start_of, stop_of, goes, leaves, address_items, escapes, gives, regives, checks, sends, body, block};
+ghost use Rattle.rv_codegen.specs.Aliases.{list_at, lists_of};
 ghost use Rattle.rv_codegen.specs.Marks.{extended, AreFresh, PlacesStop};
-ghost use Rattle.rv_codegen.specs.Built.{is_condition, is_built_node};
+ghost use Rattle.rv_codegen.specs.Built.{are_built, is_built_node};
 
+use crate::data::{append_data, append_them};
 use crate::entries::{ARGUMENT, FRAME, RETURN, append_opening};
 use crate::plan::Plan;
 use acg_base::Memory;
 use action_terms::{NodeView, PrimitiveView};
+use rv_asm::pieces::load_constant;
 use rv_asm::{Asm, Label};
-use rv_code::{Inst, OpImmOp};
+use rv_code::{Inst, OpImmOp, OpOp};
 use rv_yield::{Source, condition_code, value_code};
 
 /// Appends the way to a label from before another: nothing where that is the one.
@@ -34,35 +38,168 @@ fn append_way(asm: &mut Asm, next: Label, label: Label) -> Result<(), Memory>
     asm.jump(label)
 }
 
-/// Appends what escapes, with no data.
-#[tactic(auto, using(crate::proofs::Fresh::freshness))]
-fn append_escape(asm: &mut Asm, plan: Plan<'_, '_>) -> Result<(), Memory>
-    requires made { first_label + length plan.labels.row.now ≤ asm.old.labels }
-    ensures items { OnOk result (asm.new ≡ extended asm.old escapes) }
-    ensures marks { OnOk result ((k : ℕ) → PlacesStop k asm.old.items asm.new.items) }
-    ensures short { OnOk result (total asm.new.items ≤ total asm.old.items + 3) }
+/// Appends what puts the address of the word at an offset of the frame into the register of
+/// arguments.
+fn append_address(asm: &mut Asm, offset: u32) -> Result<(), Memory>
+    requires { offset < 33554432 }
+    ensures { OnOk result (asm.new ≡ extended asm.old (map Plain (address_items offset))) }
 {
-    asm.emit(Inst::OpImm {
-        op: OpImmOp::Addi,
+    if offset < 256 {
+        return asm.emit(Inst::OpImm {
+            op: OpImmOp::Addi,
+            rd: ARGUMENT,
+            rs1: FRAME,
+            imm: 8 * offset as i32,
+        });
+    }
+    load_constant(asm, ARGUMENT, 8 * u64::from(offset))?;
+    asm.emit(Inst::Op {
+        op: OpOp::Add,
         rd: ARGUMENT,
-        rs1: FRAME,
-        imm: 0,
-    })?;
+        rs1: ARGUMENT,
+        rs2: FRAME,
+    })
+}
+
+/// The first of some words of the frame, or that of the frame itself where there is none.
+fn first_word(words: &[u32]) -> u32
+    requires { All (λ o. o < 33554432) words.now }
+    ensures first { result ≡ slice_index words.now 0 }
+    ensures near { result < 33554432 }
+{
+    if words.is_empty() {
+        return 0;
+    }
+    words[0]
+}
+
+/// Appends what escapes with the data that node k is given, which stand in a row.
+fn append_escape(asm: &mut Asm, plan: Plan<'_, '_, '_>, k: usize) -> Result<(), Memory>
+    requires node { k < length plan.graph.now.nodes }
+    requires made { first_label + length plan.labels.row.now ≤ asm.old.labels }
+    ensures items { OnOk result
+        (asm.new ≡ extended asm.old (escapes (list_at (lists_of plan.entry.given.now) k))) }
+    ensures marks { OnOk result (PlacesStop k asm.old.items asm.new.items) }
+    ensures short { OnOk result (total asm.new.items ≤ total asm.old.items + 11) }
+{
+    let first = first_word(plan.given_at(k));
+    append_address(asm, first)?;
     asm.jump(plan.entries.escape)
+}
+
+/// Appends what leaves data where node k does. Where one of their items yields nothing, that goes
+/// to the entry for failures.
+fn append_gives(
+    asm: &mut Asm,
+    plan: Plan<'_, '_, '_>,
+    k: usize,
+    items: &[u32],
+) -> Result<(), Memory>
+    requires node { k < length plan.graph.now.nodes }
+    requires made { first_label + length plan.labels.row.now ≤ asm.old.labels }
+    requires items { AreItems plan.graph.now.yielders items.now }
+    requires built { are_built (items_at plan.graph.now.yielders items.now) ≡ true }
+    requires few { items_yielder_count (items_at plan.graph.now.yielders items.now) < node_limit }
+    requires stop { is_placed asm.old.items (stop_of k) ≡ false }
+    ensures items { OnOk result (asm.new ≡ extended asm.old
+        (gives (list_at (lists_of plan.entry.given.now) k)
+        (list_at (lists_of plan.entry.out.now) k) k
+        (items_at plan.entry.graph.now.yielders items.now))) }
+    ensures marks { OnOk result (PlacesStop k asm.old.items asm.new.items) }
+    ensures short { OnOk result (total asm.new.items ≤ total asm.old.items
+        + 520 * items_yielder_count (items_at plan.entry.graph.now.yielders items.now)) }
+{
+    let nothing = plan.entries.fail;
+    let source = Source {
+        graph: plan.graph,
+        needs: plan.needs,
+        given: plan.given_at(k),
+        nothing,
+    };
+    append_data(plan.alloc, asm, &source, plan.out_at(k), items)?;
+    asm.place(plan.labels.stop(k));
+    Ok(())
+}
+
+/// Appends the code of node k where it gives data and goes on at a label.
+fn append_giving(
+    asm: &mut Asm,
+    plan: Plan<'_, '_, '_>,
+    k: usize,
+    exit: Label,
+    items: &[u32],
+) -> Result<(), Memory>
+    requires node { k < length plan.graph.now.nodes }
+    requires made { first_label + length plan.labels.row.now ≤ asm.old.labels }
+    requires exit { exit < asm.old.labels }
+    requires items { AreItems plan.graph.now.yielders items.now }
+    requires built { are_built (items_at plan.graph.now.yielders items.now) ≡ true }
+    requires few { items_yielder_count (items_at plan.graph.now.yielders items.now) < node_limit }
+    requires stop { is_placed asm.old.items (stop_of k) ≡ false }
+    ensures items { OnOk result (asm.new ≡ extended asm.old
+        (gives (list_at (lists_of plan.entry.given.now) k)
+        (list_at (lists_of plan.entry.out.now) k) k
+        (items_at plan.entry.graph.now.yielders items.now) ++ leaves k exit)) }
+    ensures marks { OnOk result (PlacesStop k asm.old.items asm.new.items) }
+    ensures short { OnOk result (total asm.new.items ≤ total asm.old.items + 2
+        + 520 * items_yielder_count (items_at plan.entry.graph.now.yielders items.now)) }
+{
+    let next = plan.labels.front(k + 1);
+    append_gives(asm, plan, k, items)?;
+    append_way(asm, next, exit)
+}
+
+/// Appends what leaves what node k is given where the node leaves its data.
+fn append_regives(asm: &mut Asm, plan: Plan<'_, '_, '_>, k: usize) -> Result<(), Memory>
+    requires node { k < length plan.graph.now.nodes }
+    requires made { first_label + length plan.labels.row.now ≤ asm.old.labels }
+    requires stop { is_placed asm.old.items (stop_of k) ≡ false }
+    ensures items { OnOk result (asm.new ≡ extended asm.old
+        (regives (list_at (lists_of plan.entry.given.now) k)
+        (list_at (lists_of plan.entry.out.now) k) k)) }
+    ensures marks { OnOk result (PlacesStop k asm.old.items asm.new.items) }
+    ensures short { OnOk result (total asm.new.items ≤ total asm.old.items + 520) }
+{
+    let _rest = append_them(asm, plan.given_at(k), plan.out_at(k))?;
+    asm.place(plan.labels.stop(k));
+    Ok(())
+}
+
+/// Appends the code of node k where it gives what it is given and goes on at a label.
+fn append_regiving(
+    asm: &mut Asm,
+    plan: Plan<'_, '_, '_>,
+    k: usize,
+    exit: Label,
+) -> Result<(), Memory>
+    requires node { k < length plan.graph.now.nodes }
+    requires made { first_label + length plan.labels.row.now ≤ asm.old.labels }
+    requires exit { exit < asm.old.labels }
+    requires stop { is_placed asm.old.items (stop_of k) ≡ false }
+    ensures items { OnOk result (asm.new ≡ extended asm.old
+        (regives (list_at (lists_of plan.entry.given.now) k)
+        (list_at (lists_of plan.entry.out.now) k) k ++ leaves k exit)) }
+    ensures marks { OnOk result (PlacesStop k asm.old.items asm.new.items) }
+    ensures short { OnOk result (total asm.new.items ≤ total asm.old.items + 522) }
+{
+    let next = plan.labels.front(k + 1);
+    append_regives(asm, plan, k)?;
+    append_way(asm, next, exit)
 }
 
 /// Appends what sends the integer of a yielder by the entry that sends. Where the yielder yields
 /// nothing, that goes to the entry for failures.
 #[tactic(auto, using(crate::proofs::Fresh::freshness))]
-fn append_sends(asm: &mut Asm, plan: Plan<'_, '_>, k: usize, yielder: u32) -> Result<(), Memory>
+fn append_sends(asm: &mut Asm, plan: Plan<'_, '_, '_>, k: usize, yielder: u32) -> Result<(), Memory>
     requires node { k < length plan.graph.now.nodes }
     requires made { first_label + length plan.labels.row.now ≤ asm.old.labels }
     requires datum { IsDatum plan.graph.now.yielders yielder }
-    requires built { is_integral (yielder_at plan.graph.now.yielders yielder) ≡ true }
+    requires built { is_built (yielder_at plan.graph.now.yielders yielder) ≡ true }
     requires few { yielder_count (yielder_at plan.graph.now.yielders yielder) < node_limit }
     requires stop { is_placed asm.old.items (stop_of k) ≡ false }
     ensures items { OnOk result (asm.new
-        ≡ extended asm.old (sends k (yielder_at plan.entry.graph.now.yielders yielder))) }
+        ≡ extended asm.old (sends (list_at (lists_of plan.entry.given.now) k) k
+        (yielder_at plan.entry.graph.now.yielders yielder))) }
     ensures marks { OnOk result (PlacesStop k asm.old.items asm.new.items) }
     ensures short { OnOk result (total asm.new.items ≤ total asm.old.items + 4
         + 12 * yielder_count (yielder_at plan.entry.graph.now.yielders yielder)) }
@@ -71,7 +208,7 @@ fn append_sends(asm: &mut Asm, plan: Plan<'_, '_>, k: usize, yielder: u32) -> Re
     let source = Source {
         graph: plan.graph,
         needs: plan.needs,
-        given: &[],
+        given: plan.given_at(k),
         nothing: plan.entries.fail,
     };
     value_code(plan.alloc, asm, &source, yielder, ARGUMENT)?;
@@ -84,7 +221,7 @@ fn append_sends(asm: &mut Asm, plan: Plan<'_, '_>, k: usize, yielder: u32) -> Re
 /// Appends the code of node k where it sends the integer of a yielder and goes on at a label.
 fn append_sending(
     asm: &mut Asm,
-    plan: Plan<'_, '_>,
+    plan: Plan<'_, '_, '_>,
     k: usize,
     exit: Label,
     yielder: u32,
@@ -93,11 +230,12 @@ fn append_sending(
     requires made { first_label + length plan.labels.row.now ≤ asm.old.labels }
     requires exit { exit < asm.old.labels }
     requires datum { IsDatum plan.graph.now.yielders yielder }
-    requires built { is_integral (yielder_at plan.graph.now.yielders yielder) ≡ true }
+    requires built { is_built (yielder_at plan.graph.now.yielders yielder) ≡ true }
     requires few { yielder_count (yielder_at plan.graph.now.yielders yielder) < node_limit }
     requires stop { is_placed asm.old.items (stop_of k) ≡ false }
     ensures items { OnOk result (asm.new ≡ extended asm.old
-        (sends k (yielder_at plan.entry.graph.now.yielders yielder) ++ leaves k exit)) }
+        (sends (list_at (lists_of plan.entry.given.now) k) k
+        (yielder_at plan.entry.graph.now.yielders yielder) ++ leaves k exit)) }
     ensures marks { OnOk result (PlacesStop k asm.old.items asm.new.items) }
     ensures short { OnOk result (total asm.new.items ≤ total asm.old.items + 6
         + 12 * yielder_count (yielder_at plan.entry.graph.now.yielders yielder)) }
@@ -109,15 +247,21 @@ fn append_sending(
 
 /// Appends what goes on where a yielder yields `true`, and else to the entry for failures.
 #[tactic(auto, using(crate::proofs::Fresh::freshness))]
-fn append_checks(asm: &mut Asm, plan: Plan<'_, '_>, k: usize, yielder: u32) -> Result<(), Memory>
+fn append_checks(
+    asm: &mut Asm,
+    plan: Plan<'_, '_, '_>,
+    k: usize,
+    yielder: u32,
+) -> Result<(), Memory>
     requires node { k < length plan.graph.now.nodes }
     requires made { first_label + length plan.labels.row.now ≤ asm.old.labels }
     requires datum { IsDatum plan.graph.now.yielders yielder }
-    requires built { is_condition (yielder_at plan.graph.now.yielders yielder) ≡ true }
+    requires built { is_built (yielder_at plan.graph.now.yielders yielder) ≡ true }
     requires few { yielder_count (yielder_at plan.graph.now.yielders yielder) < node_limit }
     requires stop { is_placed asm.old.items (stop_of k) ≡ false }
     ensures items { OnOk result (asm.new
-        ≡ extended asm.old (checks k (yielder_at plan.entry.graph.now.yielders yielder))) }
+        ≡ extended asm.old (checks (list_at (lists_of plan.entry.given.now) k) k
+        (yielder_at plan.entry.graph.now.yielders yielder))) }
     ensures marks { OnOk result (PlacesStop k asm.old.items asm.new.items) }
     ensures short { OnOk result (total asm.new.items ≤ total asm.old.items
         + 15 * yielder_count (yielder_at plan.entry.graph.now.yielders yielder)) }
@@ -126,7 +270,7 @@ fn append_checks(asm: &mut Asm, plan: Plan<'_, '_>, k: usize, yielder: u32) -> R
     let source = Source {
         graph: plan.graph,
         needs: plan.needs,
-        given: &[],
+        given: plan.given_at(k),
         nothing: fail,
     };
     condition_code(plan.alloc, asm, &source, yielder, fail)?;
@@ -137,7 +281,7 @@ fn append_checks(asm: &mut Asm, plan: Plan<'_, '_>, k: usize, yielder: u32) -> R
 /// Appends the code of node k where it checks a yielder and goes on at a label.
 fn append_checking(
     asm: &mut Asm,
-    plan: Plan<'_, '_>,
+    plan: Plan<'_, '_, '_>,
     k: usize,
     exit: Label,
     yielder: u32,
@@ -146,11 +290,12 @@ fn append_checking(
     requires made { first_label + length plan.labels.row.now ≤ asm.old.labels }
     requires exit { exit < asm.old.labels }
     requires datum { IsDatum plan.graph.now.yielders yielder }
-    requires built { is_condition (yielder_at plan.graph.now.yielders yielder) ≡ true }
+    requires built { is_built (yielder_at plan.graph.now.yielders yielder) ≡ true }
     requires few { yielder_count (yielder_at plan.graph.now.yielders yielder) < node_limit }
     requires stop { is_placed asm.old.items (stop_of k) ≡ false }
     ensures items { OnOk result (asm.new ≡ extended asm.old
-        (checks k (yielder_at plan.entry.graph.now.yielders yielder) ++ leaves k exit)) }
+        (checks (list_at (lists_of plan.entry.given.now) k) k
+        (yielder_at plan.entry.graph.now.yielders yielder) ++ leaves k exit)) }
     ensures marks { OnOk result (PlacesStop k asm.old.items asm.new.items) }
     ensures short { OnOk result (total asm.new.items ≤ total asm.old.items + 6
         + 15 * yielder_count (yielder_at plan.entry.graph.now.yielders yielder)) }
@@ -165,7 +310,7 @@ fn append_checking(
 #[tactic(auto, using(crate::proofs::Fresh::freshness))]
 fn append_primitive(
     asm: &mut Asm,
-    plan: Plan<'_, '_>,
+    plan: Plan<'_, '_, '_>,
     k: usize,
     exit: Label,
     primitive: PrimitiveView<'_>,
@@ -180,18 +325,22 @@ fn append_primitive(
     requires exit { exit < asm.old.labels }
     requires stop { is_placed asm.old.items (stop_of k) ≡ false }
     ensures items { OnOk result (asm.new ≡ extended asm.old
-        (body k exit (Simple (primitive_viewed plan.entry.graph.now.yielders primitive.entry)))) }
+        (body (list_at (lists_of plan.entry.given.now) k)
+        (list_at (lists_of plan.entry.out.now) k) k exit
+        (Simple (primitive_viewed plan.entry.graph.now.yielders primitive.entry)))) }
     ensures marks { OnOk result (PlacesStop k asm.old.items asm.new.items) }
-    ensures short { OnOk result (total asm.new.items ≤ total asm.old.items + 6
-        + 15 * node_yielder_count
+    ensures short { OnOk result (total asm.new.items ≤ total asm.old.items + 530
+        + 520 * node_yielder_count
         (Simple (primitive_viewed plan.entry.graph.now.yielders primitive.entry))) }
 {
     match primitive {
-        PrimitiveView::Complete | PrimitiveView::Commit | PrimitiveView::Regive => {
+        PrimitiveView::Complete | PrimitiveView::Commit => {
             append_way(asm, plan.labels.front(k + 1), exit)
         }
+        PrimitiveView::Regive => append_regiving(asm, plan, k, exit),
+        PrimitiveView::Give { items } => append_giving(asm, plan, k, exit, items),
         PrimitiveView::Failing => asm.jump(plan.entries.fail),
-        PrimitiveView::Escape => append_escape(asm, plan),
+        PrimitiveView::Escape => append_escape(asm, plan, k),
         PrimitiveView::Check { yielder } => append_checking(asm, plan, k, exit, yielder),
         PrimitiveView::Send { yielder } => append_sending(asm, plan, k, exit, yielder),
         _ => Ok(()),
@@ -200,7 +349,7 @@ fn append_primitive(
 
 /// Appends the code of node k behind its start where it has two parts, by the part that is
 /// performed first.
-fn append_parts(asm: &mut Asm, plan: Plan<'_, '_>, k: usize, first: u32) -> Result<(), Memory>
+fn append_parts(asm: &mut Asm, plan: Plan<'_, '_, '_>, k: usize, first: u32) -> Result<(), Memory>
     requires node { k < length plan.graph.now.nodes }
     requires part { first < length plan.graph.now.nodes }
     requires made { first_label + length plan.labels.row.now ≤ asm.old.labels }
@@ -214,16 +363,18 @@ fn append_parts(asm: &mut Asm, plan: Plan<'_, '_>, k: usize, first: u32) -> Resu
 }
 
 /// Appends the code of node k behind its start, where the node goes on at a label.
-fn append_body(asm: &mut Asm, plan: Plan<'_, '_>, k: usize, exit: Label) -> Result<(), Memory>
+fn append_body(asm: &mut Asm, plan: Plan<'_, '_, '_>, k: usize, exit: Label) -> Result<(), Memory>
     requires node { k < length plan.graph.now.nodes }
     requires made { first_label + length plan.labels.row.now ≤ asm.old.labels }
     requires exit { exit < asm.old.labels }
     requires stop { is_placed asm.old.items (stop_of k) ≡ false }
     ensures items { OnOk result (asm.new
-        ≡ extended asm.old (body k exit (node_at (action_of plan.entry.graph.now) k))) }
+        ≡ extended asm.old (body (list_at (lists_of plan.entry.given.now) k)
+        (list_at (lists_of plan.entry.out.now) k) k exit
+        (node_at (action_of plan.entry.graph.now) k))) }
     ensures marks { OnOk result (PlacesStop k asm.old.items asm.new.items) }
-    ensures short { OnOk result (total asm.new.items ≤ total asm.old.items + 6
-        + 15 * node_yielder_count (node_at (action_of plan.entry.graph.now) k)) }
+    ensures short { OnOk result (total asm.new.items ≤ total asm.old.items + 530
+        + 520 * node_yielder_count (node_at (action_of plan.entry.graph.now) k)) }
 {
     match plan.graph.view(k) {
         NodeView::Simple(primitive) => append_primitive(asm, plan, k, exit, primitive),
@@ -244,7 +395,7 @@ fn append_body(asm: &mut Asm, plan: Plan<'_, '_>, k: usize, exit: Label) -> Resu
 /// Appends the code of node k, which goes on at a label.
 pub(crate) fn append_node(
     asm: &mut Asm,
-    plan: Plan<'_, '_>,
+    plan: Plan<'_, '_, '_>,
     k: usize,
     exit: Label,
 ) -> Result<(), Memory>
@@ -253,10 +404,12 @@ pub(crate) fn append_node(
     requires exit { exit < asm.old.labels }
     requires fresh { AreFresh k asm.old.items }
     ensures items { OnOk result (asm.new
-        ≡ extended asm.old (block k exit (node_at (action_of plan.entry.graph.now) k))) }
+        ≡ extended asm.old (block (list_at (lists_of plan.entry.given.now) k)
+        (list_at (lists_of plan.entry.out.now) k) k exit
+        (node_at (action_of plan.entry.graph.now) k))) }
     ensures fresh { OnOk result (AreFresh (k + 1) asm.new.items) }
-    ensures short { OnOk result (total asm.new.items ≤ total asm.old.items + 6
-        + 15 * node_yielder_count (node_at (action_of plan.entry.graph.now) k)) }
+    ensures short { OnOk result (total asm.new.items ≤ total asm.old.items + 530
+        + 520 * node_yielder_count (node_at (action_of plan.entry.graph.now) k)) }
 {
     append_opening(asm, plan.labels, k);
     append_body(asm, plan, k, exit)

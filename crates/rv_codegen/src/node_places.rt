@@ -1,8 +1,8 @@
 //! The places of nodes by their numbers, and the data among them.
-ghost use Rattle.std.specs.Prelude.{◌≡◌, ◌<◌, IfOk, ℕ, length, map, vec_len};
+ghost use Rattle.std.specs.Prelude.{◌≡◌, ◌<◌, IfOk, ℕ, length, map, replicate, vec_len};
 ghost use Rattle.frame_layout.specs.Places.{Frame, PlacedNode, frames_of, placed_node};
 ghost use Rattle.action_terms.specs.Performances.{OneOf};
-ghost use Rattle.rv_codegen.specs.Aliases.{ArePut, nowhere, place_at, put_each};
+ghost use Rattle.rv_codegen.specs.Aliases.{nowhere, place_at, put_each, put_frames};
 
 use acg_base::Memory;
 use frame_layout::{Layout, NodePlaces};
@@ -44,8 +44,8 @@ pub(crate) fn places_by_number<'a>(
 ) -> Result<Vec<NodePlaces<'a>>, Memory>
     requires { (f : Frame) → (n : PlacedNode) → OneOf f (frames_of layout.now) → OneOf n f.nodes
         → n.node < count }
-    ensures { IfOk result (λ list. ArePut count (frames_of layout.now)
-        (map placed_node list.items)) }
+    ensures { IfOk result (λ list. map placed_node list.items
+        ≡ put_frames (frames_of layout.now) (replicate count nowhere)) }
 {
     let mut list = Vec::with_capacity(alloc, count)?;
     for _ in 0..count {

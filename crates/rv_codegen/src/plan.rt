@@ -6,8 +6,10 @@ ghost use Rattle.action_terms.specs.Meaning.{action_of};
 ghost use Rattle.action_terms.specs.Need.{node_yielder_count};
 ghost use Rattle.action_terms.specs.Numbering.{node_limit};
 ghost use Rattle.rv_yield.specs.Registers.{AreNeeds};
+ghost use Rattle.rv_codegen.specs.Aliases.{list_at, lists_of};
 ghost use Rattle.rv_codegen.specs.Blocks.{first_label, exits_of};
 ghost use Rattle.rv_codegen.specs.Built.{unbuilt};
+ghost use Rattle.rv_codegen.specs.ItemCode.{AreReached};
 
 use crate::entries::Entries;
 use crate::labels::NodeLabels;
@@ -17,7 +19,7 @@ use std::alloc::Global;
 
 /// An action, with the labels that its code has.
 #[derive(Clone, Copy)]
-pub(crate) struct Plan<'a, 'l> {
+pub(crate) struct Plan<'a, 'l, 'd> {
     /// Where memory comes from.
     pub(crate) alloc: Global,
     /// The action.
@@ -26,6 +28,10 @@ pub(crate) struct Plan<'a, 'l> {
     pub(crate) needs: &'l [usize],
     /// The labels of its nodes, and those behind them.
     pub(crate) labels: NodeLabels<'l>,
+    /// Where each node finds what it is given, by the number of the node.
+    pub(crate) given: &'d [&'d [u32]],
+    /// Where each node leaves what it completes with.
+    pub(crate) out: &'d [&'d [u32]],
     /// Where each node goes on, by the number of the node.
     pub(crate) exits: &'a [Label],
     /// The labels of the entries.
@@ -33,8 +39,32 @@ pub(crate) struct Plan<'a, 'l> {
     ghost few: { (k : ℕ) → node_yielder_count (node_at (action_of graph.now) k) < node_limit },
     ghost built: { unbuilt (action_of graph.now) ≡ [] },
     ghost needed: { AreNeeds graph.now.yielders needs.now },
+    ghost given_count: { length given.now ≡ length graph.now.nodes },
+    ghost out_count: { length out.now ≡ length graph.now.nodes },
+    ghost given_reached: { (k : ℕ) → AreReached (list_at (lists_of given.now) k) },
+    ghost out_reached: { (k : ℕ) → AreReached (list_at (lists_of out.now) k) },
     ghost rows: { length labels.row.now ≡ 4 * length graph.now.nodes + 4 },
     ghost count: { length exits.now ≡ length graph.now.nodes },
     ghost goes_on: { exits.now ≡ exits_of (action_of graph.now) },
     ghost made: { All (λ l. l < first_label + length labels.row.now) exits.now },
+}
+
+impl<'d> Plan<'_, '_, 'd> {
+    /// Where node k finds what it is given.
+    pub(crate) fn given_at(self, k: usize) -> &'d [u32]
+        requires { k < length self.graph.now.nodes }
+        ensures is { result.now ≡ list_at (lists_of self.entry.given.now) k }
+        ensures reached { AreReached result.now }
+    {
+        self.given[k]
+    }
+
+    /// Where node k leaves what it completes with.
+    pub(crate) fn out_at(self, k: usize) -> &'d [u32]
+        requires { k < length self.graph.now.nodes }
+        ensures is { result.now ≡ list_at (lists_of self.entry.out.now) k }
+        ensures reached { AreReached result.now }
+    {
+        self.out[k]
+    }
 }

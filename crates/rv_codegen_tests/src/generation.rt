@@ -1,11 +1,14 @@
 //! The code of an action with a node of each built kind, and the first node of another.
 
-use acg_base::ListSink;
+use acg_base::{Capacity, ListSink};
 use action_terms::pushed::Pushed;
 use action_terms::{Graph, GraphBuilder, Kind, NewAction, NewYielder, YKind};
 use bumpalo::Bump;
+use frame_layout::layout;
+use rv_asm::Code;
 use rv_codegen::{first_unbuilt, generate};
 use rv_machine::{Image, Input, Machine, Run, Segment};
+use sort_infer::infer;
 use std::alloc::Global;
 use std::process::Abort;
 use std::test::Fail;
@@ -40,6 +43,26 @@ fn graph_of<'a>(
     Ok(builder.seal()?)
 }
 
+// The code of the graph's action, by its least table, for a stack of so many words and one unit.
+fn code_of(
+    rt: &impl Abort,
+    alloc: Global,
+    arena: &Bump,
+    graph: &Graph<'_>,
+    stack: u64,
+) -> Result<Code, Fail> {
+    assert!(rt; first_unbuilt(alloc, graph)?.is_none());
+    assert!(rt; 1 <= stack && stack <= 16777216);
+    let capacity = Capacity { stack, units: 1 };
+    match infer(alloc, arena, graph) {
+        Ok(table) => {
+            let frames = layout(alloc, arena, graph, &table)?;
+            Ok(generate(alloc, graph, &table, &frames, capacity)?)
+        }
+        Err(_error) => Err("no table".into()),
+    }
+}
+
 // The words of (send 7 and send -1) and then (complete and fail). They are those that llvm-mc gives
 // for the first instructions, the blocks and the entries written in its notation.
 const WORDS: [u32; 37] = [
@@ -65,8 +88,7 @@ fn words_of_another_assembler(rt: HostRuntime) -> Result<(), Fail> {
         action(Kind::Fail),
     ];
     let graph = graph_of(&rt, rt.alloc(), &arena, &nodes)?;
-    assert!(rt; first_unbuilt(rt.alloc(), &graph)?.is_none());
-    let code = generate(rt.alloc(), &graph)?;
+    let code = code_of(&rt, rt.alloc(), &arena, &graph, 1024)?;
     assert_eq!(rt; code.words.as_slice(), WORDS.as_slice());
     Ok(())
 }
@@ -75,8 +97,7 @@ fn words_of_another_assembler(rt: HostRuntime) -> Result<(), Fail> {
 fn count_words(rt: &impl Abort, alloc: Global, nodes: &[Pushed<'_>]) -> Result<usize, Fail> {
     let arena = Bump::new(alloc);
     let graph = graph_of(rt, alloc, &arena, nodes)?;
-    assert!(rt; first_unbuilt(alloc, &graph)?.is_none());
-    let code = generate(alloc, &graph)?;
+    let code = code_of(rt, alloc, &arena, &graph, 1024)?;
     Ok(code.words.len())
 }
 
@@ -161,8 +182,7 @@ fn instructions_of_three_sends(rt: HostRuntime) -> Result<(), Fail> {
         yielder(YKind::Number(3)),
     ];
     let graph = graph_of(&rt, rt.alloc(), &arena, &nodes)?;
-    assert!(rt; first_unbuilt(rt.alloc(), &graph)?.is_none());
-    let code = generate(rt.alloc(), &graph)?;
+    let code = code_of(&rt, rt.alloc(), &arena, &graph, 1024)?;
     let image = image_of(&rt, rt.alloc(), code.words.as_slice())?;
     let mut machine = Machine::load(rt.alloc(), image).ok().ok_or("memory")?;
     let mut input = Input { bytes: b"", at: 0 };

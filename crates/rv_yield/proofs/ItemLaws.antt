@@ -59,7 +59,7 @@ pub unmarked-plain : (is : List Inst) → AreQuiet is → Unmarked (map Plain is
 unmarked-plain [] h = tt
 unmarked-plain (i ∷ is) h = (h.0, unmarked-plain is h.1)
 
-quiet-append : (a b : List Inst) → AreQuiet a → AreQuiet b → AreQuiet (a ++ b)
+pub quiet-append : (a b : List Inst) → AreQuiet a → AreQuiet b → AreQuiet (a ++ b)
 quiet-append [] b h k = k
 quiet-append (i ∷ a) b h k = (h.0, quiet-append a b h.1 k)
 
@@ -74,7 +74,7 @@ quiet-parts (suc n) to w = quiet-append (load_parts n to (high_part w)) _ (quiet
 quiet-constant : (to w : ℕ) → AreQuiet (load_constant to w)
 quiet-constant to w = quiet-if (ltb w 2048) _ _ (refl, tt) (quiet-if (leb (2 ^ 64 - 2048) w) _ _ (refl, tt) (quiet-parts (parts_of w) to w))
 
-quiet-load : (to offset : ℕ) → AreQuiet (load_items to offset)
+pub quiet-load : (to offset : ℕ) → AreQuiet (load_items to offset)
 quiet-load to offset = quiet-if (ltb offset 256) _ _ (refl, tt) (quiet-append (load_constant to (8 * offset)) _ (quiet-constant to (8 * offset)) (refl, (refl, tt)))
 
 pub quiet-store : (offset : ℕ) → AreQuiet (store_items offset)
@@ -134,7 +134,7 @@ either-short n (Some z) o' to l first second both a b c = a z
 either-short n None (Some z) to l first second both a b c = b z
 either-short n None None to l first second both a b c = c
 
-none-short : (n : ℕ) → IsShort n []
+pub none-short : (n : ℕ) → IsShort n []
 none-short n = record { few = omega arith; unmarked = tt }
 
 -- at most 12 instructions for each yielder

@@ -17,3 +17,4 @@ pub use counts::yielder_counts;
 pub use needs::{integral_yielders, registers_needed, registers_of};
 pub use source::Source;
 pub use values::{Slots, stored_code, value_code, yield_code};
+pub use words::{append_load, append_store};

@@ -33,7 +33,7 @@ fn add_frame(rd: Reg) -> Inst
 }
 
 /// Appends what loads the word at an offset of the frame, in words.
-fn append_load(asm: &mut Asm, to: Reg, offset: u32) -> Result<(), Memory>
+pub fn append_load(asm: &mut Asm, to: Reg, offset: u32) -> Result<(), Memory>
     requires { offset < 33554432 }
     ensures ok { OnOk result (asm.new ≡ extended asm.old (map Plain (load_items to offset))) }
     ensures err { OnErr result
@@ -82,7 +82,7 @@ pub(crate) fn append_placed(
 }
 
 /// Appends what stores the value at an offset of the frame, in words.
-pub(crate) fn append_store(asm: &mut Asm, offset: u32) -> Result<(), Memory>
+pub fn append_store(asm: &mut Asm, offset: u32) -> Result<(), Memory>
     requires { offset < 33554432 }
     ensures ok { OnOk result (asm.new ≡ extended asm.old (map Plain (store_items offset))) }
     ensures err { OnErr result (AppendsFrontOf (map Plain (store_items offset)) asm.old asm.new) }

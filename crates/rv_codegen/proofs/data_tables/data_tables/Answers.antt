@@ -73,3 +73,13 @@ returns-clause-out c = λ k less.
     let count = length-nodes g c.nodes-count.result.now c.nodes-count.ensures.nodes in
     handed-all (action_of g) (trees-of_graph g c.nodes-count.ensures.of_an_action) (out_in p) (λ k. (p k).data_out) c.loop-node-2.node (lists_of c.loop-node-2.out.items) c.loop-node-2.invariant.out
     (omega (arith, count, c.loop-node-2-test.false)) k (omega (arith, less, length-action_of g))
+
+pub returns-clause-given_count : goal.returns-clause-given_count
+returns-clause-given_count c =
+    let g = c.args.graph.now in
+    omega (arith, c.loop-node-2.invariant.given_len, length-nodes g c.nodes-count.result.now c.nodes-count.ensures.nodes, length-action_of g)
+
+pub returns-clause-out_count : goal.returns-clause-out_count
+returns-clause-out_count c =
+    let g = c.args.graph.now in
+    omega (arith, c.loop-node-2.invariant.out_len, length-nodes g c.nodes-count.result.now c.nodes-count.ensures.nodes, length-action_of g)

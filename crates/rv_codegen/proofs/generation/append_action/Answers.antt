@@ -12,6 +12,6 @@ returns-clause-short c =
     let graph = c.args.plan.graph.now in
     let count = length c.nodes.result.now in
     let same : count ≡ length graph.nodes = sym (length-map c.nodes.result.now listed_node) ∙ ap length c.nodes.ensures.nodes in
-    let more = 6 * count + 15 * sum_by node_yielder_count (action_of graph) in
+    let more = 530 * count + 520 * sum_by node_yielder_count (action_of graph) in
     let whole = total-whole c.args.asm.now c.append_prelude.new.asm c.append_nodes.new.asm c.append_entries.new.asm count more c.in_ok-append_prelude.ensures (omega (arith, c.in_ok-append_nodes.ensures.short, same)) in
     OnOk-then c.append_entries.result (λ last. omega (arith, whole last, same, length-action_of graph)) c.append_entries.ensures

@@ -1,11 +1,11 @@
-use Rattle.std.proofs.Common.{◌≡◌, ◌+◌, ◌*◌, ◌≤◌, IfOk, OnOk, Some, map, length, sum_by, ap, ◌∙◌, arith, subst}
+use Rattle.std.proofs.Common.{◌≡◌, ◌+◌, ◌*◌, ◌≤◌, IfOk, OnOk, Some, map, length, ap, ◌∙◌, arith, subst}
 use Rattle.rv_code.specs.Encode.{encode}
 use Rattle.rv_asm.specs.Arrivals.{LabelsStand}
 use Rattle.rv_asm.specs.Assembly.{code_of, total}
 use Rattle.std.proofs.lemmas.List.{length-map}
 use Rattle.action_terms.specs.Nodes.{listed_node}
 use Rattle.action_terms.specs.Meaning.{action_of}
-use Rattle.action_terms.specs.Need.{node_yielder_count}
+use Rattle.rv_codegen.specs.Measures.{node_count}
 use Rattle.rv_codegen.proofs.Emitting.{OnOk-always}
 use Rattle.rv_codegen.proofs.ExitLaws.{exits-made}
 use Rattle.rv_codegen.proofs.GraphNodes.{length-action_of, tree-of-graph}
@@ -22,7 +22,8 @@ returns-clause-labels c = subst (λ items. OnOk c.finish.result (LabelsStand ite
 
 pub returns-clause-short : goal.returns-clause-short
 returns-clause-short c =
-    OnOk-always _ c.finish.result (subst (λ items. total items ≤ 25 + 6 * length (action_of c.args.graph.now) + 15 * sum_by node_yielder_count (action_of c.args.graph.now)) c.in_ok-append_action.ensures.items c.in_ok-append_action.ensures.short)
+    let short = c.in_ok-append_action.ensures.short in
+    OnOk-always _ c.finish.result (subst (λ items. total items ≤ 25 + 530 * node_count (action_of c.args.graph.now)) c.in_ok-append_action.ensures.items (omega (arith, short)))
 
 pub invariant_of-plan-clause-made : goal.invariant_of-plan-clause-made
 invariant_of-plan-clause-made c =

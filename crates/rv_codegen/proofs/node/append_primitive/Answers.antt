@@ -3,6 +3,3 @@ use Rattle.rv_codegen.proofs.node.append_primitive.Goals as goal
 
 pub returns-in-Complete-clause-marks : goal.returns-in-Complete-clause-marks
 returns-in-Complete-clause-marks c = OnOk-then c.append_way.result (λ m. m c.args.k) c.append_way.ensures.marks
-
-pub returns-in-Escape-clause-marks : goal.returns-in-Escape-clause-marks
-returns-in-Escape-clause-marks c = OnOk-then c.append_escape.result (λ m. m c.args.k) c.append_escape.ensures.marks

@@ -1,12 +1,8 @@
 use Rattle.std.proofs.Common.{arith}
 use Rattle.action_terms.specs.Forms.{yielder_at}
-use Rattle.rv_yield.proofs.Integral.{integral-built}
 use Rattle.rv_yield.proofs.NeedLaws.{registers-enough}
 use Rattle.rv_codegen.proofs.Emitting.{call-short}
 use Rattle.rv_codegen.proofs.node.append_sends.Goals as goal
-
-pub value_code-requires-clause-built : goal.value_code-requires-clause-built
-value_code-requires-clause-built c = integral-built (yielder_at c.args.plan.graph.now.yielders c.args.yielder) c.requires.built
 
 pub value_code-requires-clause-room : goal.value_code-requires-clause-room
 value_code-requires-clause-room c = omega (arith, registers-enough (yielder_at c.args.plan.graph.now.yielders c.args.yielder) c.requires.few)

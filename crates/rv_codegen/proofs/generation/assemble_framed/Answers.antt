@@ -1,0 +1,96 @@
+use Rattle.std.proofs.Common.{◌≡◌, ℕ, ◌+◌, ◌*◌, ◌<◌, ◌≤◌, List, IfOk, OnOk, Some, length, map, replicate, ap, subst, ◌∙◌, arith}
+use Rattle.std.specs.Borrow.{Bor}
+use Rattle.std.proofs.lemmas.List.{length-map, length-replicate}
+use Rattle.rv_code.specs.Encode.{encode}
+use Rattle.rv_asm.specs.Arrivals.{LabelsStand}
+use Rattle.rv_asm.specs.Assembly.{code_of, total}
+use Rattle.rv_asm.specs.declared.item.Item.{Item}
+use Rattle.action_terms.specs.Meaning.{action_of}
+use Rattle.sort_rules.proofs.NodeWalks.{length-nodes}
+use Rattle.frame_layout.specs.Places.{PlacedNode, frames_of, placed_node}
+use Rattle.frame_layout.proofs.GraphParts.{trees-of_graph}
+use Rattle.rv_codegen.specs.Aliases.{given_of, list_at, lists_of, nowhere, out_of, place_at, put_frames}
+use Rattle.rv_codegen.specs.Measures.{node_count}
+use Rattle.rv_codegen.proofs.Framed.{framed-same, given-table, out-table}
+use Rattle.rv_codegen.proofs.GraphNodes.{length-action_of}
+use Rattle.rv_codegen.proofs.PuttingPlaces.{length-put_frames, node-within}
+use Rattle.rv_codegen.proofs.generation.assemble_framed.Goals as goal
+
+pub places_by_number-requires : goal.places_by_number-requires
+places_by_number-requires c = λ f n x m.
+    let g = c.args.graph.now in
+    omega (arith, node-within (action_of g) c.requires.table.0 (frames_of c.args.layout.now) c.requires.table.2 f n x m, length-nodes g c.nodes-count.result.now c.nodes-count.ensures.nodes)
+
+pub assemble-requires-clause-given_count : goal.assemble-requires-clause-given_count
+assemble-requires-clause-given_count c = omega (arith, c.deref-2.ensures.len, c.in_ok-tables.ensures.given_count)
+
+pub assemble-requires-clause-out_count : goal.assemble-requires-clause-out_count
+assemble-requires-clause-out_count c = omega (arith, c.deref-3.ensures.len, c.in_ok-tables.ensures.out_count)
+
+pub data_tables-requires : goal.data_tables-requires
+data_tables-requires c =
+    let g = c.args.graph.now in
+    let fs = frames_of c.args.layout.now in
+    let same : map placed_node c.deref.result.now ≡ put_frames fs (replicate (length c.nodes-count.result.now) nowhere) = ap (map placed_node) c.deref.ensures.value ∙ c.in_ok-places.ensures in
+    let long = length-put_frames fs (replicate (length c.nodes-count.result.now) nowhere) in
+    omega (arith, length-map c.deref.result.now placed_node, ap length same, long, length-replicate (length c.nodes-count.result.now) nowhere, length-nodes g c.nodes-count.result.now c.nodes-count.ensures.nodes, length-action_of g)
+
+pub assemble-requires-clause-given_reached : goal.assemble-requires-clause-given_reached
+assemble-requires-clause-given_reached c =
+    let g = c.args.graph.now in
+    let a = action_of g in
+    let fs = frames_of c.args.layout.now in
+    let count = length-nodes g c.nodes-count.result.now c.nodes-count.ensures.nodes in
+    let same : map placed_node c.deref.result.now ≡ put_frames fs (replicate (length a) nowhere) = ap (map placed_node) c.deref.ensures.value ∙ c.in_ok-places.ensures ∙ ap (λ (n : ℕ). put_frames fs (replicate n nowhere)) count in
+    let given_is = λ (k : ℕ) (less : k < length a). ap (λ (ys : List (Bor (List ℕ))). list_at (lists_of ys) k) c.deref-2.ensures.value ∙ c.in_ok-tables.ensures.given k (omega (arith, less, length-action_of g)) ∙ ap (λ (ns : List PlacedNode). given_of (place_at ns) a k) same in
+    let out_is = λ (k : ℕ) (less : k < length a). ap (λ (ys : List (Bor (List ℕ))). list_at (lists_of ys) k) c.deref-3.ensures.value ∙ c.in_ok-tables.ensures.out k (omega (arith, less, length-action_of g)) ∙ ap (λ (ns : List PlacedNode). out_of (place_at ns) a k) same in
+    given-table a (trees-of_graph g c.nodes-count.ensures.of_an_action) c.requires.table.0 c.requires.table.1 fs c.requires.table.2 c.requires.apart c.deref-2.result.now
+    (omega (arith, c.deref-2.ensures.len, c.in_ok-tables.ensures.given_count, length-action_of g)) given_is
+
+pub assemble-requires-clause-out_reached : goal.assemble-requires-clause-out_reached
+assemble-requires-clause-out_reached c =
+    let g = c.args.graph.now in
+    let a = action_of g in
+    let fs = frames_of c.args.layout.now in
+    let count = length-nodes g c.nodes-count.result.now c.nodes-count.ensures.nodes in
+    let same : map placed_node c.deref.result.now ≡ put_frames fs (replicate (length a) nowhere) = ap (map placed_node) c.deref.ensures.value ∙ c.in_ok-places.ensures ∙ ap (λ (n : ℕ). put_frames fs (replicate n nowhere)) count in
+    let given_is = λ (k : ℕ) (less : k < length a). ap (λ (ys : List (Bor (List ℕ))). list_at (lists_of ys) k) c.deref-2.ensures.value ∙ c.in_ok-tables.ensures.given k (omega (arith, less, length-action_of g)) ∙ ap (λ (ns : List PlacedNode). given_of (place_at ns) a k) same in
+    let out_is = λ (k : ℕ) (less : k < length a). ap (λ (ys : List (Bor (List ℕ))). list_at (lists_of ys) k) c.deref-3.ensures.value ∙ c.in_ok-tables.ensures.out k (omega (arith, less, length-action_of g)) ∙ ap (λ (ns : List PlacedNode). out_of (place_at ns) a k) same in
+    out-table a (trees-of_graph g c.nodes-count.ensures.of_an_action) c.requires.table.0 c.requires.table.1 fs c.requires.table.2 c.requires.apart c.deref-3.result.now
+    (omega (arith, c.deref-3.ensures.len, c.in_ok-tables.ensures.out_count, length-action_of g)) out_is
+
+pub returns-clause-words : goal.returns-clause-words
+returns-clause-words c =
+    let g = c.args.graph.now in
+    let a = action_of g in
+    let fs = frames_of c.args.layout.now in
+    let count = length-nodes g c.nodes-count.result.now c.nodes-count.ensures.nodes in
+    let same : map placed_node c.deref.result.now ≡ put_frames fs (replicate (length a) nowhere) = ap (map placed_node) c.deref.ensures.value ∙ c.in_ok-places.ensures ∙ ap (λ (n : ℕ). put_frames fs (replicate n nowhere)) count in
+    let given_is = λ (k : ℕ) (less : k < length a). ap (λ (ys : List (Bor (List ℕ))). list_at (lists_of ys) k) c.deref-2.ensures.value ∙ c.in_ok-tables.ensures.given k (omega (arith, less, length-action_of g)) ∙ ap (λ (ns : List PlacedNode). given_of (place_at ns) a k) same in
+    let out_is = λ (k : ℕ) (less : k < length a). ap (λ (ys : List (Bor (List ℕ))). list_at (lists_of ys) k) c.deref-3.ensures.value ∙ c.in_ok-tables.ensures.out k (omega (arith, less, length-action_of g)) ∙ ap (λ (ns : List PlacedNode). out_of (place_at ns) a k) same in
+    let framed = framed-same a fs (list_at (lists_of c.deref-2.result.now)) (list_at (lists_of c.deref-3.result.now)) given_is out_is in
+    subst (λ (items : List Item). IfOk c.assemble.result (λ code. map Some code.words.items ≡ map encode (code_of items))) framed c.assemble.ensures.words
+
+pub returns-clause-labels : goal.returns-clause-labels
+returns-clause-labels c =
+    let g = c.args.graph.now in
+    let a = action_of g in
+    let fs = frames_of c.args.layout.now in
+    let count = length-nodes g c.nodes-count.result.now c.nodes-count.ensures.nodes in
+    let same : map placed_node c.deref.result.now ≡ put_frames fs (replicate (length a) nowhere) = ap (map placed_node) c.deref.ensures.value ∙ c.in_ok-places.ensures ∙ ap (λ (n : ℕ). put_frames fs (replicate n nowhere)) count in
+    let given_is = λ (k : ℕ) (less : k < length a). ap (λ (ys : List (Bor (List ℕ))). list_at (lists_of ys) k) c.deref-2.ensures.value ∙ c.in_ok-tables.ensures.given k (omega (arith, less, length-action_of g)) ∙ ap (λ (ns : List PlacedNode). given_of (place_at ns) a k) same in
+    let out_is = λ (k : ℕ) (less : k < length a). ap (λ (ys : List (Bor (List ℕ))). list_at (lists_of ys) k) c.deref-3.ensures.value ∙ c.in_ok-tables.ensures.out k (omega (arith, less, length-action_of g)) ∙ ap (λ (ns : List PlacedNode). out_of (place_at ns) a k) same in
+    let framed = framed-same a fs (list_at (lists_of c.deref-2.result.now)) (list_at (lists_of c.deref-3.result.now)) given_is out_is in
+    subst (λ (items : List Item). OnOk c.assemble.result (LabelsStand items)) framed c.assemble.ensures.labels
+
+pub returns-clause-short : goal.returns-clause-short
+returns-clause-short c =
+    let g = c.args.graph.now in
+    let a = action_of g in
+    let fs = frames_of c.args.layout.now in
+    let count = length-nodes g c.nodes-count.result.now c.nodes-count.ensures.nodes in
+    let same : map placed_node c.deref.result.now ≡ put_frames fs (replicate (length a) nowhere) = ap (map placed_node) c.deref.ensures.value ∙ c.in_ok-places.ensures ∙ ap (λ (n : ℕ). put_frames fs (replicate n nowhere)) count in
+    let given_is = λ (k : ℕ) (less : k < length a). ap (λ (ys : List (Bor (List ℕ))). list_at (lists_of ys) k) c.deref-2.ensures.value ∙ c.in_ok-tables.ensures.given k (omega (arith, less, length-action_of g)) ∙ ap (λ (ns : List PlacedNode). given_of (place_at ns) a k) same in
+    let out_is = λ (k : ℕ) (less : k < length a). ap (λ (ys : List (Bor (List ℕ))). list_at (lists_of ys) k) c.deref-3.ensures.value ∙ c.in_ok-tables.ensures.out k (omega (arith, less, length-action_of g)) ∙ ap (λ (ns : List PlacedNode). out_of (place_at ns) a k) same in
+    let framed = framed-same a fs (list_at (lists_of c.deref-2.result.now)) (list_at (lists_of c.deref-3.result.now)) given_is out_is in
+    subst (λ (items : List Item). OnOk c.assemble.result (total items ≤ 25 + 530 * node_count a)) framed c.assemble.ensures.short
