@@ -122,7 +122,7 @@ fn round<'a>(
 }
 
 /// Raises the table until the demands of all nodes hold. A node is visited again where a row that
-/// it reads was raised; that nothing is left, a visit of all nodes tells in the end.
+/// it reads was raised; that nothing is left, a visit of all nodes tells which raises none.
 pub fn settle<'a>(task: &Task<'_, 'a>, rows: &mut Vec<MarkedRow<'a>>) -> Result<(), Memory>
     requires cells { task.now.named.now.cells ≡ allocate_nodes (action_of task.now.graph.now) }
     requires bodies { task.now.named.now.bodies ≡ closure_bodies (action_of task.now.graph.now) }

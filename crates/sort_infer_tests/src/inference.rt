@@ -74,6 +74,28 @@ fn lengths_that_grow_clash(rt: HostRuntime) -> Result<(), Fail> {
     Ok(())
 }
 
+// `(give true) then (send the given integer)`: the last node doesn't fit, and those before it do
+#[test]
+fn a_truth_value_is_not_sent(rt: HostRuntime) -> Result<(), Fail> {
+    let arena = Bump::new(rt.alloc());
+    let nodes = [
+        action(Kind::Then, 0),
+        action(Kind::Give, 1),
+        datum(YKind::Truth(true)),
+        action(Kind::Send, 0),
+        datum(YKind::Given {
+            sort: Sort::Integer,
+            place: 0,
+        }),
+    ];
+    let graph = graph_of(&rt, rt.alloc(), &arena, &nodes)?;
+    match infer(rt.alloc(), &arena, &graph) {
+        Err(error) => assert_eq!(rt; error, SortError::IllSorted { node: 2 }),
+        Ok(_table) => return Err("a table".into()),
+    }
+    Ok(())
+}
+
 // `(give 1) then (send the given integer)`
 #[test]
 fn what_is_given_is_sent(rt: HostRuntime) -> Result<(), Fail> {

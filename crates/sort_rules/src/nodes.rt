@@ -214,7 +214,8 @@ fn ask_node<'a>(
     }
 }
 
-/// The demands of the node, in some order, but those of an unreached part, which are always met.
+/// The demands of the node, in some order; those of unreached parts, which are always met, may be
+/// left out.
 pub fn demands_at<'a>(graph: &Graph<'a>, site: &Site<'_, 'a>) -> Result<Vec<Demand<'a>>, Memory>
     requires node { site.now.node < length graph.now.nodes }
     requires cells { site.now.cells.now ≡ allocate_nodes (action_of graph.now) }

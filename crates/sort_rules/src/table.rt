@@ -119,7 +119,7 @@ impl<'a> Table<'a> {
         self.rows[node as usize]
     }
 
-    /// What the cells of an `allocate` node may hold; the empty set for every other node.
+    /// What the cells that a node allocates may hold, as it was handed to `make`.
     pub fn contents(&self, node: u32) -> Set<'a>
         requires there { node < length self.now.rows }
         ensures contents { slice_get self.now.contents node ≡ Some (set_of result) }
