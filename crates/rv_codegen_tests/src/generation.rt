@@ -197,7 +197,7 @@ fn instructions_of_three_sends(rt: HostRuntime) -> Result<(), Fail> {
     Ok(())
 }
 
-// complete and then (send sum(1, true) and escape)
+// complete and then ((furthermore complete) and receive an integer)
 #[test]
 fn first_of_two_unbuilt_nodes(rt: HostRuntime) -> Result<(), Fail> {
     let arena = Bump::new(rt.alloc());
@@ -205,11 +205,9 @@ fn first_of_two_unbuilt_nodes(rt: HostRuntime) -> Result<(), Fail> {
         action(Kind::AndThen),
         action(Kind::Complete),
         action(Kind::And),
-        action(Kind::Send),
-        yielder(YKind::Sum),
-        yielder(YKind::Number(1)),
-        yielder(YKind::Truth(true)),
-        action(Kind::Escape),
+        action(Kind::Furthermore),
+        action(Kind::Complete),
+        action(Kind::Receive),
     ];
     let graph = graph_of(&rt, rt.alloc(), &arena, &nodes)?;
     assert_eq!(rt; first_unbuilt(rt.alloc(), &graph)?, Some(3));
