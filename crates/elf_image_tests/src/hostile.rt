@@ -63,7 +63,7 @@ const LIMIT: [u8; 8] = [0, 0, 0, 32, 0, 0, 0, 0];
 const PAST_LIMIT: [u8; 8] = [1, 0, 0, 32, 0, 0, 0, 0];
 
 #[rattlefmt::skip]
-const REFUSED: [(Changes<'static>, ImageError); 35] = [
+const REFUSED: [(Changes<'static>, ImageError); 36] = [
     (&[(0, &[0])], ImageError::Magic),
     (&[(3, &[0x47])], ImageError::Magic),
     (&[(3, &[0x47]), (4, &[1])], ImageError::Magic),
@@ -86,6 +86,7 @@ const REFUSED: [(Changes<'static>, ImageError); 35] = [
     (&[(TABLE, &[213, 15])], ImageError::Header),
     (&[(TABLE, &[213, 15]), (FILE_SIZE, &[13])], ImageError::Header),
     (&[(FILE_SIZE, &[13])], ImageError::Segment { index: 0 }),
+    (&[(SIZE, &[11])], ImageError::Segment { index: 0 }),
     (&[(OFFSET, &[1, 16])], ImageError::Segment { index: 0 }),
     (&[(OFFSET, &MOST)], ImageError::Segment { index: 0 }),
     (&[(FILE_SIZE, &MOST), (SIZE, &MOST)], ImageError::Segment { index: 0 }),
@@ -139,7 +140,7 @@ fn short_files_are_refused(rt: HostRuntime) -> Result<(), Fail> {
 
 // Changes that leave a file that is read, how many segments it has then, and the size and the flags of the first.
 #[rattlefmt::skip]
-const READ: [(Changes<'static>, usize, u64, u32); 16] = [
+const READ: [(Changes<'static>, usize, u64, u32); 17] = [
     (&[], 1, 12, 5),
     (&[(7, &[9, 1, 2, 3, 4, 5, 6, 7, 8])], 1, 12, 5),
     (&[(20, &[2])], 1, 12, 5),
@@ -147,6 +148,7 @@ const READ: [(Changes<'static>, usize, u64, u32); 16] = [
     (&[(FLAGS, &[0xfd, 0xff, 0xff, 0xff])], 1, 12, 5),
     (&[(FLAGS, &[0, 255])], 1, 12, 0),
     (&[(SIZE, &[13])], 1, 13, 5),
+    (&[(SIZE, &LIMIT)], 1, 536_870_912, 5),
     (&[(FILE_SIZE, &[0]), (OFFSET, &MOST)], 1, 12, 5),
     (&[(ADDRESS, &[244, 255, 255, 255])], 1, 12, 5),
     (&[(ADDRESS, &TOP), (FILE_SIZE, &[0]), (SIZE, &[0])], 1, 0, 5),
