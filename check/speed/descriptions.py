@@ -108,7 +108,7 @@ def many_literals():
 
 
 def many_parts():
-    parts = '"" ' * 160000
+    parts = '"a" ' * 120000
     return description([production("P", [parts])], ["f _ : P ."], ["f [[ %s ]] = fail ." % parts]), "1 equations"
 
 
