@@ -31,7 +31,8 @@ pub enum ImageError {
     /// A program header hasn't 56 bytes, there are more than 16, or they pass the end of the file.
     #[error("bad program headers")]
     Header,
-    /// The range of a segment passes the end of the file, or it makes no image with those before it.
+    /// The range of a segment passes the end of the file, or it makes no image with those before
+    /// it.
     #[error("bad segment {index}")]
     Segment {
         /// The number of its program header among all, from 0.

@@ -28,8 +28,8 @@ impl Model for Segment {
     } };
 }
 
-/// An image: at most 16 segments that lie apart, below 2^32, of at most 2^29 bytes together. Contracts see it as
-/// its entry and the list of its segments.
+/// An image: at most 16 segments that lie apart, below 2^32, of at most 2^29 bytes together.
+/// Contracts see it as its entry and the list of its segments.
 #[derive(Debug, Drop)]
 pub struct Image {
     /// The address of the first instruction.
@@ -45,5 +45,6 @@ impl Model for Image {
 
     ghost view = { λ image. record { entry = image.entry; segments = image.segments.items } };
 
-    ghost invariant = { λ image. IsImage (record { entry = image.entry; segments = image.segments.items }) };
+    ghost invariant = { λ image.
+        IsImage (record { entry = image.entry; segments = image.segments.items }) };
 }

@@ -116,7 +116,8 @@ fn are_apart(segments: &[Segment], address: u64, size: u64) -> bool
     requires low { All (λ s. s.address + s.size ≤ 2 ^ 32) segments.now }
     requires stretch { address + size ≤ 2 ^ 32 }
     ensures yes { OnTrue result (All (λ s. AreApart s (stretch address size)) segments.now) }
-    ensures no { OnFalse result (All (λ s. AreApart s (stretch address size)) segments.now → ⊥) }
+    ensures no { OnFalse result
+        (All (λ s. AreApart s (stretch address size)) segments.now → ⊥) }
 {
     for segment in segments {
         if !is_apart(segment, address, size) {
@@ -130,8 +131,10 @@ fn are_apart(segments: &[Segment], address: u64, size: u64) -> bool
 fn joins(before: &[Segment], program: Program) -> bool
     requires low { All (λ s. s.address + s.size ≤ 2 ^ 32) before.now }
     requires total { sum_by (λ s. s.size) before.now ≤ image_limit }
-    ensures yes { OnTrue result (Joins before.now program.file_size program.address program.size) }
-    ensures no { OnFalse result (Joins before.now program.file_size program.address program.size → ⊥) }
+    ensures yes { OnTrue result
+        (Joins before.now program.file_size program.address program.size) }
+    ensures no { OnFalse result
+        (Joins before.now program.file_size program.address program.size → ⊥) }
 {
     program.file_size <= program.size
         && program.size <= TOP
@@ -229,7 +232,8 @@ fn add_segment(
 // The segments of the program headers.
 fn read_segments(alloc: Global, bytes: &[u8]) -> Result<Vec<Segment>, ImageError>
     requires { HasHeader bytes.now }
-    ensures read { IfOk result (λ list. list.items ≡ segments_of bytes.now (header_count bytes.now)) }
+    ensures read { IfOk result (λ list.
+        list.items ≡ segments_of bytes.now (header_count bytes.now)) }
     ensures loads { OnOk result (Loads bytes.now (header_count bytes.now)) }
     ensures refused { IfErr result (λ error. IsRefused bytes.now error) }
 {
@@ -254,9 +258,10 @@ fn read_checked(alloc: Global, bytes: &[u8]) -> Result<Image, ImageError>
     })
 }
 
-/// Reads bytes as an image, or answers the first check that fails: their number, the first four bytes, the class, the
-/// machine, the kind, the program headers, and then each segment. It obeys where the program headers stand, passes over
-/// those that are for something else, takes flags modulo 8, and ignores all other fields.
+/// Reads bytes as an image, or answers the first check that fails: their number, the first four
+/// bytes, the class, the machine, the kind, the program headers, and then each segment. It obeys
+/// where the program headers stand, passes over those that are for something else, takes flags
+/// modulo 8, and ignores all other fields.
 ///
 /// Each segment's bytes are copied once, into room for the whole segment.
 pub fn read_image(alloc: Global, bytes: &[u8]) -> Result<Image, ImageError>
@@ -266,9 +271,11 @@ pub fn read_image(alloc: Global, bytes: &[u8]) -> Result<Image, ImageError>
     // The check is the first that fails.
     ensures refused { IfErr result (λ error. IsRefused bytes.now error) }
 
-    // What passes all checks is read, unless memory runs out: so the file that `write_image` gives is read back.
+    // What passes all checks is read, unless memory runs out: so the file that `write_image` gives
+    // is read back.
     ensures back { (x : ImageValue) → IsFileOf bytes.now x → IfOk result (λ image. image ≡ x) }
-    ensures taken { (x : ImageValue) → IsFileOf bytes.now x → IfErr result (λ error. error ≡ image_error.Memory) }
+    ensures taken { (x : ImageValue) → IsFileOf bytes.now x →
+        IfErr result (λ error. error ≡ image_error.Memory) }
 {
     read_checked(alloc, bytes)
 }

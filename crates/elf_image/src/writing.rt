@@ -48,7 +48,8 @@ fn put_kind(out: &mut Vec<u8>) -> Result<(), Memory>
     Ok(())
 }
 
-// Appends where the run begins, where the program headers begin, and that there are no sections and no flags.
+// Appends where the run begins, where the program headers begin, and that there are no sections
+// and no flags.
 #[tactic(auto, using(std::proofs::Common::append_assoc), unfolding(crate::specs::Files::place_fields))]
 fn put_places(out: &mut Vec<u8>, entry: u64) -> Result<(), Memory>
     ensures { OnOk result (out.new.items ≡ out.old.items ++ place_fields entry) }
@@ -125,18 +126,21 @@ fn offset_behind(end: u64, segment: &Segment) -> u64
 #[tactic(auto, using(std::proofs::Common::append_assoc))]
 fn put_program(out: &mut Vec<u8>, end: u64, segment: &Segment) -> Result<(), Memory>
     requires { end ≤ 2 ^ 32 }
-    ensures { OnOk result (out.new.items ≡ out.old.items ++ program_header (offset_behind end segment.now) segment.now) }
+    ensures { let offset = offset_behind end segment.now in
+        OnOk result (out.new.items ≡ out.old.items ++ program_header offset segment.now) }
 {
     put_front(out, segment.flags, offset_behind(end, segment))?;
     put_extent(out, segment)?;
     Ok(())
 }
 
-// Appends the program headers of segments whose bytes stand behind an end, and answers the end of all of them.
+// Appends the program headers of segments whose bytes stand behind an end, and answers the end of
+// all of them.
 fn put_programs(out: &mut Vec<u8>, end: u64, segments: &[Segment]) -> Result<u64, Memory>
     requires low { (i : ℕ) → end_of end (take i segments.now) ≤ 2 ^ 32 }
     requires sizes { All (λ s. length s.bytes ≤ 2 ^ 32) segments.now }
-    ensures put { OnOk result (out.new.items ≡ out.old.items ++ program_headers end segments.now) }
+    ensures put { OnOk result
+        (out.new.items ≡ out.old.items ++ program_headers end segments.now) }
     ensures end { IfOk result (λ last. last ≡ end_of end segments.now) }
 {
     let mut last = end;
@@ -150,7 +154,8 @@ fn put_programs(out: &mut Vec<u8>, end: u64, segments: &[Segment]) -> Result<u64
 // Appends the bytes of a segment, with zeros before them.
 fn put_piece(out: &mut Vec<u8>, segment: &Segment) -> Result<(), Memory>
     requires { length out.old.items ≤ 2 ^ 32 }
-    ensures { OnOk result (out.new.items ≡ out.old.items ++ piece_behind (length out.old.items) segment.now) }
+    ensures { OnOk result
+        (out.new.items ≡ out.old.items ++ piece_behind (length out.old.items) segment.now) }
 {
     if segment.bytes.is_empty() {
         return Ok(());
@@ -164,7 +169,8 @@ fn put_piece(out: &mut Vec<u8>, segment: &Segment) -> Result<(), Memory>
 // Appends the bytes of segments.
 fn put_pieces(out: &mut Vec<u8>, segments: &[Segment]) -> Result<(), Memory>
     requires { (i : ℕ) → end_of (length out.old.items) (take i segments.now) ≤ 2 ^ 32 }
-    ensures { OnOk result (out.new.items ≡ out.old.items ++ contents (length out.old.items) segments.now) }
+    ensures { OnOk result
+        (out.new.items ≡ out.old.items ++ contents (length out.old.items) segments.now) }
 {
     for segment in segments {
         put_piece(out, segment)?;
@@ -176,9 +182,11 @@ fn put_pieces(out: &mut Vec<u8>, segments: &[Segment]) -> Result<(), Memory>
 fn put_file(out: &mut Vec<u8>, entry: u64, segments: &[Segment]) -> Result<(), Memory>
     requires empty { out.old.items ≡ [] }
     requires few { length segments.now ≤ 16 }
-    requires low { (i : ℕ) → end_of (headers_end (length segments.now)) (take i segments.now) ≤ 2 ^ 32 }
+    requires low { (i : ℕ) →
+        end_of (headers_end (length segments.now)) (take i segments.now) ≤ 2 ^ 32 }
     requires sizes { All (λ s. length s.bytes ≤ 2 ^ 32) segments.now }
-    ensures { OnOk result (out.new.items ≡ file_of (record { entry = entry; segments = segments.now })) }
+    ensures { OnOk result
+        (out.new.items ≡ file_of (record { entry = entry; segments = segments.now })) }
 {
     let count = segments.len();
     put_header(out, entry, count as u16)?;
@@ -188,9 +196,9 @@ fn put_file(out: &mut Vec<u8>, entry: u64, segments: &[Segment]) -> Result<(), M
     Ok(())
 }
 
-/// Writes an image as an ELF64 file for RISC-V: its header, the program headers, one for each segment in their order, and
-/// then the bytes of the segments, each aligned to 4096 bytes, with zeros between. A segment without bytes has the offset
-/// 0. The room for all of it is taken once.
+/// Writes an image as an ELF64 file for RISC-V: its header, the program headers, one for each
+/// segment in their order, and then the bytes of the segments, each aligned to 4096 bytes, with
+/// zeros between. A segment without bytes has the offset 0. The room for all of it is taken once.
 pub fn write_image(alloc: Global, image: &Image) -> Result<Vec<u8>, Memory>
     ensures bytes { IfOk result (λ file. file.items ≡ file_of image.now) }
 

@@ -50,33 +50,33 @@ const EXIT: [u8; 496] = [
     0x01, 0x00, 0x00, 0x00, 0x00, 0x00, 0x00, 0x00, 0x00, 0x00, 0x00, 0x00, 0x00, 0x00, 0x00, 0x00,
 ];
 
-// The source `hello.s`:
-//
-//       .globl _start
-//     _start:
-//       li a7, 64
-//       li a0, 1
-//       la a1, text
-//       li a2, 6
-//       ecall
-//       la t0, count
-//       ld a0, 0(t0)
-//       addi a0, a0, 1
-//       sd a0, 0(t0)
-//       li a7, 93
-//       ecall
-//       .section .rodata
-//     text: .ascii "hello\n"
-//       .data
-//       .balign 8
-//     count: .dword 8
-//       .bss
-//       .space 64
-//
-//     llvm-mc -triple=riscv64 -mattr=+m,-c -filetype=obj hello.s -o hello.o
-//     ld.lld -m elf64lriscv -s hello.o -o hello
+/// The image of the source `hello.s`:
+///
+///       .globl _start
+///     _start:
+///       li a7, 64
+///       li a0, 1
+///       la a1, text
+///       li a2, 6
+///       ecall
+///       la t0, count
+///       ld a0, 0(t0)
+///       addi a0, a0, 1
+///       sd a0, 0(t0)
+///       li a7, 93
+///       ecall
+///       .section .rodata
+///     text: .ascii "hello\n"
+///       .data
+///       .balign 8
+///     count: .dword 8
+///       .bss
+///       .space 64
+///
+///     llvm-mc -triple=riscv64 -mattr=+m,-c -filetype=obj hello.s -o hello.o
+///     ld.lld -m elf64lriscv -s hello.o -o hello
 #[rattlefmt::skip]
-const HELLO: [u8; 936] = [
+pub const HELLO: [u8; 936] = [
     0x7f, 0x45, 0x4c, 0x46, 0x02, 0x01, 0x01, 0x00, 0x00, 0x00, 0x00, 0x00, 0x00, 0x00, 0x00, 0x00,
     0x02, 0x00, 0xf3, 0x00, 0x01, 0x00, 0x00, 0x00, 0x60, 0x11, 0x01, 0x00, 0x00, 0x00, 0x00, 0x00,
     0x40, 0x00, 0x00, 0x00, 0x00, 0x00, 0x00, 0x00, 0xe8, 0x01, 0x00, 0x00, 0x00, 0x00, 0x00, 0x00,
