@@ -64,7 +64,7 @@ module _ (s : Setting) (trees : HasTrees s.action) (p : ℕ → PlacedNode) (wor
     beyond = λ k x high. inr (inr high);
     low = λ k x w less. written-low s.action trees p words own k x w less;
     some_frame = some;
-    keep_apart = λ opens n k i keeps part less w. record-kept s.action trees p words own n k i (part-listed (node_at s.action n) k part) less w;
+    keep_apart = λ n k i keeps part less w. record-kept s.action trees p words own n k i (part-listed (node_at s.action n) k part) less w;
   }
 
   -- a part has the frame of its node

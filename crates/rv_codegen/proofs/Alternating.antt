@@ -12,12 +12,12 @@ use Rattle.action_terms.specs.Performances.{OneOf, Here}
 use Rattle.action_terms.specs.Steps.{ArmOne, open_steps}
 use Rattle.action_terms.proofs.Parts.{quiet, reaches-quiet}
 use Rattle.rv_prelude.specs.PieceRuns.{Comes, HasPlace, quietly}
-use Rattle.rv_prelude.specs.Region.{Chains as KeptChains, HasChains, with_record, with_alternative, without_alternative}
+use Rattle.rv_prelude.specs.Region.{Chains, HasChains, with_record, with_alternative, without_alternative}
 use Rattle.rv_codegen.specs.Blocks.{joint_of, start_of}
-use Rattle.rv_codegen.proofs.Around.{Chains, OrFrame, Kept}
+use Rattle.rv_codegen.proofs.Around.{OrFrame, Kept}
 use Rattle.rv_codegen.proofs.AroundKept.{Agrees, around-kept, frames-high}
 use Rattle.rv_codegen.proofs.Configurations.{depth, performances}
-use Rattle.rv_codegen.proofs.Failing.{LaidRecords, as_kept}
+use Rattle.rv_codegen.proofs.Failing.{LaidRecords}
 use Rattle.rv_codegen.proofs.Holding.{Holds, HoldsBinds, grows-same, holds-kept, holds-kept_binds}
 use Rattle.rv_codegen.proofs.InputLeft.{left-same}
 use Rattle.rv_codegen.proofs.NodeParts.{IsPartOf, KeepsRecord, part-at}
@@ -36,7 +36,7 @@ module _ (s : Setting) where
     pub opened : Point
     pub near_opened : opened.place < 2 ^ 28
     pub opens_record :
-        (f : ℕ) (chains : KeptChains) (c : WordState) → c.pc ≡ address_of (start s n).place → HasPlace s.base f (s.places.keep n) c → HasChains c.words chains →
+        (f : ℕ) (chains : Chains) (c : WordState) → c.pc ≡ address_of (start s n).place → HasPlace s.base f (s.places.keep n) c → HasChains c.words chains →
         Comes s.base (code s) 20 c (quietly c (address_of opened.place) (with_alternative s.base (f + s.places.keep n) (with_record s.base (f + s.places.keep n) f chains (front s r).place c.words)))
     pub enter : Way (code s) opened (start s l)
     pub first_exit : exit s l ≡ joint r
@@ -76,7 +76,7 @@ module _ (s : Setting) where
       now = record before { alternative = s.base + 8 * place }
 
       abbrev words' : List ℕ
-      words' = with_alternative s.base place (with_record s.base place x.runs.here.f (as_kept before) arm x.runs.here.words)
+      words' = with_alternative s.base place (with_record s.base place x.runs.here.f before arm x.runs.here.words)
 
       high : 512 ≤ x.runs.here.f
       high = frames-high s x.runs.here.heap x.runs.here.words x.frames x.runs.here.f x.k before x.runs.here.around
@@ -94,13 +94,13 @@ module _ (s : Setting) where
             inside = omega (arith, within, size);
           }
 
-      has-chains : HasChains x.state.words (as_kept before)
+      has-chains : HasChains x.state.words before
       has-chains =
           let wa = x.runs.here.stands.words_are in
           record {
-            alternative = ap (λ ws. get_or ws 1 0) wa ∙ x.runs.here.region.alternative all.opens;
-            trap = ap (λ ws. get_or ws 2 0) wa ∙ x.runs.here.region.trap all.opens;
-            mark = ap (λ ws. get_or ws 3 0) wa ∙ x.runs.here.region.mark all.opens;
+            alternative = ap (λ ws. get_or ws 1 0) wa ∙ x.runs.here.region.alternative;
+            trap = ap (λ ws. get_or ws 2 0) wa ∙ x.runs.here.region.trap;
+            mark = ap (λ ws. get_or ws 3 0) wa ∙ x.runs.here.region.mark;
           }
 
       abbrev w1 : List ℕ
@@ -170,9 +170,9 @@ module _ (s : Setting) where
       region' : Region s words' now
       region' = record {
         size = length-set w5 1 (s.base + 8 * place) ∙ sizes.4;
-        alternative = λ opening. get_or-set_same w5 1 (s.base + 8 * place) 0 (omega (arith, sizes.4, laid.some));
-        trap = λ opening. other 2 (inl (omega (arith, high))) (omega arith) ∙ x.runs.here.region.trap opening;
-        mark = λ opening. other 3 (inl (omega (arith, high))) (omega arith) ∙ x.runs.here.region.mark opening;
+        alternative = get_or-set_same w5 1 (s.base + 8 * place) 0 (omega (arith, sizes.4, laid.some));
+        trap = other 2 (inl (omega (arith, high))) (omega arith) ∙ x.runs.here.region.trap;
+        mark = other 3 (inl (omega (arith, high))) (omega arith) ∙ x.runs.here.region.mark;
       }
 
       pub or-starts : StartGoesOn s x
@@ -180,7 +180,7 @@ module _ (s : Setting) where
           let h = x.runs.here in
           let o = alternative x.k l r e in
           let arms = all.arms x.k l r e in
-          let q = o.opens_record h.f (as_kept before) x.state x.runs.at at-place has-chains in
+          let q = o.opens_record h.f before x.state x.runs.at at-place has-chains in
           let c = q.0.end in
           let g = way-runs s.base (code s) c o.opened (start s l) o.near_opened (near s laid (start_of l)) q.0.at o.enter in
           let part : IsPartOf (node_at s.action x.k) l = part-at s.action x.k l (Either l r) e (inl refl) in
@@ -192,8 +192,8 @@ module _ (s : Setting) where
           let step = plugged x.frames n in
           let frame = InOr r x.d x.b in
           let opening : OneOf n (open_steps s.action x.world (Run x.k x.d x.b)) = open-run s x.k x.d x.b x.world (Either l r) n e Here in
-          let or_frame : OrFrame s h.heap words' h.f l r x.k now before x.d x.b = record { opens = all.opens; node = e; given = given'; receives = receives'; at = refl; same = refl; kept = kept } in
-          let words_are : g.end.words ≡ words' = g.words ∙ q.0.words ∙ ap (λ ws. with_alternative s.base place (with_record s.base place h.f (as_kept before) arm ws)) h.stands.words_are in
+          let or_frame : OrFrame s h.heap words' h.f l r x.k now before x.d x.b = record { node = e; given = given'; receives = receives'; at = refl; same = refl; kept = kept } in
+          let words_are : g.end.words ≡ words' = g.words ∙ q.0.words ∙ ap (λ ws. with_alternative s.base place (with_record s.base place h.f before arm ws)) h.stands.words_are in
           let keep_fits = all.keep_below x.k (keeps-of x.k l r e) in
           inl
           (quiet-advance s.base (code s) (performances s) depth (IsAt s) (start s x.k).rank x.state (starts s x)

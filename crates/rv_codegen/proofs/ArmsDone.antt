@@ -1,5 +1,5 @@
 -- The first arm of an alternative has completed: its record is closed, or a commitment has closed it.
-use Rattle.std.proofs.Common.{◌≡◌, ◌⊎◌, ℕ, ◌+◌, ◌*◌, ◌≤◌, List, [], ◌∷◌, get_or, length, refl, sym, ap, ◌∙◌, subst, arith, length-set, get_or-set_same, get_or-set_other, inl, ⊎_elim}
+use Rattle.std.proofs.Common.{◌≡◌, ℕ, ◌+◌, ◌*◌, ◌≤◌, List, [], ◌∷◌, get_or, length, refl, sym, ap, ◌∙◌, subst, arith, length-set, get_or-set_same, get_or-set_other, inl, ⊎_elim}
 use Rattle.rv_asm.specs.Assembly.{address_of}
 use Rattle.rv_asm.specs.WordMachine.{WordState}
 use Rattle.rv_asm.proofs.Moments.{quiet-advance}
@@ -10,10 +10,10 @@ use Rattle.action_terms.specs.Frames.{InOr, InCut, plugged}
 use Rattle.action_terms.specs.Information.{Binds, Data}
 use Rattle.action_terms.specs.Performances.{OneOf, Here}
 use Rattle.action_terms.specs.Steps.{silent, open_steps}
-use Rattle.action_terms.proofs.Parts.{quiet, reaches-quiet}
+use Rattle.action_terms.proofs.Parts.{reaches-quiet}
 use Rattle.rv_prelude.specs.PieceRuns.{HasPlace}
-use Rattle.rv_prelude.specs.Region.{without_alternative}
-use Rattle.rv_codegen.proofs.Around.{Chains, OrFrame}
+use Rattle.rv_prelude.specs.Region.{Chains, without_alternative}
+use Rattle.rv_codegen.proofs.Around.{OrFrame}
 use Rattle.rv_codegen.proofs.AroundKept.{Agrees, around-kept, frames-high}
 use Rattle.rv_codegen.proofs.Configurations.{depth, performances}
 use Rattle.rv_codegen.proofs.Failing.{LaidRecords}
@@ -21,7 +21,7 @@ use Rattle.rv_codegen.proofs.Holding.{Holds, HoldsBinds, Slot, Apart, ApartSlots
 use Rattle.rv_codegen.proofs.InputLeft.{left-same}
 use Rattle.rv_codegen.proofs.NodeParts.{IsPartOf, IsNode, KeepsRecord, part-at}
 use Rattle.rv_codegen.proofs.RestPoints.{Laid, Region, IsAt, Completing, completes, EndGoesOn, near}
-use Rattle.rv_codegen.proofs.Settings.{way-runs, Setting, code, front, exit, frame_words}
+use Rattle.rv_codegen.proofs.Settings.{way-runs, Setting, code, exit, frame_words}
 use Rattle.rv_codegen.proofs.Units.{units-kept, units-more}
 use Rattle.rv_codegen.proofs.Alternating.{Alternative, joint}
 
@@ -88,9 +88,9 @@ module _ (s : Setting) where
           let v = get_or x.done.here.words record_word 0 in
           record {
             size = length-set x.done.here.words 1 v ∙ x.done.here.region.size;
-            alternative = λ opening. get_or-set_same x.done.here.words 1 v 0 (omega (arith, x.done.here.region.size, laid.some)) ∙ frame.kept.alternative;
-            trap = λ opening. others 2 (omega arith) ∙ x.done.here.region.trap opening ∙ ap (λ c. c.trap) frame.same;
-            mark = λ opening. others 3 (omega arith) ∙ x.done.here.region.mark opening ∙ ap (λ c. c.mark) frame.same;
+            alternative = get_or-set_same x.done.here.words 1 v 0 (omega (arith, x.done.here.region.size, laid.some)) ∙ frame.kept.alternative;
+            trap = others 2 (omega arith) ∙ x.done.here.region.trap ∙ ap (λ c. c.trap) frame.same;
+            mark = others 3 (omega arith) ∙ x.done.here.region.mark ∙ ap (λ c. c.mark) frame.same;
           }
 
       pub or-done : EndGoesOn s (InOr k2 d0 b0) x
@@ -102,7 +102,7 @@ module _ (s : Setting) where
           let part : IsPartOf (node_at s.action node) k = part-at s.action node k (Either k k2) frame.node (inl refl) in
           let at_joint : x.state.pc ≡ address_of (joint s k2).place = x.done.at ∙ ap (λ z. address_of z.place) o.first_exit in
           let has = joined node k k2 h.f x.state h.words frame.node high_frame h.clear h.stands.words_are h.region.size h.stands.region h.stands.frame_at in
-          let head : get_or x.state.words 1 0 ≡ s.base + 8 * record_word = ap (λ ws. get_or ws 1 0) h.stands.words_are ∙ h.region.alternative all.opens ∙ frame.at in
+          let head : get_or x.state.words 1 0 ≡ s.base + 8 * record_word = ap (λ ws. get_or ws 1 0) h.stands.words_are ∙ h.region.alternative ∙ frame.at in
           let q = o.closes_record h.f x.state at_joint has head in
           let c = q.0.end in
           let g = way-runs s.base (code s) c o.closed (exit s node) o.near_closed (near s laid (get_or s.exits node 0)) q.0.at o.leave in
@@ -171,7 +171,7 @@ module _ (s : Setting) where
           let high = frames-high s h.heap h.words x.frames h.f cut_node h.chains h.around.3 in
           let at_joint : x.state.pc ≡ address_of (joint s r).place = x.done.at ∙ ap (λ z. address_of z.place) o.first_exit in
           let has = joined cut_node k r h.f x.state h.words e high h.clear h.stands.words_are h.region.size h.stands.region h.stands.frame_at in
-          let head : get_or x.state.words 1 0 ≡ 0 = ap (λ ws. get_or ws 1 0) h.stands.words_are ∙ h.region.alternative all.opens ∙ h.around.2 in
+          let head : get_or x.state.words 1 0 ≡ 0 = ap (λ ws. get_or ws 1 0) h.stands.words_are ∙ h.region.alternative ∙ h.around.2 in
           let q = o.leaves_record h.f x.state at_joint has (omega (arith, head, high)) in
           let c = q.0.end in
           let g = way-runs s.base (code s) c o.closed (exit s cut_node) o.near_closed (near s laid (get_or s.exits cut_node 0)) q.0.at o.leave in

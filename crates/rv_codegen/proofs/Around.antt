@@ -1,31 +1,18 @@
 -- What stands in the machine for what stands around a node, and around an end.
-use Rattle.std.proofs.Common.{◌≡◌, ℕ, zero, suc, ◌+◌, ◌*◌, ◌<◌, ◌≤◌, List, [], ◌∷◌, ◌++◌, length}
+use Rattle.std.proofs.Common.{◌≡◌, ℕ, ◌+◌, ◌*◌, ◌<◌, ◌≤◌, List, [], ◌∷◌, ◌++◌, length}
 use Rattle.rv_asm.specs.Assembly.{address_of}
 use Rattle.rv_asm.specs.DataWords.{Heap}
 use Rattle.action_terms.specs.Information.{Token, Binds, Data}
 use Rattle.action_terms.specs.Actions.{Join, Chain, Furthermore, Both, Phases, Either, Trapping, node_at}
 use Rattle.action_terms.specs.Acting.{Done, Tree, Run, Ended}
 use Rattle.action_terms.specs.Frames.{Frame, InCalled, InParLeft, InParRight, InFirst, InSecond, InOr, InCut, InTrap, InOver, InTail}
+use Rattle.rv_prelude.specs.Region.{Chains, left_open, either_mark}
 use Rattle.rv_codegen.proofs.BindTables.{LeavesBinds, Binds_in}
 use Rattle.rv_codegen.proofs.Holding.{word_at, Holds, HoldsBinds, Apart, ApartSlots}
 use Rattle.rv_codegen.proofs.NodeParts.{IsPartOf, IsTailOf, Calls, KeepsRecord}
 use Rattle.rv_codegen.proofs.Settings.{Point, Way, Setting, code, front, start, stop, exit, frame_words}
 
--- the chains: the addresses of the records of the innermost alternative and of the innermost trap, 0 where there is none; and whether a commitment was made since the trap was opened
-pub record Chains : Type 0 where
-  pub alternative : ℕ
-  pub trap : ℕ
-  pub mark : ℕ
-
--- what a commitment leaves of an alternative that a trap's record keeps, and of a mark
-abbrev pub left_open : ℕ → ℕ → ℕ
-left_open zero alternative = alternative
-left_open (suc m) alternative = 0
-
-abbrev pub either_mark : ℕ → ℕ → ℕ
-either_mark zero saved = saved
-either_mark (suc m) saved = 1
-
+-- the chains after a commitment
 abbrev pub committed : Chains → Chains
 committed c = record c { alternative = 0; mark = 1 }
 
@@ -39,7 +26,7 @@ module _ (s : Setting) where
     -- the first words of the frame of a body that is called keep where it returns to
     pub low : (k x : ℕ) → s.places.Writes k x → x < frame_words s k → 32 ≤ x
     pub some_frame : (n c : ℕ) → s.procedures.calls n c → 32 ≤ frame_words s c
-    pub keep_apart : s.Opens → (n k i : ℕ) → KeepsRecord (node_at s.action n) → IsPartOf (node_at s.action n) k → i < 8 → s.places.Writes k (s.places.keep n + i) → ⊥
+    pub keep_apart : (n k i : ℕ) → KeepsRecord (node_at s.action n) → IsPartOf (node_at s.action n) k → i < 8 → s.places.Writes k (s.places.keep n + i) → ⊥
 
   -- node n performs first its part l, then its part r
   pub record InOrder (n l r : ℕ) : Type 0 where
@@ -77,7 +64,6 @@ module _ (s : Setting) where
 
   -- an alternative that a commitment has closed
   pub record CutFrame (k n : ℕ) : Type 0 where
-    pub opens : s.Opens
     pub r : ℕ
     pub node : node_at s.action n ≡ Either k r
 
@@ -136,7 +122,6 @@ module _ (s : Setting) where
       pub binds : BindsLeft f l b1
 
     pub record OrFrame (f k k2 n : ℕ) (now before : Chains) (d : Data) (b : Binds) : Type 0 where
-      pub opens : s.Opens
       pub node : node_at s.action n ≡ Either k k2
       pub given : Given f n d
       pub receives : Receives f n b
@@ -145,7 +130,6 @@ module _ (s : Setting) where
       pub kept : Kept words n f before (front s k2)
 
     pub record TrapFrame (f k n : ℕ) (now before : Chains) (b : Binds) : Type 0 where
-      pub opens : s.Opens
       pub r : ℕ
       pub node : node_at s.action n ≡ Trapping k r
       pub receives : Receives f n b

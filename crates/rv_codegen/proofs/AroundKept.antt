@@ -6,7 +6,8 @@ use Rattle.action_terms.specs.Information.{Binds, Data}
 use Rattle.action_terms.specs.Actions.{Node, Furthermore, Both, Phases, Either, Trapping, node_at}
 use Rattle.action_terms.specs.Acting.{Done, Tree, Run, Ended}
 use Rattle.action_terms.specs.Frames.{Frame, InCalled, InParLeft, InParRight, InFirst, InSecond, InOr, InCut, InTrap, InOver, InTail, shut_all}
-use Rattle.rv_codegen.proofs.Around.{Chains, committed, IsPlaced, IsOther, Given, Receives, Leaves, BindsLeft, Kept, Around}
+use Rattle.rv_prelude.specs.Region.{Chains}
+use Rattle.rv_codegen.proofs.Around.{committed, IsPlaced, IsOther, Given, Receives, Leaves, BindsLeft, Kept, Around}
 use Rattle.rv_codegen.proofs.Holding.{word_at, Apart, ApartSlots, apart-fewer, apart-fewer_slots, Grows, holds-kept, holds-kept_binds}
 use Rattle.rv_codegen.proofs.NodeParts.{IsPartOf, KeepsRecord, tail-part, part-at}
 use Rattle.rv_codegen.proofs.Settings.{Point, Setting, front, frame_words}
@@ -23,11 +24,11 @@ module _ (s : Setting) where
   around-shut heap words (InOr k2 d b ∷ fs) f k c h =
       let rest = around-shut heap words fs f h.0 h.1 h.3 in
       let same : committed h.1 ≡ committed c = ap committed (sym h.2.same) in
-      (h.0, record { opens = h.2.opens; r = k2; node = h.2.node }, refl, subst (Around s heap words (shut_all true fs) f h.0) same rest)
+      (h.0, record { r = k2; node = h.2.node }, refl, subst (Around s heap words (shut_all true fs) f h.0) same rest)
   around-shut heap words (InCut ∷ fs) f k c h = (h.0, h.1, refl, around-shut heap words fs f h.0 c h.3)
   around-shut heap words (InTrap n b ∷ fs) f k c h =
       let x = h.1 in
-      (h.0, record { opens = x.opens; r = x.r; node = x.node; receives = x.receives; at = x.at; kept = x.kept; chain = refl }, around-shut heap words fs f n _ h.2)
+      (h.0, record { r = x.r; node = x.node; receives = x.receives; at = x.at; kept = x.kept; chain = refl }, around-shut heap words fs f n _ h.2)
   around-shut heap words (InTail n ∷ fs) f k c h = (h.0, around-shut heap words fs f n c h.1)
   around-shut heap words (InCalled c' ∷ fs) f k c h = (h.0, h.1, h.2, around-shut heap words fs h.1 h.0 c h.3)
   around-shut heap words (InOver b ∷ fs) f k c h = (h.0, h.1, around-shut heap words fs f h.0 c h.2)
@@ -78,15 +79,15 @@ module _ (s : Setting) where
     keeps-record : (n : ℕ) (m : Node) → node_at s.action n ≡ m → KeepsRecord m → KeepsRecord (node_at s.action n)
     keeps-record n m e h = subst KeepsRecord (sym e) h
 
-    record-kept : s.Opens → (f n k : ℕ) (before : Chains) (arm : Point) → KeepsRecord (node_at s.action n) → IsPartOf (node_at s.action n) k → Agrees f k → Kept s words n f before arm → Kept s words' n f before arm
-    record-kept opens f n k before arm keeps part h g =
+    record-kept : (f n k : ℕ) (before : Chains) (arm : Point) → KeepsRecord (node_at s.action n) → IsPartOf (node_at s.action n) k → Agrees f k → Kept s words n f before arm → Kept s words' n f before arm
+    record-kept f n k before arm keeps part h g =
         let first : s.places.keep n + 0 ≡ s.places.keep n = omega arith in
         record {
-          alternative = subst (λ x. word_at words' f x ≡ word_at words f x) first (h.here (s.places.keep n + 0) (placed.keep_apart opens n k 0 keeps part (omega arith))) ∙ g.alternative;
-          arm_at = h.here (s.places.keep n + 1) (placed.keep_apart opens n k 1 keeps part (omega arith)) ∙ g.arm_at;
-          trap = h.here (s.places.keep n + 2) (placed.keep_apart opens n k 2 keeps part (omega arith)) ∙ g.trap;
-          mark = h.here (s.places.keep n + 3) (placed.keep_apart opens n k 3 keeps part (omega arith)) ∙ g.mark;
-          frame = h.here (s.places.keep n + 4) (placed.keep_apart opens n k 4 keeps part (omega arith)) ∙ g.frame;
+          alternative = subst (λ x. word_at words' f x ≡ word_at words f x) first (h.here (s.places.keep n + 0) (placed.keep_apart n k 0 keeps part (omega arith))) ∙ g.alternative;
+          arm_at = h.here (s.places.keep n + 1) (placed.keep_apart n k 1 keeps part (omega arith)) ∙ g.arm_at;
+          trap = h.here (s.places.keep n + 2) (placed.keep_apart n k 2 keeps part (omega arith)) ∙ g.trap;
+          mark = h.here (s.places.keep n + 3) (placed.keep_apart n k 3 keeps part (omega arith)) ∙ g.mark;
+          frame = h.here (s.places.keep n + 4) (placed.keep_apart n k 4 keeps part (omega arith)) ∙ g.frame;
         }
 
     other-kept : (f n k other : ℕ) (y : Tree) → IsPartOf (node_at s.action n) k → Agrees f k → IsOther s heap words f n k other y → IsOther s heap' words' f n k other y
@@ -116,14 +117,14 @@ module _ (s : Setting) where
         let x = h.2 in
         let n = h.0 in
         let part = part-at s.action n k (Either k k2) x.node (inl refl) in
-        (n, h.1, record { opens = x.opens; node = x.node; given = given-kept f n k d part g x.given; receives = receives-kept f n k b part g x.receives; at = x.at; same = x.same; kept = record-kept x.opens f n k h.1 (front s k2) (keeps-record n (Either k k2) x.node tt) part g x.kept }, around-kept fs f n h.1 (agrees-out f n k part g) h.3)
+        (n, h.1, record { node = x.node; given = given-kept f n k d part g x.given; receives = receives-kept f n k b part g x.receives; at = x.at; same = x.same; kept = record-kept f n k h.1 (front s k2) (keeps-record n (Either k k2) x.node tt) part g x.kept }, around-kept fs f n h.1 (agrees-out f n k part g) h.3)
     around-kept (InCut ∷ fs) f k c g h =
         let part = part-at s.action h.0 k (Either k h.1.r) h.1.node (inl refl) in
         (h.0, h.1, h.2, around-kept fs f h.0 c (agrees-out f h.0 k part g) h.3)
     around-kept (InTrap n b ∷ fs) f k c g h =
         let x = h.1 in
         let part = part-at s.action n k (Trapping k x.r) x.node (inl refl) in
-        (h.0, record { opens = x.opens; r = x.r; node = x.node; receives = receives-kept f n k b part g x.receives; at = x.at; kept = record-kept x.opens f n k h.0 (front s x.r) (keeps-record n (Trapping k x.r) x.node tt) part g x.kept; chain = x.chain }, around-kept fs f n _ (agrees-out f n k part g) h.2)
+        (h.0, record { r = x.r; node = x.node; receives = receives-kept f n k b part g x.receives; at = x.at; kept = record-kept f n k h.0 (front s x.r) (keeps-record n (Trapping k x.r) x.node tt) part g x.kept; chain = x.chain }, around-kept fs f n _ (agrees-out f n k part g) h.2)
     around-kept (InTail n ∷ fs) f k c g h =
         (h.0, around-kept fs f n c (agrees-out f n k (tail-part (node_at s.action n) k h.0.tail) g) h.1)
     around-kept (InCalled c' ∷ fs) f k c g h =

@@ -1,5 +1,5 @@
 -- Whether items have code, item after item.
-use Rattle.std.proofs.Common.{◌≡◌, ℕ, ◌+◌, ◌-◌, ◌<◌, ◌≤◌, Bool, true, false, ◌&&◌, List, [], ◌∷◌, length, get_or, drop, refl, sym, ap, ◌∙◌, arith}
+use Rattle.std.proofs.Common.{◌≡◌, ℕ, ◌+◌, ◌-◌, ◌<◌, Bool, true, false, ◌&&◌, List, [], ◌∷◌, length, get_or, drop, refl, sym, ap, ◌∙◌, arith}
 use Rattle.action_terms.specs.Actions.{Item, Single, Them}
 use Rattle.action_terms.specs.Forms.{item_at, items_at}
 use Rattle.action_terms.specs.Need.{items_yielder_count}

@@ -1,11 +1,11 @@
 -- Items whose code can be made: what their code needs, and that they make no closure.
-use Rattle.std.proofs.Common.{◌≡◌, ℕ, ◌+◌, ◌<◌, ◌≤◌, true, List, [], ◌∷◌, refl, arith}
+use Rattle.std.proofs.Common.{◌≡◌, ◌<◌, true, List, [], ◌∷◌, refl, arith}
 use Rattle.std.specs.Prelude.{All}
 use Rattle.std.proofs.lemmas.List.Elements.{All-head, All-tail}
 use Rattle.rv_asm.proofs.Places.{and-true}
 use Rattle.action_terms.specs.Actions.{Item, Single, Them}
 use Rattle.action_terms.specs.Literals.{ItemFits}
-use Rattle.action_terms.specs.Need.{items_yielder_count, yielder_count}
+use Rattle.action_terms.specs.Need.{items_yielder_count}
 use Rattle.action_terms.specs.Steps.{closures_in_items}
 use Rattle.rv_yield.specs.Registers.{is_built}
 use Rattle.rv_yield.proofs.NeedLaws.{registers-enough}

@@ -1,5 +1,5 @@
 -- Nodes that check: the code goes on where the yielder yields `true`, and else to the entry for failures.
-use Rattle.std.proofs.Common.{◌≡◌, ⊎_elim, ℕ, suc, ◌+◌, ◌*◌, ◌^◌, ◌<◌, ◌≤◌, true, false, List, [], ◌∷◌, ◌++◌, get_or, Option, Some, None, refl, sym, ap, ◌∙◌, subst, arith, inl, inr}
+use Rattle.std.proofs.Common.{◌≡◌, ⊎_elim, ℕ, ◌+◌, ◌*◌, ◌<◌, ◌≤◌, true, false, List, [], ◌∷◌, get_or, Option, Some, None, refl, sym, ap, ◌∙◌, subst, arith, inl, inr}
 use Rattle.rv_asm.specs.Arrivals.{LabelsStand}
 use Rattle.rv_asm.specs.Assembly.{address_of, spot, total}
 use Rattle.rv_asm.specs.declared.item.Item.{Item}
@@ -19,7 +19,7 @@ use Rattle.rv_yield.specs.Registers.{is_built}
 use Rattle.rv_yield.proofs.Deciding.{Chosen, condition-comes}
 use Rattle.rv_yield.proofs.NeedLaws.{registers-enough}
 use Rattle.rv_yield.proofs.Steps.{Arrives}
-use Rattle.rv_codegen.specs.Blocks.{fail_label, start_of, stop_of}
+use Rattle.rv_codegen.specs.Blocks.{fail_label, stop_of}
 use Rattle.rv_codegen.proofs.Ending.{nothing-done}
 use Rattle.rv_codegen.proofs.FindsGiven.{all-members, finds-given}
 use Rattle.rv_codegen.proofs.Holding.{grows-same}
@@ -28,7 +28,7 @@ use Rattle.rv_codegen.proofs.Nothing.{built-makes_none, has-words, nothing-did}
 use Rattle.rv_codegen.proofs.Performing.{Did, step-failed}
 use Rattle.rv_codegen.proofs.PieceStands.{PieceStands, piece-stands}
 use Rattle.rv_codegen.proofs.RestPoints.{Laid, Starting, StartGoesOn, near, open-run}
-use Rattle.rv_codegen.proofs.Settings.{Way, way-runs, Setting, code, start, stop, exit, failure}
+use Rattle.rv_codegen.proofs.Settings.{way-runs, Setting, code, start, stop, exit, failure}
 use Rattle.rv_codegen.proofs.Standing.{NodeStands}
 use Rattle.rv_codegen.proofs.Units.{units-more}
 
@@ -101,7 +101,7 @@ module _ (s : Setting) where
           by at (yields y x.d x.b x.world.cells) refl chosen
         where
           by : Stood → (o : Option Datum) → yields y x.d x.b x.world.cells ≡ o → Chosen s.base (code s) (spot s.items) true (24 * yielder_count y) x.state next (address_of (failure s).place) (address_of (failure s).place) o → StartGoesOn s x
-          by at None is a = step-failed s laid x (silent failed) (open-checked None is) refl (nothing-did s laid x (24 * yielder_count y) (omega (arith, paid)) at.before_failure a)
+          by at None is a = step-failed s laid x (silent failed) (open-checked None is) refl (nothing-did s laid x (24 * yielder_count y) (omega (arith, paid)) at.behind_failure a)
           by at (Some (Truth true)) is a = nothing-done s laid x (silent done) (open-checked (Some (Truth true)) is) refl (checked-did at a within_labels)
-          by at (Some (Truth false)) is a = step-failed s laid x (silent failed) (open-checked (Some (Truth false)) is) refl (nothing-did s laid x (24 * yielder_count y) (omega (arith, paid)) at.before_failure a)
+          by at (Some (Truth false)) is a = step-failed s laid x (silent failed) (open-checked (Some (Truth false)) is) refl (nothing-did s laid x (24 * yielder_count y) (omega (arith, paid)) at.behind_failure a)
           by at (Some z) is a = absurd a

@@ -63,7 +63,7 @@ module _ (s : Setting) (laid : Laid s) (x : Starting s) (y : Yielder) (e : node_
 
     fails : (o : Option Datum) → yields y x.d x.b x.world.cells ≡ o → checked o ≡ failed → Arrives s.base (code s) limit 10 10 x.state (address_of (failure s).place) → StartGoesOn s x
     fails o is none a =
-        step-failed s laid x (silent failed) (subst (λ z. OneOf (silent z) (open_steps s.action x.world (Run x.k x.d x.b))) none (open-checked ok.none_made o is)) refl (nothing-did s laid x limit (omega (arith, paid)) behind.before_failure a)
+        step-failed s laid x (silent failed) (subst (λ z. OneOf (silent z) (open_steps s.action x.world (Run x.k x.d x.b))) none (open-checked ok.none_made o is)) refl (nothing-did s laid x limit (omega (arith, paid)) behind.behind_failure a)
 
     -- the node completes with nothing, or it fails
     pub check-turns : Has (code s) (address_of (start s x.k).place) (code_from (spot s.items) (start s x.k).place (condition_items (s.places.given x.k) true fail_label fail_label y)) → StartGoesOn s x

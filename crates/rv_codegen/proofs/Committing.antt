@@ -1,23 +1,32 @@
 -- Nodes that commit: every open alternative is closed by three instructions, and the mark is set.
-use Rattle.std.proofs.Common.{◌≡◌, ℕ, ◌+◌, ◌^◌, ◌<◌, ◌≤◌, List, [], ◌∷◌, get_or, set, length, refl, sym, ap, ◌∙◌, subst, arith, length-set, get_or-set_same, get_or-set_other, inl, ⊎_elim}
-use Rattle.rv_asm.specs.Assembly.{address_of}
-use Rattle.rv_asm.specs.WordMachine.{WordState}
+use Rattle.std.proofs.Common.{◌≡◌, ℕ, ◌+◌, ◌^◌, ◌<◌, ◌≤◌, List, ◌∷◌, get_or, set, length, map, refl, sym, ap, ◌∙◌, subst, arith, length-set, get_or-set_same, get_or-set_other, inl, ⊎_elim}
+use Rattle.rv_asm.specs.Arrivals.{LabelsStand}
+use Rattle.rv_asm.specs.Assembly.{address_of, spot}
+use Rattle.rv_asm.specs.WordMachine.{WordState, Has}
+use Rattle.rv_asm.specs.declared.item.Item.TheVariants.{Plain}
+use Rattle.rv_asm.proofs.Registers.{put-other}
+use Rattle.rv_asm.proofs.Sending.{code_from-plain}
 use Rattle.rv_asm.proofs.Stretches.{quiet-between, then-runs}
 use Rattle.action_terms.specs.Actions.{Commit, Simple, node_at}
 use Rattle.action_terms.specs.Frames.{plugged}
-use Rattle.action_terms.specs.Information.{NoBinds}
 use Rattle.action_terms.specs.Performances.{Here}
 use Rattle.action_terms.specs.Steps.{Step, Commits, with_effect, done}
 use Rattle.rv_prelude.specs.PieceRuns.{Comes, HasRegion, quietly}
-use Rattle.rv_prelude.specs.Region.{committed_words}
-use Rattle.rv_codegen.proofs.Around.{Chains, committed}
+use Rattle.rv_prelude.specs.Pieces.{commit}
+use Rattle.rv_prelude.specs.Region.{Chains, committed_words}
+use Rattle.rv_prelude.proofs.Arrivals.{arrives}
+use Rattle.rv_prelude.proofs.Commitments.{committed as committed_state, commit-runs}
+use Rattle.rv_codegen.specs.Blocks.{stop_of}
+use Rattle.rv_codegen.proofs.Around.{committed}
 use Rattle.rv_codegen.proofs.AroundKept.{frames-high}
 use Rattle.rv_codegen.proofs.Ending.{nothing-done}
-use Rattle.rv_codegen.proofs.Holding.{Holds, grows-same}
+use Rattle.rv_codegen.proofs.Holding.{grows-same}
 use Rattle.rv_codegen.proofs.InputLeft.{left-same}
-use Rattle.rv_codegen.proofs.Performing.{Did, step-done}
+use Rattle.rv_codegen.proofs.Performing.{Did}
+use Rattle.rv_codegen.proofs.PieceStands.{PieceStands, piece-stands}
 use Rattle.rv_codegen.proofs.RestPoints.{Laid, Region, Starting, StartGoesOn, near, open-run}
-use Rattle.rv_codegen.proofs.Settings.{Point, Way, way-runs, Setting, code, start, exit}
+use Rattle.rv_codegen.proofs.Settings.{Point, Way, way-runs, Setting, code, start, stop, exit}
+use Rattle.rv_codegen.proofs.Standing.{NodeStands}
 use Rattle.rv_codegen.proofs.Units.{units-kept}
 
 module _ (s : Setting) where
@@ -41,10 +50,34 @@ module _ (s : Setting) where
         let s2 = length-set (set words 1 0) 3 1 in
         record {
           size = s2 ∙ s1 ∙ size;
-          alternative = λ opening. get_or-set_other (set words 1 0) 3 1 1 0 (λ q. omega arith) ∙ get_or-set_same words 1 0 0 (omega (arith, size, some));
-          trap = λ opening. get_or-set_other (set words 1 0) 3 2 1 0 (λ q. omega arith) ∙ get_or-set_other words 1 2 0 0 (λ q. omega arith) ∙ r.trap opening;
-          mark = λ opening. get_or-set_same (set words 1 0) 3 1 0 (omega (arith, s1, size, some));
+          alternative = get_or-set_other (set words 1 0) 3 1 1 0 (λ q. omega arith) ∙ get_or-set_same words 1 0 0 (omega (arith, size, some));
+          trap = get_or-set_other (set words 1 0) 3 2 1 0 (λ q. omega arith) ∙ get_or-set_other words 1 2 0 0 (λ q. omega arith) ∙ r.trap;
+          mark = get_or-set_same (set words 1 0) 3 1 0 (omega (arith, s1, size, some));
         }
+
+  -- ---- and what the entry that sends makes of them
+
+  -- the words behind a message that is sent
+  abbrev pub sent_words : List ℕ → (word : ℕ) → List ℕ
+  sent_words words word = committed_words (set words 0 word)
+
+  module _ (words : List ℕ) (c : Chains) (word : ℕ) (r : Region s words c) (some : 512 < s.count) where
+    message_size : length (set words 0 word) ≡ s.count
+    message_size = length-set words 0 word ∙ r.size
+
+    message-region : Region s (set words 0 word) c
+    message-region = record {
+      size = message_size;
+      alternative = get_or-set_other words 0 1 word 0 (λ q. omega arith) ∙ r.alternative;
+      trap = get_or-set_other words 0 2 word 0 (λ q. omega arith) ∙ r.trap;
+      mark = get_or-set_other words 0 3 word 0 (λ q. omega arith) ∙ r.mark;
+    }
+
+    pub sent-region : Region s (sent_words words word) (committed c)
+    sent-region = committed-region (set words 0 word) c message_size some message-region
+
+    pub sent-other : (j : ℕ) → 4 ≤ j → get_or (sent_words words word) j 0 ≡ get_or words j 0
+    sent-other j far = committed-other (set words 0 word) c message_size some j far ∙ get_or-set_other words 0 j word 0 (omega arith)
 
   module _ (laid : Laid s) (x : Starting s) (code_of_node : CommitCode x.k) where
     abbrev n : Step
@@ -85,3 +118,20 @@ module _ (s : Setting) where
     -- every alternative around the node is closed
     pub commits-go : node_at s.action x.k ≡ Simple Commit → StartGoesOn s x
     commits-go e = nothing-done s laid x n (open-run s x.k x.d x.b x.world (Simple Commit) n e Here) refl commit-did
+
+  -- the code of such a node stands
+  pub commit-code : Laid s → (k : ℕ) → PieceStands s k (map Plain commit) → CommitCode k
+  commit-code laid k at = record {
+    behind = stop s k;
+    near_behind = near s laid (stop_of k);
+    commits = λ c here region.
+        let has : Has (code s) c.pc commit = subst (λ p. Has (code s) p commit) (sym here) (subst (Has (code s) (address_of (start s k).place)) (code_from-plain (spot s.items) (start s k).place commit) at.code_stands) in (
+          arrives s.base (code s) 3 3 c (committed_state c) (quietly c (address_of (stop s k).place) (committed_words c.words)) (omega arith) (omega arith) (commit-runs s.base (code s) c region has) (omega (arith, here, at.behind)) refl refl refl,
+          λ j lt. put-other c.registers j 5 1 (omega arith),
+        );
+    leave = at.leave;
+  }
+
+  pub commit-goes : (laid : Laid s) (x : Starting s) → node_at s.action x.k ≡ Simple Commit → LabelsStand s.items → stop_of x.k < s.labels → NodeStands s.items s.places.given s.places.out s.exits x.k (Simple Commit) → StartGoesOn s x
+  commit-goes laid x e labels within stands =
+      commits-go laid x (commit-code laid x.k (piece-stands s x.k (map Plain commit) laid labels within (Simple Commit) refl stands)) e

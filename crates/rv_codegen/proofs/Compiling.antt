@@ -1,21 +1,21 @@
 -- The code of an action whose nodes are built has all that is asked of it, with the places of a layout for data: no node has bindings, and none is called.
-use Rattle.std.proofs.Common.{◌≡◌, ℕ, suc, ◌+◌, ◌*◌, ◌<◌, ◌≤◌, ℤ, true, false, List, [], ◌++◌, length, replicate, get_or, Option, Some, None, refl, sym, ap, ◌∙◌, subst, arith, inl, inr}
+use Rattle.std.proofs.Common.{◌≡◌, ℕ, suc, ◌+◌, ◌*◌, ◌^◌, ◌<◌, ◌≤◌, ℤ, true, false, List, [], ◌++◌, length, replicate, get_or, Option, Some, None, refl, sym, ap, ◌∙◌, subst, arith, inl, inr}
 use Rattle.std.specs.Prelude.{All, slice_get}
 use Rattle.std.proofs.lemmas.List.{length-replicate}
 use Rattle.std.proofs.lemmas.Option.{slice_get-get_or, slice_get_within}
 use Rattle.rv_asm.specs.Arrivals.{LabelsStand}
-use Rattle.rv_asm.specs.Assembly.{address_of, total, spot, code_of}
+use Rattle.rv_asm.specs.Assembly.{address_of, total, spot, far_jump, code_of}
 use Rattle.rv_asm.specs.Conventions.{region_address, region_size, region_words}
 use Rattle.rv_asm.specs.Pieces.{exit_with}
 use Rattle.rv_asm.specs.WordMachine.{Has}
 use Rattle.rv_asm.specs.declared.item.Item.{Item}
 use Rattle.rv_asm.proofs.Labels.{length-code}
 use Rattle.rv_asm.proofs.Regions.{compiled-below}
-use Rattle.action_terms.specs.Actions.{Complete, Join, Chain, AndThen, Then, Hence, Before, Node, Simple, Both, Phases, Stray, Action, node_at, node_or_stray}
+use Rattle.action_terms.specs.Actions.{Complete, Join, Chain, AndThen, Then, Hence, Before, Node, Simple, Both, Phases, Either, Trapping, Stray, Action, node_at, node_or_stray}
 use Rattle.action_terms.specs.Information.{NoBinds, World}
 use Rattle.action_terms.specs.Literals.{NumbersFit}
 use Rattle.action_terms.specs.Need.{node_yielder_count}
-use Rattle.rv_codegen.specs.Blocks.{first_label, start_of, exits_of, framed_items, opening, goes, body}
+use Rattle.rv_codegen.specs.Blocks.{completed_label, failed_label, escaped_label, first_label, start_of, exits_of, framed_items, opening, goes, body}
 use Rattle.sort_rules.specs.Admissible.{IsAdmissible}
 use Rattle.sort_rules.specs.Measures.{sizes, width}
 use Rattle.sort_rules.specs.Procedures.{procedure_of}
@@ -34,19 +34,24 @@ use Rattle.rv_codegen.proofs.AliasSettings.{alias-placed, both-stays, data_place
 use Rattle.rv_codegen.proofs.Around.{InOrder, Shares}
 use Rattle.rv_codegen.proofs.Ending.{none-long}
 use Rattle.rv_codegen.proofs.ExitLaws.{HasTree, PartExits, both-exits, phases-exits, root-exit}
+use Rattle.rv_codegen.proofs.Failing.{LaidRecords}
 use Rattle.rv_codegen.proofs.Holding.{Apart}
 use Rattle.rv_codegen.proofs.LayoutWords.{in-fits, layout-words, words-reached, words-within}
-use Rattle.rv_codegen.proofs.NodeParts.{IsNode, IsPartOf, part-node}
+use Rattle.rv_codegen.proofs.NodeParts.{IsNode, IsPartOf, KeepsRecord, part-node}
 use Rattle.rv_codegen.proofs.PuttingPlaces.{put-by_number}
-use Rattle.rv_codegen.proofs.RestPoints.{DataLaid, PhasePlaces, LaidPhases, LaidBoth}
+use Rattle.rv_codegen.proofs.RestPoints.{Laid, DataLaid, PhasePlaces, LaidPhases, LaidBoth}
 use Rattle.rv_codegen.proofs.Settings.{Way, Bodies, Setting, code, point, front, start, frame_words}
+use Rattle.rv_codegen.proofs.SendEntry.{send_code}
 use Rattle.rv_codegen.proofs.Standing.{Stood, NodeStands, opens, action-stands}
 use Rattle.rv_codegen.proofs.Suited.{runs-in_shape}
 use Rattle.rv_codegen.proofs.SuitedEnds.{tree-completes}
 use Rattle.rv_codegen.proofs.SuitedPlaces.{out-length, out-width, suits}
 use Rattle.rv_codegen.proofs.Turns.{Compiled}
 use Rattle.rv_codegen.proofs.Unbound.{joins-none, chains-none}
-use Rattle.rv_codegen.proofs.Walk.{Cursor, way-stands}
+use Rattle.rv_prelude.specs.Items.{entries_from}
+use Rattle.rv_prelude.proofs.Cursors.{Cursor}
+use Rattle.rv_prelude.proofs.Entered.{Entry as EntryAt, fails, fails-out, escapes-out}
+use Rattle.rv_codegen.proofs.Walk.{way-stands}
 
 -- an action whose nodes have code and make a tree
 pub record IsCompilable (a : Action) : Type 0 where
@@ -98,8 +103,6 @@ setting x fs items ample input =
       bodies = no_bodies;
       base = region_address (4 * length (code_of items));
       count = region_words x.stack x.units;
-      Opens = ⊥;
-      Takes = ⊥;
     }
 
 -- what is asked of numbers
@@ -111,9 +114,9 @@ pub record IsSized (x : Subject) (items : List Item) : Type 0 where
   pub few_words : x.stack ≤ 16777216
   pub few_units : x.units ≤ 4194304
 
-module _ (x : Subject) (fs : List Frame) (ok : IsCompilable x.action) (framed : HasFrames x fs) (labels : LabelsStand (framed_items x.action fs)) (sized : IsSized x (framed_items x.action fs)) (input : List ℤ) where
+module _ (x : Subject) (fs : List Frame) (ok : IsCompilable x.action) (framed : HasFrames x fs) (labels : LabelsStand (framed_items x.action fs x.stack x.units)) (sized : IsSized x (framed_items x.action fs x.stack x.units)) (input : List ℤ) where
   abbrev s : Setting
-  s = setting x fs (framed_items x.action fs) sized.ample input
+  s = setting x fs (framed_items x.action fs x.stack x.units) sized.ample input
 
   abbrev ns : List PlacedNode
   ns = put_frames fs (replicate (length x.action) nowhere)
@@ -127,8 +130,8 @@ module _ (x : Subject) (fs : List Frame) (ok : IsCompilable x.action) (framed : 
   own : HasOwnWords x.action p (words_at fs)
   own = layout-words x.action ok.trees x.table fs framed.layout framed.apart ns by_number
 
-  pub stood : Stood (framed_items x.action fs) s.places.given s.places.out x.action
-  stood = action-stands s.places.given s.places.out x.action (framed_items x.action fs) refl labels
+  pub stood : Stood (framed_items x.action fs x.stack x.units) s.places.given s.places.out x.stack x.units x.action
+  stood = action-stands s.places.given s.places.out x.stack x.units x.action (framed_items x.action fs x.stack x.units) refl labels
 
   here : (k : ℕ) → IsNode (node_at x.action k) → slice_get x.action k ≡ Some (node_at x.action k)
   here k h = there (slice_get x.action k) h
@@ -242,37 +245,74 @@ module _ (x : Subject) (fs : List Frame) (ok : IsCompilable x.action) (framed : 
   main-within : frame_words s 0 ≤ s.sizes.main_slots
   main-within = words-within x.action ok.trees x.table fs framed.layout framed.apart ns by_number 0 ok.some
 
-  pub compiled : Compiled s
-  compiled = record {
-    laid = record {
-      placed = alias-placed s ok.trees p (words_at fs) own (λ n c h. absurd h);
-      data_laid = data-laid;
-      part_node = part-there;
-      same_frame = λ n k part. same-frame s ok.trees p (words_at fs) own n k part;
-      main_within = main-within;
-      body_within = λ n c h. absurd h;
-      phases = phases-laid;
-      both = both-laid;
-      small = omega (arith, sized.small);
-      paid = sized.paid;
-      aligned = omega arith;
-      below = omega (arith, base-below);
-      some = omega (arith, sized.some_words);
-      units_inside = omega arith;
-    };
-    labels = labels;
-    each = each;
-    built = λ k h. ok.built k (node_at x.action k) (here k h);
-    numbers = ok.numbers;
-    few = ok.few;
-    within = λ k h. omega (arith, within k h);
-    closed = λ h. h;
-    uncalled = λ n c h. h;
-    completed = subst (λ i. Has (code s) (address_of (spot s.items i)) (exit_with 0)) (sym (root-exit x.action ok.tree ok.some)) stood.completed;
-    failed = stood.failed;
-    escaped = stood.escaped;
-    send = stood.send;
+  whole-laid : Laid s
+  whole-laid = record {
+    placed = alias-placed s ok.trees p (words_at fs) own (λ n c h. absurd h);
+    data_laid = data-laid;
+    part_node = part-there;
+    same_frame = λ n k part. same-frame s ok.trees p (words_at fs) own n k part;
+    main_within = main-within;
+    body_within = λ n c h. absurd h;
+    phases = phases-laid;
+    both = both-laid;
+    small = omega (arith, sized.small);
+    paid = sized.paid;
+    aligned = omega arith;
+    below = omega (arith, base-below);
+    some = omega (arith, sized.some_words);
+    units_inside = omega arith;
   }
+
+  -- where labels stand
+  ending-at : (l exit : ℕ) → EntryAt s.items l 3 (λ n. exit_with exit) → Has (code s) (address_of (spot s.items l)) (exit_with exit)
+  ending-at l exit e = subst (λ n. Has (code s) (address_of n) (exit_with exit)) (sym e.is) e.stands
+
+  -- no node that is built keeps a record
+  no-record : (n : ℕ) → KeepsRecord (node_at x.action n) → ⊥
+  no-record n keeps = by (node_at x.action n) refl keeps
+    where
+      by : (m : Node) → node_at x.action n ≡ m → KeepsRecord m → ⊥
+      by (Either l r) e h = let b : false ≡ true = ok.built n (Either l r) (node-there n (Either l r) e tt) in cc
+      by (Trapping l r) e h = let b : false ≡ true = ok.built n (Trapping l r) (node-there n (Trapping l r) e tt) in cc
+      by _ e h = absurd h
+
+  records : LaidRecords s
+  records =
+      let e = entries_from 0 in
+      let there = stood.entered in
+      record {
+        laid = whole-laid;
+        arms = λ n l r is. absurd (no-record n (subst KeepsRecord (sym is) tt));
+        keep_below = λ n keeps. absurd (no-record n keeps);
+        keeps = λ n o keeps. absurd (no-record n keeps);
+        fails = fails s.items e x.stack x.units there whole-laid.small;
+        fails_out = fails-out s.items e x.stack x.units there whole-laid.small;
+        failed_exits = ending-at failed_label 1 there.failed;
+      }
+
+  pub compiled : Compiled s
+  compiled =
+      let e = entries_from 0 in
+      let there = stood.entered in
+      record {
+        records = records;
+        labels = labels;
+        each = each;
+        built = λ k h. ok.built k (node_at x.action k) (here k h);
+        numbers = ok.numbers;
+        few = ok.few;
+        within = λ k h. omega (arith, within k h);
+        uncalled = λ n c h. h;
+        completed = subst (λ i. Has (code s) (address_of (spot s.items i)) (far_jump (spot s.items i) (spot s.items completed_label))) (sym (root-exit x.action ok.tree ok.some)) stood.completed;
+        completed_exits = ending-at completed_label 0 there.completed;
+        escapes_out = escapes-out s.items e x.stack x.units there whole-laid.small;
+        escaped_exits = ending-at escaped_label 2 there.escaped;
+        send = subst (λ n. Has (code s) (address_of n) send_code) (sym there.send.is) there.send.stands;
+      }
+
+  -- the region lies below
+  pub base-low : s.base + 8 * s.count ≤ 2 ^ 32
+  base-low = omega (arith, base-below)
 
   -- the root is a node
   pub root-there : IsNode (node_at x.action 0)

@@ -1,5 +1,5 @@
 -- A node that completes where its last part did: its frame's own step needs no instruction.
-use Rattle.std.proofs.Common.{◌≡◌, ℕ, ◌+◌, List, ◌∷◌, ◌++◌, length, refl, sym, ap, ◌∙◌, subst, arith, inl, inr, length-append}
+use Rattle.std.proofs.Common.{◌≡◌, ℕ, List, ◌∷◌, ◌++◌, length, refl, sym, ap, ◌∙◌, subst, arith, inl, inr, length-append}
 use Rattle.rv_asm.specs.Assembly.{address_of}
 use Rattle.rv_asm.specs.DataWords.{Heap}
 use Rattle.rv_asm.proofs.Moments.{quiet-advance}

@@ -1,5 +1,5 @@
 -- The code of data, item after item and word after word.
-use Rattle.std.proofs.Common.{◌≡◌, ℕ, ◌+◌, ◌-◌, ◌<◌, ◌≤◌, List, [], ◌∷◌, ◌++◌, length, get_or, take, drop, map, refl, sym, ap, ap₂, ◌∙◌, arith, append-nil, append_assoc}
+use Rattle.std.proofs.Common.{◌≡◌, ℕ, ◌+◌, ◌<◌, ◌≤◌, List, [], ◌∷◌, ◌++◌, length, get_or, take, drop, map, refl, sym, ap, ap₂, ◌∙◌, append-nil, append_assoc}
 use Rattle.std.proofs.lemmas.List.{drop_all, drop_more, map-append}
 use Rattle.rv_asm.specs.Assembly.{Listing}
 use Rattle.rv_asm.specs.Pieces.{appended}

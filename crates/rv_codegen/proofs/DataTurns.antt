@@ -1,5 +1,5 @@
 -- Nodes that give data, with the places that a layout has for them: the turns of `give` and `regive`.
-use Rattle.std.proofs.Common.{◌≡◌, ℕ, ◌+◌, ◌<◌, ◌≤◌, List, [], length, map, refl, ap, ◌∙◌, subst, arith}
+use Rattle.std.proofs.Common.{◌≡◌, ℕ, ◌+◌, ◌<◌, List, [], length, map, refl, ap, ◌∙◌, subst, arith}
 use Rattle.rv_asm.specs.Arrivals.{LabelsStand}
 use Rattle.rv_asm.specs.Assembly.{address_of, spot, total}
 use Rattle.rv_asm.specs.WordMachine.{Has}
@@ -41,7 +41,7 @@ module _ (s : Setting) (laid : Laid s) (x : Starting s) where
     within = near s laid (stop_of x.k);
     rank = omega (arith, labels);
     leave = at.leave;
-    before_failure = at.before_failure;
+    behind_failure = at.behind_failure;
   }
 
   pub gives-goes : (is : List Item) → node_at s.action x.k ≡ Simple (Give is) → AreBuilt is → closures_in_items is ≡ [] → LabelsStand s.items → stop_of x.k < s.labels → NodeStands s.items s.places.given s.places.out s.exits x.k (Simple (Give is)) → StartGoesOn s x

@@ -1,5 +1,5 @@
 -- What the functions that append code leave, put together from what each of them ensures.
-use Rattle.std.proofs.Common.{◌≡◌, ◌≢◌, ℕ, ◌<◌, ◌+◌, ◌≤◌, List, [], ◌∷◌, ◌++◌, length, false, OnOk, Result, Ok, Err, map, refl, sym, ap, ◌∙◌, subst, arith, inl, inr, append_assoc}
+use Rattle.std.proofs.Common.{◌≡◌, ◌≢◌, ℕ, ◌+◌, ◌≤◌, List, [], ◌∷◌, ◌++◌, length, false, OnOk, Result, Ok, Err, map, refl, sym, ap, ◌∙◌, subst, arith, inl, inr, append_assoc}
 use Rattle.std.proofs.lemmas.List.{map-append}
 use Rattle.rv_asm.specs.Assembly.{Listing, is_placed, total}
 use Rattle.rv_asm.specs.Pieces.{appended}
@@ -8,7 +8,7 @@ use Rattle.rv_asm.specs.declared.item.Item.{Item}
 use Rattle.rv_asm.specs.declared.item.Item.TheVariants.{Plain, Mark, Jump, Address}
 use Rattle.rv_asm.proofs.Labels.{total-append}
 use Rattle.rv_yield.proofs.ItemLaws.{IsShort, placed-unmarked}
-use Rattle.rv_codegen.specs.Blocks.{first_label, joint_of, front_of, start_of, stop_of, opening, prelude, entries, address_items}
+use Rattle.rv_codegen.specs.Blocks.{end_label, joint_of, front_of, start_of, stop_of, opening, ending, address_items}
 use Rattle.rv_codegen.specs.Marks.{extended, AreFresh, PlacesStop}
 use Rattle.rv_codegen.proofs.Fresh.{fresh-mark, fresh-plain, fresh-jump, fresh-opening, total-jump, total-plain}
 use Rattle.rv_codegen.proofs.FrameAddresses.{length-address}
@@ -50,12 +50,11 @@ stop-fresh s s1 k fresh e = subst (λ z. is_placed z.items (stop_of k) ≡ false
 pub total-opened : (s s1 : Listing) (k : ℕ) → s1 ≡ record s { items = s.items ++ opening k } → total s1.items ≡ total s.items
 total-opened s s1 k e = ap (λ z. total z.items) e ∙ total-append s.items (opening k) ∙ omega arith
 
--- 9 instructions come first, and 16 are those of the entries
-pub total-whole : (s0 s1 s2 s3 : Listing) (n more : ℕ) → s1 ≡ record s0 { items = prelude } → total s2.items ≤ total s1.items + more → s3 ≡ record s2 { items = s2.items ++ entries n } → total s3.items ≤ 25 + more
-total-whole s0 s1 s2 s3 n more first nodes last =
-    let a : total s1.items ≡ 9 = ap (λ z. total z.items) first in
-    let b : total s3.items ≡ total s2.items + 16 = ap (λ z. total z.items) last ∙ total-append s2.items (entries n) in
-    omega (arith, a, b, nodes)
+-- the ending is a jump
+pub total-ended : (s1 s2 s3 : Listing) (n more : ℕ) → total s2.items ≤ total s1.items + more → s3 ≡ record s2 { items = s2.items ++ ending n } → total s3.items ≤ total s1.items + 2 + more
+total-ended s1 s2 s3 n more nodes last =
+    let b : total s3.items ≡ total s2.items + 2 = ap (λ z. total z.items) last ∙ total-append s2.items (ending n) in
+    omega (arith, b, nodes)
 
 -- ---- labels that are still to be placed, and lengths, as pieces are appended
 
@@ -66,8 +65,8 @@ module _ (s s1 : Listing) where
   pub mark-keeps : (m l : ℕ) → s1 ≡ marked s m → m ≢ l → is_placed s.items l ≡ false → is_placed s1.items l ≡ false
   mark-keeps m l e ne h = subst (λ z. is_placed z.items l ≡ false) (sym e) (fresh-mark s.items m l ne h)
 
-  pub opening-keeps : (k l : ℕ) → AreFresh k s.items → s1 ≡ record s { items = s.items ++ opening k } → l < first_label → is_placed s1.items l ≡ false
-  opening-keeps k l fresh e lt = subst (λ z. is_placed z.items l ≡ false) (sym e) (fresh-opening s.items k l fresh (inl lt))
+  pub opening-keeps : (k l : ℕ) → AreFresh k s.items → s1 ≡ record s { items = s.items ++ opening k } → l ≡ end_label → is_placed s1.items l ≡ false
+  opening-keeps k l fresh e is = subst (λ z. is_placed z.items l ≡ false) (sym e) (fresh-opening s.items k l fresh (inl is))
 
 -- an address, a jump and a mark
 pub call-short : (s s1 s2 s3 : Listing) (l m : ℕ) → s1 ≡ record s { items = s.items ++ Address 1 l ∷ [] } → s2 ≡ record s1 { items = s1.items ++ Jump m ∷ [] } → s3 ≡ marked s2 l → total s3.items ≡ total s.items + 4
@@ -128,3 +127,8 @@ piece-unplaced s s1 piece limit m short first h = ap (λ z. is_placed z.items m)
 -- the address of a word and a jump
 pub address-short : (s s1 s2 : Listing) (o m : ℕ) → s1 ≡ appended s (address_items o) → s2 ≡ record s1 { items = s1.items ++ Jump m ∷ [] } → total s2.items ≤ total s.items + 11
 address-short s s1 s2 o m first second = omega (arith, jumping-short s s1 s2 (address_items o) m first second, length-address o)
+
+-- the code behind a piece and a mark
+pub whole-code : (p : List Item) (s s1 s2 : Listing) (l : ℕ) (a b : List Item) → s.items ≡ p ++ (Mark l ∷ []) → s1.items ≡ s.items → s2 ≡ extended s1 a → a ≡ b → s2.items ≡ p ++ (Mark l ∷ b)
+whole-code p s s1 s2 l a b e0 e1 e2 same =
+    ap (λ z. z.items) e2 ∙ ap (λ xs. xs ++ a) (e1 ∙ e0) ∙ append_assoc p (Mark l ∷ []) a ∙ ap (λ x. p ++ (Mark l ∷ x)) same

@@ -1,4 +1,4 @@
--- Nodes whose code is a way at most: `complete`, `commit` and `fail`.
+-- Nodes whose code is a way at most: `complete` and `fail`.
 use Rattle.std.proofs.Common.{◌≡◌, ℕ, suc, ◌<◌, List, [], ◌∷◌, ◌++◌, length, None, Some, get_or, refl, sym, ap, ap₂, ◌∙◌, subst, arith, inr}
 use Rattle.rv_asm.specs.Arrivals.{LabelsStand}
 use Rattle.rv_asm.specs.Assembly.{address_of, far_jump, spot}
@@ -7,13 +7,13 @@ use Rattle.rv_asm.specs.WordMachine.{Has}
 use Rattle.rv_asm.specs.declared.item.Item.{Item}
 use Rattle.rv_asm.proofs.Stretches.{quiet-between}
 use Rattle.action_terms.specs.Information.{NoBinds}
-use Rattle.action_terms.specs.Actions.{Primitive, Complete, Failing, Commit, Simple, node_at}
+use Rattle.action_terms.specs.Actions.{Primitive, Complete, Failing, Simple, node_at}
 use Rattle.action_terms.specs.Acting.{Run}
 use Rattle.action_terms.specs.Performances.{OneOf, Here, messages_bytes}
-use Rattle.action_terms.specs.Steps.{Step, Commits, silent, with_effect, commits, world_after, done, failed, making, closures_of, performed, open_steps}
+use Rattle.action_terms.specs.Steps.{Step, silent, commits, world_after, done, failed, making, closures_of, performed, open_steps}
 use Rattle.action_terms.specs.Frames.{plugged}
 use Rattle.rv_codegen.specs.Blocks.{fail_label, front_of, start_of, opening, leaves, body}
-use Rattle.rv_codegen.proofs.Around.{committed, BindsLeft}
+use Rattle.rv_codegen.proofs.Around.{BindsLeft}
 use Rattle.rv_codegen.proofs.Holding.{Holds, HoldsBinds, grows-same}
 use Rattle.rv_codegen.proofs.InputLeft.{Left, left-same}
 use Rattle.rv_codegen.proofs.Performing.{chains_after, Did, step-done, step-failed}
@@ -21,7 +21,8 @@ use Rattle.rv_codegen.proofs.RestPoints.{Laid, Region, Starting, StartGoesOn, ne
 use Rattle.rv_codegen.proofs.Settings.{Way, way-runs, Setting, code, point, start, exit, failure}
 use Rattle.rv_codegen.proofs.Standing.{NodeStands, opens}
 use Rattle.rv_codegen.proofs.Units.{Units, units-more}
-use Rattle.rv_codegen.proofs.Walk.{Cursor, way-stands, jump-stands}
+use Rattle.rv_prelude.proofs.Cursors.{Cursor, jump-stands}
+use Rattle.rv_codegen.proofs.Walk.{way-stands}
 
 -- no words are listed where there are none
 pub none-long : (os : List ℕ) → 0 ≡ length os → os ≡ []
@@ -85,12 +86,6 @@ module _ (s : Setting) where
 
     pub complete-goes : node_at s.action x.k ≡ Simple Complete → LabelsStand s.items → start_of x.k < s.labels → NodeStands s.items s.places.given s.places.out s.exits x.k (Simple Complete) → StartGoesOn s x
     complete-goes e labels within stands = ends-goes Complete (silent done) e refl refl refl refl refl x.runs.here.region labels within stands refl
-
-    -- no alternative is open, so nothing has to be closed
-    pub commit-goes : (s.Opens → ⊥) → node_at s.action x.k ≡ Simple Commit → LabelsStand s.items → start_of x.k < s.labels → NodeStands s.items s.places.given s.places.out s.exits x.k (Simple Commit) → StartGoesOn s x
-    commit-goes closed e labels within stands =
-        let region : Region s x.runs.here.words (committed x.runs.here.chains) = record { size = x.runs.here.region.size; alternative = λ o. absurd (closed o); trap = λ o. absurd (closed o); mark = λ o. absurd (closed o) } in
-        ends-goes Commit (with_effect Commits done) e refl refl refl refl refl region labels within stands refl
 
     pub fail-goes : node_at s.action x.k ≡ Simple Failing → NodeStands s.items s.places.given s.places.out s.exits x.k (Simple Failing) → StartGoesOn s x
     fail-goes e stands =

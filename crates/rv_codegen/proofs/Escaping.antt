@@ -1,6 +1,5 @@
 -- Nodes that escape: the address of the data goes to register 10, and the code to the entry for escapes.
 use Rattle.std.proofs.Common.{◌≡◌, ℕ, zero, suc, ◌+◌, ◌*◌, ◌^◌, ◌<◌, List, [], ◌∷◌, ◌++◌, length, get_or, map, refl, sym, ◌∙◌, subst, arith, inl, append_assoc}
-use Rattle.rv_code.specs.declared.instruction.Inst.{Inst}
 use Rattle.rv_asm.specs.Assembly.{address_of, far_jump, spot}
 use Rattle.rv_asm.specs.DataWords.{Heap, StandsFor}
 use Rattle.rv_asm.specs.WordMachine.{Has}
@@ -12,18 +11,18 @@ use Rattle.action_terms.specs.Acting.{Esc, Ended}
 use Rattle.action_terms.specs.Frames.{plugged}
 use Rattle.action_terms.specs.Performances.{OneOf, Here}
 use Rattle.action_terms.specs.Steps.{silent}
-use Rattle.rv_codegen.specs.Blocks.{address_items, escape_label, start_of, opening, escapes}
+use Rattle.rv_codegen.specs.Blocks.{address_items, escape_label, start_of, opening}
 use Rattle.rv_codegen.proofs.FrameAddresses.{HasAddress, address-comes}
 use Rattle.rv_codegen.proofs.GivenItems.{holds-length}
 use Rattle.rv_codegen.proofs.Holding.{Holds, grows-same, in_row}
 use Rattle.rv_codegen.proofs.InputLeft.{left-same}
-use Rattle.rv_codegen.proofs.Jumps.{jumped, jump-runs}
+use Rattle.rv_prelude.proofs.Jumps.{jumped, jump-runs}
 use Rattle.rv_codegen.proofs.Performing.{Did, step-escaped}
 use Rattle.rv_codegen.proofs.RestPoints.{Laid, Starting, StartGoesOn, near, open-run}
-use Rattle.rv_codegen.proofs.Settings.{Setting, code, start, escape, frame_words}
+use Rattle.rv_codegen.proofs.Settings.{Setting, code, start, escape}
 use Rattle.rv_codegen.proofs.Standing.{NodeStands}
 use Rattle.rv_codegen.proofs.Units.{units-more}
-use Rattle.rv_codegen.proofs.Walk.{Cursor, plain-stands, over-plain, jump-stands, cursor-within}
+use Rattle.rv_prelude.proofs.Cursors.{Cursor, plain-stands, over-plain, jump-stands, cursor-within}
 
 -- words in a row from one on are, from that word on, the first ones
 in-row : (base : ℕ) (heap : Heap) (words : List ℕ) (f o i n : ℕ) (d : Data) → Holds base heap words f (in_row (o + i) n) d → Holds base heap words (f + o) (in_row i n) d

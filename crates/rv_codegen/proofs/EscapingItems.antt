@@ -66,7 +66,7 @@ module _ (s : Setting) (laid : Laid s) (x : Starting s) (is : List Item) (e : no
   sizes : total whole_items ≡ total data_items + length (point_items os)
   sizes = total-append data_items (map Plain (point_items os)) ∙ ap (λ n. total data_items + n) (total-plain (point_items os))
 
-  module _ (none : closures_in_items is ≡ []) (places : EscapesPlaces s laid x os) (behind : EscapesBehind s laid x (total whole_items)) (before_failure : (start s x.k).place < (failure s).place)
+  module _ (none : closures_in_items is ≡ []) (places : EscapesPlaces s laid x os) (behind : EscapesBehind s laid x (total whole_items)) (behind_failure : (failure s).place < (start s x.k).place)
       (stands : Has (code s) (address_of (start s x.k).place) (code_from (spot s.items) (start s x.k).place whole_items))
     where
       -- the row is whole, and the code goes on to the entry
@@ -93,7 +93,7 @@ module _ (s : Setting) (laid : Laid s) (x : Starting s) (is : List Item) (e : no
       gave-escapes None is_o w =
           step-failed s laid x (silent failed) (open-escaped none None is_o) refl
           (written-there s laid x limit os places.own (address_of (failure s).place) w failed (failure s) refl
-          (moves-on s.base (code s) w.count x.state w.end (start s x.k).place (failure s).place w.runs x.runs.at w.at before_failure) (omega (arith, escapes-paid places)))
+          (moves-on s.base (code s) w.count x.state w.end (start s x.k).place (failure s).place w.runs x.runs.at w.at behind_failure) (omega (arith, escapes-paid places)))
 
       -- the node escapes with its data, or it fails
       pub escape-with-goes : SuitsAt s.action s.places.out escaped x.k x.d x.b x.world → AreBuilt is → StartGoesOn s x

@@ -17,9 +17,9 @@ use Rattle.action_terms.specs.Steps.{Step, silent, failed}
 use Rattle.action_terms.proofs.Parts.{Reaches, EachPasses, reaches-quiet, reaches-rise}
 use Rattle.rv_prelude.specs.EntryRuns.{FailsToRecord, FailsOut}
 use Rattle.rv_prelude.specs.PieceRuns.{HasRegion}
-use Rattle.rv_prelude.specs.Region.{Chains as KeptChains, HasRecord, with_chains}
-use Rattle.rv_codegen.specs.Blocks.{fail_label, front_of, start_of}
-use Rattle.rv_codegen.proofs.Around.{Chains, OrFrame, TailFrame, Around}
+use Rattle.rv_prelude.specs.Region.{Chains, HasRecord, with_chains}
+use Rattle.rv_codegen.specs.Blocks.{failed_label, fail_label, front_of, start_of}
+use Rattle.rv_codegen.proofs.Around.{OrFrame, TailFrame, Around}
 use Rattle.rv_codegen.proofs.AroundKept.{Agrees, around-kept, frames-high}
 use Rattle.rv_codegen.proofs.Configurations.{Configuration, depth, performances, pending}
 use Rattle.rv_codegen.proofs.Holding.{Holds, HoldsBinds, grows-same, holds-kept, holds-kept_binds}
@@ -28,10 +28,6 @@ use Rattle.rv_codegen.proofs.NodeParts.{IsPartOf, IsTailOf, KeepsRecord, tail-pa
 use Rattle.rv_codegen.proofs.RestPoints.{Laid, Region, IsAt, FailsAt, GoesOn, near}
 use Rattle.rv_codegen.proofs.Settings.{Way, way-runs, Setting, code, point, front, start, exit, frame_words}
 use Rattle.rv_codegen.proofs.Units.{units-kept}
-
--- the chains as records keep them
-abbrev pub as_kept : Chains → KeptChains
-as_kept c = record { alternative = c.alternative; trap = c.trap; mark = c.mark }
 
 pending-append : (xs ys : List Frame) → pending ys ≤ pending (xs ++ ys)
 pending-append [] ys = omega arith
@@ -58,13 +54,11 @@ module _ (s : Setting) where
 
   pub record LaidRecords : Type 0 where
     pub laid : Laid s
-    pub opens : s.Opens
     pub arms : (n l r : ℕ) → node_at s.action n ≡ Either l r → LaidArms n l r
     -- a record stands in its frame, and its words are the node's own
     pub keep_below : (n : ℕ) → KeepsRecord (node_at s.action n) → s.places.keep n + 8 ≤ frame_words s n
     pub keeps : (n x : ℕ) → KeepsRecord (node_at s.action n) → s.places.keep n ≤ x → x < s.places.keep n + 8 → s.places.Writes n x
     -- the entry for failures, and the end for them
-    pub failed_label : ℕ
     pub fails : FailsToRecord fail_label s.items
     pub fails_out : FailsOut fail_label failed_label s.items
     pub failed_exits : Has (code s) (address_of (point s failed_label).place) (exit_with 1)
@@ -130,7 +124,7 @@ module _ (s : Setting) where
     region = record { aligned = laid.aligned; below = omega (arith, laid.below, size); front = omega (arith, laid.some, size); region = x.here.stands.region }
 
     head-is : get_or state.words 1 0 ≡ x.here.chains.alternative
-    head-is = ap (λ ws. get_or ws 1 0) x.here.stands.words_are ∙ x.here.region.alternative all.opens
+    head-is = ap (λ ws. get_or ws 1 0) x.here.stands.words_are ∙ x.here.region.alternative
 
     -- no alternative is open
     fails-out : x.here.chains.alternative ≡ 0 → EachPasses Fail fs → GoesOn s rank state now
@@ -165,7 +159,7 @@ module _ (s : Setting) where
       arm = (front s o.k2).place
 
       abbrev words' : List ℕ
-      words' = with_chains (as_kept o.before) x.here.words
+      words' = with_chains o.before x.here.words
 
       keeps : KeepsRecord (node_at s.action o.n)
       keeps = subst KeepsRecord (sym o.here.node) tt
@@ -176,7 +170,7 @@ module _ (s : Setting) where
       inside : o.f + keep + 8 ≤ s.count
       inside = omega (arith, o.below, all.keep_below o.n keeps, x.here.clear, laid.units_inside)
 
-      kept-record : HasRecord s.base (o.f + keep) o.f (as_kept o.before) arm state.words
+      kept-record : HasRecord s.base (o.f + keep) o.f o.before arm state.words
       kept-record =
           let wa = x.here.stands.words_are in
           let word = λ (i : ℕ). ap (λ ws. get_or ws i 0) wa in
@@ -217,16 +211,16 @@ module _ (s : Setting) where
           let many = x.here.region.size in
           record {
             size = s3 ∙ s2 ∙ s1 ∙ many;
-            alternative = λ opening. get_or-set_other w2 3 1 o.before.mark 0 (λ q. omega arith) ∙ get_or-set_other w1 2 1 o.before.trap 0 (λ q. omega arith) ∙ get_or-set_same ws 1 o.before.alternative 0 (omega (arith, many, laid.some));
-            trap = λ opening. get_or-set_other w2 3 2 o.before.mark 0 (λ q. omega arith) ∙ get_or-set_same w1 2 o.before.trap 0 (omega (arith, s1, many, laid.some));
-            mark = λ opening. get_or-set_same w2 3 o.before.mark 0 (omega (arith, s1, s2, many, laid.some));
+            alternative = get_or-set_other w2 3 1 o.before.mark 0 (λ q. omega arith) ∙ get_or-set_other w1 2 1 o.before.trap 0 (λ q. omega arith) ∙ get_or-set_same ws 1 o.before.alternative 0 (omega (arith, many, laid.some));
+            trap = get_or-set_other w2 3 2 o.before.mark 0 (λ q. omega arith) ∙ get_or-set_same w1 2 o.before.trap 0 (omega (arith, s1, many, laid.some));
+            mark = get_or-set_same w2 3 o.before.mark 0 (omega (arith, s1, s2, many, laid.some));
           }
 
       retries : GoesOn s rank state now
       retries =
           let h = x.here in
           let arms = all.arms o.n o.k o.k2 o.here.node in
-          let r = all.fails s.base (o.f + keep) o.f arm (as_kept o.before) state (record { here = x.at; region = region }) kept-record (head-is ∙ sym o.head ∙ o.here.at) in
+          let r = all.fails s.base (o.f + keep) o.f arm o.before state (record { here = x.at; region = region }) kept-record (head-is ∙ sym o.head ∙ o.here.at) in
           let e = r.0.end in
           let g = way-runs s.base (code s) e (front s o.k2) (start s o.k2) (near s laid (front_of o.k2)) (near s laid (start_of o.k2)) r.0.at arms.other in
           let part : IsPartOf (node_at s.action o.n) o.k2 = part-at s.action o.n o.k2 (Either o.k o.k2) o.here.node (inr refl) in
@@ -257,7 +251,7 @@ module _ (s : Setting) where
                   chains = o.before;
                   heap = h.heap;
                   words = words';
-                  stands = record { region = g.others 3 (omega arith) ∙ r.2 ∙ h.stands.region; frame_at = g.others 2 (omega arith) ∙ r.1; words_are = g.words ∙ r.0.words ∙ ap (with_chains (as_kept o.before)) h.stands.words_are };
+                  stands = record { region = g.others 3 (omega arith) ∙ r.2 ∙ h.stands.region; frame_at = g.others 2 (omega arith) ∙ r.1; words_are = g.words ∙ r.0.words ∙ ap (with_chains o.before) h.stands.words_are };
                   region = region';
                   clear = omega (arith, o.below, h.clear, laid.same_frame o.n o.k2 part);
                   units_are = units-kept s h.heap h.words words' steps (step ∷ risen.all) w.cells (λ j out. other j (⊎_elim (λ z. z.0) (λ z. omega arith) out)) (omega (arith, risen.spent s.sizes)) h.units_are;

@@ -1,5 +1,5 @@
 -- The address of a word of the frame, in register 10.
-use Rattle.std.proofs.Common.{◌≡◌, ◌≢◌, ⊎_elim, ℕ, ◌+◌, ◌*◌, ◌^◌, ◌<◌, ◌≤◌, Bool, true, false, List, [], ◌∷◌, ◌++◌, length, pos, refl, sym, ap, ◌∙◌, subst, arith, ltb, length-append}
+use Rattle.std.proofs.Common.{◌≡◌, ◌≢◌, ⊎_elim, ℕ, ◌+◌, ◌*◌, ◌^◌, ◌<◌, ◌≤◌, true, false, List, [], ◌∷◌, ◌++◌, length, pos, refl, ap, ◌∙◌, subst, arith, ltb, length-append}
 use Rattle.rv_code.proofs.Bools.{true-or-false}
 use Rattle.rv_code.specs.Arithmetic.{wrap}
 use Rattle.rv_code.specs.declared.instruction.Inst.{Inst}
@@ -8,7 +8,7 @@ use Rattle.rv_code.specs.declared.instruction.OpOp.TheVariants.{Add}
 use Rattle.rv_code.specs.declared.instruction.OpImmOp.TheVariants.{Addi}
 use Rattle.rv_asm.specs.Pieces.{load_constant}
 use Rattle.rv_asm.specs.WordMachine.{WordState, Goes, put, run_words, Has}
-use Rattle.rv_asm.proofs.Constants.{length-load_constant, length-load_constant_some, load_constant-runs}
+use Rattle.rv_asm.proofs.Constants.{length-load_constant, load_constant-runs}
 use Rattle.rv_asm.proofs.Places.{Has-front, Has-back}
 use Rattle.rv_asm.proofs.Registers.{put-other}
 use Rattle.rv_asm.proofs.Stretches.{then-runs}

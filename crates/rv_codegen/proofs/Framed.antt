@@ -1,10 +1,11 @@
 -- The code with the tables of places that are made for a layout.
-use Rattle.std.proofs.Common.{◌≡◌, ⊎_elim, ℕ, suc, ◌+◌, ◌<◌, ◌≤◌, All, List, [], ◌∷◌, ◌++◌, length, get_or, map, replicate, refl, sym, ap, ap₂, subst, ◌∙◌, arith}
+use Rattle.std.proofs.Common.{◌≡◌, ⊎_elim, ℕ, suc, ◌+◌, ◌<◌, ◌≤◌, All, List, [], ◌∷◌, ◌++◌, length, replicate, refl, sym, ap, subst, ◌∙◌, arith}
 use Rattle.std.specs.Borrow.{Bor}
 use Rattle.std.specs.Prelude.{slice_index}
 use Rattle.std.proofs.lemmas.Bool.{cases_lt}
 use Rattle.std.proofs.lemmas.List.{get_or_past, length-map, length-replicate}
 use Rattle.rv_asm.specs.declared.item.Item.{Item}
+use Rattle.rv_asm.specs.declared.item.Item.TheVariants.{Mark}
 use Rattle.action_terms.specs.Actions.{Action}
 use Rattle.sort_rules.specs.Measures.{width}
 use Rattle.sort_rules.specs.Tables.{MarkedTable}
@@ -12,8 +13,9 @@ use Rattle.frame_layout.specs.Layouts.{HasApartNodes, IsLayout}
 use Rattle.frame_layout.specs.Places.{Frame, PlacedNode}
 use Rattle.frame_layout.proofs.GraphParts.{HasTrees}
 use Rattle.frame_layout.proofs.Words.{all-members}
+use Rattle.rv_prelude.specs.Items.{entries_from, prelude_items}
 use Rattle.rv_codegen.specs.Aliases.{AreByNumber, given_of, list_at, lists_of, nowhere, out_of, place_at, places_in, put_frames, words_at}
-use Rattle.rv_codegen.specs.Blocks.{action_items, block, blocks_from, entries, exits_of, framed_items, prelude}
+use Rattle.rv_codegen.specs.Blocks.{action_items, block, blocks_from, ending, exits_of, framed_items, start_label}
 use Rattle.rv_codegen.specs.ItemCode.{AreReached}
 use Rattle.rv_codegen.proofs.AliasPlaces.{HasOwnWords, given-within, out-within}
 use Rattle.rv_codegen.proofs.LayoutWords.{layout-words, words-reached}
@@ -29,9 +31,9 @@ blocks-same g h o p (n ∷ a) k exits e f =
     ∙ ap (λ (x : List ℕ). block (h k) x k (slice_index exits k) n ++ blocks_from g o (suc k) exits a) (f k (omega arith))
     ∙ ap (λ (r : List Item). block (h k) (p k) k (slice_index exits k) n ++ r) rest
 
-pub framed-same : (a : Action) (fs : List Frame) (given out : ℕ → List ℕ) → ((j : ℕ) → j < length a → given j ≡ given_of (places_in a fs) a j) → ((j : ℕ) → j < length a → out j ≡ out_of (places_in a fs) a j) → action_items given out a ≡ framed_items a fs
-framed-same a fs given out e f =
-    ap (λ b. prelude ++ (b ++ entries (length a))) (blocks-same given (given_of (places_in a fs) a) out (out_of (places_in a fs) a) a 0 (exits_of a) (λ j lt. e j (omega (arith, lt))) (λ j lt. f j (omega (arith, lt))))
+pub framed-same : (a : Action) (fs : List Frame) (stack units : ℕ) (given out : ℕ → List ℕ) → ((j : ℕ) → j < length a → given j ≡ given_of (places_in a fs) a j) → ((j : ℕ) → j < length a → out j ≡ out_of (places_in a fs) a j) → action_items given out stack units a ≡ framed_items a fs stack units
+framed-same a fs stack units given out e f =
+    ap (λ b. prelude_items (entries_from 0) stack units ++ (Mark start_label ∷ (b ++ ending (length a)))) (blocks-same given (given_of (places_in a fs) a) out (out_of (places_in a fs) a) a 0 (exits_of a) (λ j lt. e j (omega (arith, lt))) (λ j lt. f j (omega (arith, lt))))
 
 -- ---- instructions reach the words of the tables
 

@@ -1,11 +1,11 @@
 -- Labels that are not placed yet, and how much code there is, as items are appended.
-use Rattle.std.proofs.Common.{◌≡◌, ◌≢◌, ◌⊎◌, ⊎_elim, ℕ, ◌+◌, ◌<◌, ◌≤◌, Bool, true, false, ◌||◌, List, [], ◌∷◌, ◌++◌, length, map, refl, arith, eqb, ne_eqb, inl, inr}
+use Rattle.std.proofs.Common.{◌≡◌, ◌≢◌, ◌⊎◌, ⊎_elim, ℕ, ◌+◌, ◌≤◌, Bool, true, false, ◌||◌, List, [], ◌∷◌, ◌++◌, length, map, refl, arith, eqb, ne_eqb, inl, inr}
 use Rattle.rv_code.specs.declared.instruction.Inst.{Inst}
 use Rattle.rv_asm.specs.Assembly.{is_placed, total}
 use Rattle.rv_asm.specs.declared.item.Item.{Item}
 use Rattle.rv_asm.specs.declared.item.Item.TheVariants.{Plain, Mark, Jump, BranchTo, Address}
 use Rattle.rv_asm.proofs.Labels.{total-append}
-use Rattle.rv_codegen.specs.Blocks.{first_label, joint_of, front_of, start_of, stop_of, opening}
+use Rattle.rv_codegen.specs.Blocks.{end_label, joint_of, front_of, start_of, stop_of, opening}
 use Rattle.rv_codegen.specs.Marks.{AreFresh, PlacesStop}
 
 pub is_placed-append : (a b : List Item) (l : ℕ) → is_placed a l ≡ false → is_placed b l ≡ false → is_placed (a ++ b) l ≡ false
@@ -42,10 +42,10 @@ fresh-address items d m l h = is_placed-append items (Address d m ∷ []) l h re
 pub fresh-plain : (items : List Item) (is : List Inst) (l : ℕ) → is_placed items l ≡ false → is_placed (items ++ map Plain is) l ≡ false
 fresh-plain items is l h = is_placed-append items (map Plain is) l h (is_placed-plain is l)
 
--- behind the marks of node k its own stop, the labels of the entries and those of later nodes are still to be placed
-pub fresh-opening : (items : List Item) (k l : ℕ) → AreFresh k items → (l < first_label) ⊎ (stop_of k ≤ l) → is_placed (items ++ opening k) l ≡ false
+-- behind the marks of node k its own stop, the end of the code and the labels of later nodes are still to be placed
+pub fresh-opening : (items : List Item) (k l : ℕ) → AreFresh k items → (l ≡ end_label) ⊎ (stop_of k ≤ l) → is_placed (items ++ opening k) l ≡ false
 fresh-opening items k l fresh h =
-    let below : (l < first_label) ⊎ (joint_of k ≤ l) = ⊎_elim (λ b. inl b) (λ b. inr (omega arith)) h in
+    let below : (l ≡ end_label) ⊎ (joint_of k ≤ l) = ⊎_elim (λ b. inl b) (λ b. inr (omega arith)) h in
     let a : joint_of k ≢ l = ⊎_elim (λ b. omega arith) (λ b. omega arith) h in
     let b : front_of k ≢ l = ⊎_elim (λ b. omega arith) (λ b. omega arith) h in
     let c : start_of k ≢ l = ⊎_elim (λ b. omega arith) (λ b. omega arith) h in
@@ -54,7 +54,7 @@ fresh-opening items k l fresh h =
     let e3 : eqb (start_of k) l ≡ false = ne_eqb _ _ c in
     is_placed-append items (opening k) l (fresh l below) (rw (e1, e2, e3) refl)
 
--- behind a node's code the labels of the entries and those of later nodes are still to be placed
+-- behind a node's code the end of the code and the labels of later nodes are still to be placed
 pub fresh-behind : (items items' : List Item) (k : ℕ) → AreFresh k items → PlacesStop k (items ++ opening k) items' → AreFresh (k + 1) items'
 fresh-behind items items' k fresh places l h =
     let other : l ≢ stop_of k = ⊎_elim (λ b. omega arith) (λ b. omega arith) h in

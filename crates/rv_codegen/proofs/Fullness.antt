@@ -13,7 +13,8 @@ use Rattle.action_terms.specs.Need.{Sizes, called_slots, Passes}
 use Rattle.action_terms.specs.Performances.{OneOf, Here}
 use Rattle.action_terms.specs.Steps.{Step, silent, commits, open_steps}
 use Rattle.action_terms.proofs.Contexts.{shut_all-false, open-plug}
-use Rattle.rv_codegen.proofs.Around.{Chains, Around}
+use Rattle.rv_prelude.specs.Region.{Chains}
+use Rattle.rv_codegen.proofs.Around.{Around}
 use Rattle.rv_codegen.proofs.NodeParts.{tail-part, part-at}
 use Rattle.rv_codegen.proofs.Performing.{Filled, filled-stops}
 use Rattle.rv_codegen.proofs.RestPoints.{Laid, Starting, StartGoesOn, open-run}

@@ -49,7 +49,7 @@ module _ (s : Setting) (laid : Laid s) (x : Starting s) where
     pub within : from.place < 2 ^ 28
     pub rank : from.rank ≤ (start s x.k).rank
     pub leave : Way (code s) from (exit s x.k)
-    pub before_failure : (start s x.k).place < (failure s).place
+    pub behind_failure : (failure s).place < (start s x.k).place
 
   out-inside : LeavesData → (o : ℕ) → OneOf o (s.places.out x.k) → (o < 33554432) × (x.runs.here.f + o < length x.state.words)
   out-inside places o m = (places.near_out o m, frame-inside s laid x o (places.own.inside o m))
@@ -92,7 +92,7 @@ module _ (s : Setting) (laid : Laid s) (x : Starting s) where
         by None is_o w =
             step-failed s laid x (silent failed) (open-gave none None is_o) refl
             (written-there s laid x limit (s.places.out x.k) places.own (address_of (failure s).place) w failed (failure s) refl
-            (moves-on s.base (code s) w.count x.state w.end (start s x.k).place (failure s).place w.runs x.runs.at w.at behind.before_failure) (omega (arith, gives-paid places)))
+            (moves-on s.base (code s) w.count x.state w.end (start s x.k).place (failure s).place w.runs x.runs.at w.at behind.behind_failure) (omega (arith, gives-paid places)))
 
     -- the node gives its data, or it fails
     pub give-goes : (escaped : ℕ → List ℕ) → SuitsAt s.action s.places.out escaped x.k x.d x.b x.world → AreBuilt is → closures_in_items is ≡ [] → LeavesData → LeavesBehind (total code_items)

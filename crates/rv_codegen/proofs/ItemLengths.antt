@@ -1,14 +1,12 @@
 -- How many instructions the code of data has, and that it places no label.
-use Rattle.std.proofs.Common.{◌≡◌, ℕ, ◌+◌, ◌*◌, ◌<◌, ◌≤◌, All, List, [], ◌∷◌, ◌++◌, length, take, drop, map, false, refl, arith, length-take, length-drop}
-use Rattle.std.proofs.lemmas.List.Elements.{All-tail, All-drop, All-take}
-use Rattle.rv_asm.specs.Assembly.{is_placed, total}
+use Rattle.std.proofs.Common.{ℕ, ◌*◌, ◌<◌, List, [], ◌∷◌, length, take, drop, map, arith, length-take, length-drop}
+use Rattle.std.proofs.lemmas.List.Elements.{All-drop, All-take}
 use Rattle.rv_asm.specs.declared.item.Item.TheVariants.{Plain}
 use Rattle.rv_asm.proofs.Sending.{total-plain}
 use Rattle.action_terms.specs.Actions.{Item, Single, Them, Yielder}
 use Rattle.action_terms.specs.Need.{items_yielder_count, yielder_count}
-use Rattle.action_terms.specs.Performances.{OneOf}
 use Rattle.action_terms.proofs.AllLaws.{All-member}
-use Rattle.rv_yield.specs.YielderCode.{load_items, store_items, stored_items, value_items}
+use Rattle.rv_yield.specs.YielderCode.{load_items, store_items, stored_items}
 use Rattle.rv_yield.proofs.ItemLaws.{AreQuiet, IsShort, none-short, quiet-append, quiet-load, quiet-store, short-append, unmarked-plain, value-short}
 use Rattle.rv_yield.proofs.Stored.{length-store}
 use Rattle.rv_yield.proofs.Targets.{some-count}

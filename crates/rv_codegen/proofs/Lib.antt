@@ -6,7 +6,6 @@ pub mod Loading
 pub mod GraphNodes
 pub mod Unbuilt
 pub mod Yielders
-pub mod Jumps
 pub mod Messages
 pub mod Holding
 pub mod Tokens
@@ -25,7 +24,6 @@ pub mod RestPoints
 pub mod Performing
 pub mod Fullness
 pub mod Emitting
-pub mod Entering
 pub mod Walk
 pub mod Standing
 pub mod Ways
@@ -82,4 +80,3 @@ pub mod EscapingWith
 pub mod CheckingWith
 pub mod PlacedData
 pub mod EscapingItems
-pub mod SendingWith

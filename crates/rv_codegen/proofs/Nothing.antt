@@ -39,8 +39,8 @@ has-words (OnTwo f y1 y2) fits = (has-words y1 fits.0, has-words y2 fits.1)
 has-words (OnOne f y) fits = has-words y fits
 has-words _ fits = tt
 
--- a run from one place to another, further on, has an instruction
-pub moves-on : (base : ℕ) (code : List Inst) (n : ℕ) (c e : WordState) (p q : ℕ) → run_words base code n c ≡ Goes e → c.pc ≡ address_of p → e.pc ≡ address_of q → p < q → 0 < n
+-- a run from one place to another, further in front, has an instruction
+pub moves-on : (base : ℕ) (code : List Inst) (n : ℕ) (c e : WordState) (p q : ℕ) → run_words base code n c ≡ Goes e → c.pc ≡ address_of p → e.pc ≡ address_of q → q < p → 0 < n
 moves-on base code zero c e p q runs at there less =
     let stays : Goes c ≡ Goes e = runs in
     let same : c.pc ≡ e.pc = cc in
@@ -48,7 +48,7 @@ moves-on base code zero c e p q runs at there less =
 moves-on base code (suc n) c e p q runs at there less = omega arith
 
 -- the node has failed
-pub nothing-did : (s : Setting) (laid : Laid s) (x : Starting s) (limit : ℕ) → limit + 64 ≤ s.factor → (start s x.k).place < (failure s).place → Arrives s.base (code s) limit 10 10 x.state (address_of (failure s).place) → Did s laid x (silent failed) (failure s)
+pub nothing-did : (s : Setting) (laid : Laid s) (x : Starting s) (limit : ℕ) → limit + 64 ≤ s.factor → (failure s).place < (start s x.k).place → Arrives s.base (code s) limit 10 10 x.state (address_of (failure s).place) → Did s laid x (silent failed) (failure s)
 nothing-did s laid x limit paid less a =
     let h = x.runs.here in
     record {

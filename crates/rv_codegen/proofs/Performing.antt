@@ -16,7 +16,8 @@ use Rattle.action_terms.specs.Steps.{Step, commits, world_after, failed, open_st
 use Rattle.action_terms.specs.Frames.{Frame, plug, plugged, shut_all}
 use Rattle.action_terms.proofs.Contexts.{shut_all-false, open-plug}
 use Rattle.action_terms.proofs.Parts.{Reaches, reaches-within}
-use Rattle.rv_codegen.proofs.Around.{Chains, committed, Leaves, BindsLeft, Around}
+use Rattle.rv_prelude.specs.Region.{Chains}
+use Rattle.rv_codegen.proofs.Around.{committed, Leaves, BindsLeft, Around}
 use Rattle.rv_codegen.proofs.AroundKept.{Agrees, around-kept, around-shut}
 use Rattle.rv_codegen.proofs.Configurations.{depth, performances, pending-shut}
 use Rattle.rv_codegen.proofs.Holding.{Holds, Grows, in_row}

@@ -11,7 +11,7 @@ use Rattle.rv_codegen.proofs.Ending.{leaves-stand}
 use Rattle.rv_codegen.proofs.RestPoints.{Laid}
 use Rattle.rv_codegen.proofs.Settings.{Way, Setting, code, start, stop, exit, failure}
 use Rattle.rv_codegen.proofs.Standing.{NodeStands}
-use Rattle.rv_codegen.proofs.Walk.{Cursor, stands, over, over-mark, mark-at, cursor-within}
+use Rattle.rv_prelude.proofs.Cursors.{Cursor, stands, over, over-mark, mark-at, cursor-within}
 
 module _ (s : Setting) (k : ℕ) (piece : List Item) where
   -- what stands in the code of node k
@@ -20,7 +20,7 @@ module _ (s : Setting) (k : ℕ) (piece : List Item) where
     pub within : (start s k).place + total piece < 2 ^ 28
     pub behind : (stop s k).place ≡ (start s k).place + total piece
     pub leave : Way (code s) (stop s k) (exit s k)
-    pub before_failure : (start s k).place < (failure s).place
+    pub behind_failure : (failure s).place < (start s k).place
 
   pub piece-stands : Laid s → LabelsStand s.items → stop_of k < s.labels → (node : Node) → body (s.places.given k) (s.places.out k) k (get_or s.exits k 0) node ≡ (piece ++ Mark (stop_of k) ∷ []) ++ leaves k (get_or s.exits k 0) → NodeStands s.items s.places.given s.places.out s.exits k node → PieceStands
   piece-stands laid labels within_labels node is at =
@@ -40,5 +40,5 @@ module _ (s : Setting) (k : ℕ) (piece : List Item) where
         within = omega (arith, here, cursor-within s.items m (Mark (stop_of k) ∷ rest) c1, laid.small);
         behind = stop_at ∙ ap (λ z. z + total piece) (sym here);
         leave = leaves-stand s labels k m (stop_of k) at.behind stop_at (omega arith) within_labels c2;
-        before_failure = omega (arith, here, at.before_failure);
+        behind_failure = omega (arith, here, at.behind_failure);
       }

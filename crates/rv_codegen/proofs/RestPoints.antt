@@ -1,5 +1,5 @@
 -- Where the machine stands as the code follows a performance: the rest points, and what is asked of the code and its places.
-use Rattle.std.proofs.Common.{◌≡◌, ◌⊎◌, ℕ, ◌+◌, ◌*◌, ◌%◌, ◌^◌, ◌<◌, ◌≤◌, List, [], ◌∷◌, ◌++◌, length, get_or, refl, sym, ◌∙◌, subst, arith}
+use Rattle.std.proofs.Common.{◌≡◌, ◌⊎◌, ℕ, ◌+◌, ◌*◌, ◌%◌, ◌^◌, ◌<◌, ◌≤◌, List, [], ◌∷◌, length, get_or, refl, sym, ◌∙◌, subst, arith}
 use Rattle.rv_asm.specs.Assembly.{address_of, total}
 use Rattle.rv_asm.specs.Conventions.{region_register, frame_register}
 use Rattle.rv_asm.specs.DataWords.{Heap}
@@ -14,8 +14,9 @@ use Rattle.action_terms.specs.Performances.{OneOf, messages_bytes}
 use Rattle.action_terms.specs.Steps.{Step, run_steps, open_steps}
 use Rattle.action_terms.specs.Frames.{Frame, plug, wrap}
 use Rattle.action_terms.proofs.Parts.{Reaches}
+use Rattle.rv_prelude.specs.Region.{Chains}
 use Rattle.rv_codegen.proofs.AliasWords.{IsOnce}
-use Rattle.rv_codegen.proofs.Around.{Chains, IsPlaced, InOrder, JoinsData, Shares, HandsOver, Given, Receives, Leaves, BindsLeft, Around}
+use Rattle.rv_codegen.proofs.Around.{IsPlaced, InOrder, JoinsData, Shares, HandsOver, Given, Receives, Leaves, BindsLeft, Around}
 use Rattle.rv_codegen.proofs.BindTables.{ChainBinds, JoinBinds}
 use Rattle.rv_codegen.proofs.Configurations.{Configuration, depth, performances}
 use Rattle.rv_codegen.proofs.Holding.{Holds, in_row}
@@ -32,12 +33,12 @@ module _ (s : Setting) where
     pub frame_at : state.registers frame_register ≡ s.base + 8 * f
     pub words_are : state.words ≡ words
 
-  -- the size of the region, and the chains at its front, where the code keeps them
+  -- the size of the region, and the chains at its front
   pub record Region (words : List ℕ) (c : Chains) : Type 0 where
     pub size : length words ≡ s.count
-    pub alternative : s.Opens → get_or words 1 0 ≡ c.alternative
-    pub trap : s.Opens → get_or words 2 0 ≡ c.trap
-    pub mark : s.Opens → get_or words 3 0 ≡ c.mark
+    pub alternative : get_or words 1 0 ≡ c.alternative
+    pub trap : get_or words 2 0 ≡ c.trap
+    pub mark : get_or words 3 0 ≡ c.mark
 
   -- node k is to be performed within frames, or was
   pub record Stays (steps : List Step) (cells : Storage) (state : WordState) (fs : List Frame) (k : ℕ) : Type 0 where

@@ -1,8 +1,8 @@
 -- The image of an action's code is right for the action.
-use Rattle.std.proofs.Common.{◌≡◌, ℕ, ◌+◌, ◌-◌, ◌*◌, ◌^◌, ◌<◌, ◌≤◌, true, List, [], ◌∷◌, ◌++◌, length, refl, sym, ap, ◌∙◌, subst, arith, inl, inr, ⊎_elim, append-nil}
+use Rattle.std.proofs.Common.{◌≡◌, ℕ, ◌+◌, ◌-◌, ◌*◌, ◌^◌, ◌<◌, ◌≤◌, true, List, [], ◌∷◌, ◌++◌, get_or, length, set, refl, sym, ap, ◌∙◌, subst, arith, inl, inr, ⊎_elim, append-nil, length-set, get_or-set_same, get_or-set_other}
 use Rattle.std.specs.Prelude.{map, replicate, All}
 use Rattle.std.proofs.lemmas.List.Elements.{All-head, All-tail}
-use Rattle.std.proofs.lemmas.List.{length-replicate}
+use Rattle.std.proofs.lemmas.List.{get_or-replicate, length-replicate}
 use Rattle.rv_code.specs.Encode.{is_encodable}
 use Rattle.rv_code.specs.Machine.{Outcome, Ran, Exited, Trapped, run, loaded}
 use Rattle.rv_code.specs.Images.{started}
@@ -18,11 +18,10 @@ use Rattle.rv_asm.specs.declared.item.Item.TheVariants.{Plain}
 use Rattle.rv_asm.specs.Meanings.{IsShown}
 use Rattle.rv_asm.proofs.Calls.{before_exit, before_exit-runs, exit-stops}
 use Rattle.rv_asm.proofs.Follows.{follows-compiled}
-use Rattle.rv_asm.proofs.Labels.{length-code, spot_le-total}
+use Rattle.rv_asm.proofs.Labels.{length-code}
 use Rattle.rv_asm.proofs.Moments.{CodeFollows, Stops, quiet-stop}
 use Rattle.rv_asm.proofs.Places.{length-code_bytes}
 use Rattle.rv_asm.proofs.Regions.{compiled-below}
-use Rattle.rv_asm.proofs.Stretches.{then-runs}
 use Rattle.action_terms.specs.Information.{NoBinds, World}
 use Rattle.action_terms.specs.Acting.{End, Done, Esc, Fail, Tree, Run, Ended}
 use Rattle.action_terms.specs.Need.{Passes}
@@ -30,21 +29,23 @@ use Rattle.action_terms.specs.Performances.{messages_bytes, records}
 use Rattle.action_terms.specs.Steps.{Step}
 use Rattle.action_terms.specs.Frames.{Frame, plug}
 use Rattle.action_terms.proofs.Parts.{Reaches}
+use Rattle.rv_prelude.specs.EntryRuns.{IsStarted}
+use Rattle.rv_prelude.specs.Items.{entries_from}
+use Rattle.rv_prelude.specs.Region.{no_chains, with_ends}
+use Rattle.rv_prelude.proofs.Entered.{starts as starts-at}
 use Rattle.rv_codegen.specs.Blocks.{end_label, framed_items}
 use Rattle.sort_rules.specs.Measures.{sizes, slots}
 use Rattle.frame_layout.specs.Places.{Frame as PlacedFrame}
 use Rattle.rv_codegen.specs.Aliases.{words_at}
 use Rattle.rv_codegen.specs.RightImage.{compiled_image, Subject, SomeEnd, ShowsExit, Shows}
 use Rattle.rv_codegen.proofs.Configurations.{Configuration, EndCode, depth, performances}
-use Rattle.rv_codegen.proofs.Entering.{round_up-runs}
 use Rattle.rv_codegen.proofs.Around.{Given}
 use Rattle.rv_codegen.proofs.Holding.{Holds}
 use Rattle.rv_codegen.proofs.InputLeft.{AreBytes, left-same}
-use Rattle.rv_codegen.proofs.Jumps.{addressed, address-runs}
 use Rattle.rv_codegen.proofs.RestPoints.{IsAt}
 use Rattle.rv_codegen.proofs.Settings.{Setting, start}
 use Rattle.rv_codegen.proofs.Standing.{Stood}
-use Rattle.rv_codegen.proofs.Compiling.{IsCompilable, HasFrames, IsSized, setting, compiled, stood, root-there, root-places}
+use Rattle.rv_codegen.proofs.Compiling.{IsCompilable, HasFrames, IsSized, setting, compiled, stood, root-there, root-places, base-low}
 use Rattle.rv_codegen.proofs.Turns.{turn}
 use Rattle.rv_codegen.proofs.Units.{Units}
 
@@ -130,21 +131,21 @@ module _ (x : Subject) (fs : List PlacedFrame) (items : List Item) (sized : IsSi
 
 -- ---- the main procedure fits the stack
 
-module _ (x : Subject) (fs : List PlacedFrame) (ok : IsCompilable x.action) (framed : HasFrames x fs) (labels : LabelsStand (framed_items x.action fs)) (sized : IsSized x (framed_items x.action fs)) (fits : words_at fs 0 ≤ x.stack) (input : List ℕ) (bytes : All (λ b. b < 256) input) where
+module _ (x : Subject) (fs : List PlacedFrame) (ok : IsCompilable x.action) (has_frames : HasFrames x fs) (labels : LabelsStand (framed_items x.action fs x.stack x.units)) (sized : IsSized x (framed_items x.action fs x.stack x.units)) (fits : words_at fs 0 ≤ x.stack) (input : List ℕ) (bytes : All (λ b. b < 256) input) where
+  abbrev framed : List Item
+  framed = framed_items x.action fs x.stack x.units
+
   abbrev framed_code : List Inst
-  framed_code = code_of (framed_items x.action fs)
+  framed_code = code_of framed
 
   abbrev framed_base : ℕ
   framed_base = region_address (4 * length framed_code)
 
   abbrev framed_setting : Setting
-  framed_setting = setting x fs (framed_items x.action fs) sized.ample (records input)
+  framed_setting = setting x fs framed sized.ample (records input)
 
-  near : (l : ℕ) → spot (framed_items x.action fs) l < 2 ^ 28
-  near l = omega (arith, spot_le-total (framed_items x.action fs) l, sized.small)
-
-  stands : Stood (framed_items x.action fs) framed_setting.places.given framed_setting.places.out x.action
-  stands = stood x fs ok framed labels sized (records input)
+  stands : Stood framed framed_setting.places.given framed_setting.places.out x.stack x.units x.action
+  stands = stood x fs ok has_frames labels sized (records input)
 
   framed_entry : WordState
   framed_entry = start_state framed_setting.count input
@@ -152,15 +153,41 @@ module _ (x : Subject) (fs : List PlacedFrame) (ok : IsCompilable x.action) (fra
   framed_first : Configuration
   framed_first = record { steps = []; frames = []; focus = Run 0 [] NoBinds; world = record { cells = []; output = []; input = records input } }
 
+  -- the words at the root: the ends of stack and units stand at the front, all others are 0
+  abbrev first_words : List ℕ
+  first_words = with_ends framed_base x.stack x.units (replicate framed_setting.count 0)
+
+  first-size : length first_words ≡ framed_setting.count
+  first-size = by (replicate framed_setting.count 0) (length-replicate framed_setting.count 0)
+    where
+      by : (ws : List ℕ) → length ws ≡ framed_setting.count → length (with_ends framed_base x.stack x.units ws) ≡ framed_setting.count
+      by ws many =
+          let stack_end = framed_base + 8 * (512 + x.stack) in
+          let units_end = framed_base + 8 * (512 + x.stack + 2 * x.units) in
+          length-set (set (set ws 5 stack_end) 6 stack_end) 7 units_end ∙ length-set (set ws 5 stack_end) 6 stack_end ∙ length-set ws 5 stack_end ∙ many
+
+  -- the first words of it
+  first-zero : (j : ℕ) → j < 5 → get_or first_words j 0 ≡ 0
+  first-zero j lt = by (replicate framed_setting.count 0) (get_or-replicate framed_setting.count j 0 0 (omega arith))
+    where
+      by : (ws : List ℕ) → get_or ws j 0 ≡ 0 → get_or (with_ends framed_base x.stack x.units ws) j 0 ≡ 0
+      by ws none =
+          let stack_end = framed_base + 8 * (512 + x.stack) in
+          let units_end = framed_base + 8 * (512 + x.stack + 2 * x.units) in
+          get_or-set_other (set (set ws 5 stack_end) 6 stack_end) 7 j units_end 0 (omega arith)
+          ∙ get_or-set_other (set ws 5 stack_end) 6 j stack_end 0 (omega arith)
+          ∙ get_or-set_other ws 5 j stack_end 0 (omega arith)
+          ∙ none
+
   -- no unit is spent
-  nothing-spent : Units framed_setting no_heap (replicate framed_setting.count 0) [] []
+  nothing-spent : Units framed_setting no_heap first_words [] []
   nothing-spent = record {
     spent = 0;
     few = omega arith;
     now = record {
-      counted = λ t. absurd t;
-      first_at = λ t. absurd t;
-      end_at = λ t. absurd t;
+      counted = first-zero 4 (omega arith);
+      first_at = ends.0;
+      end_at = ends.1;
       within = omega arith;
       held = record {
         many = refl;
@@ -175,56 +202,74 @@ module _ (x : Subject) (fs : List PlacedFrame) (ok : IsCompilable x.action) (fra
       };
     };
   }
+    where
+      ends : (get_or first_words 6 0 ≡ framed_base + 8 * (512 + x.stack)) × (get_or first_words 7 0 ≡ framed_base + 8 * (512 + x.stack + 2 * x.units))
+      ends = by (replicate framed_setting.count 0) (length-replicate framed_setting.count 0)
+        where
+          by : (ws : List ℕ) → length ws ≡ framed_setting.count → (get_or (with_ends framed_base x.stack x.units ws) 6 0 ≡ framed_base + 8 * (512 + x.stack)) × (get_or (with_ends framed_base x.stack x.units ws) 7 0 ≡ framed_base + 8 * (512 + x.stack + 2 * x.units))
+          by ws many =
+              let stack_end = framed_base + 8 * (512 + x.stack) in
+              let units_end = framed_base + 8 * (512 + x.stack + 2 * x.units) in
+              let one = length-set ws 5 stack_end in
+              let two = length-set (set ws 5 stack_end) 6 stack_end in (
+                get_or-set_other (set (set ws 5 stack_end) 6 stack_end) 7 6 units_end 0 (λ q. omega arith) ∙ get_or-set_same (set ws 5 stack_end) 6 stack_end 0 (omega (arith, one, many)),
+                get_or-set_same (set (set ws 5 stack_end) 6 stack_end) 7 units_end 0 (omega (arith, one, two, many)),
+              )
 
   -- nothing is given to the root: its row has no data
-  root-given : Given framed_setting no_heap (replicate framed_setting.count 0) 512 0 []
-  root-given = none-given (root-places x fs ok framed labels sized (records input))
+  root-given : Given framed_setting no_heap first_words 512 0 []
+  root-given = none-given (root-places x fs ok has_frames labels sized (records input))
     where
-      none-given : framed_setting.places.given 0 ≡ [] → Given framed_setting no_heap (replicate framed_setting.count 0) 512 0 []
-      none-given e = subst (λ os. Holds framed_setting.base no_heap (replicate framed_setting.count 0) 512 os []) (sym e) tt
+      none-given : framed_setting.places.given 0 ≡ [] → Given framed_setting no_heap first_words 512 0 []
+      none-given e = subst (λ os. Holds framed_setting.base no_heap first_words 512 os []) (sym e) tt
 
-  -- the run comes to the root of the action by 9 instructions
+  -- the run comes to the root of the action
   record Enters : Type 0 where
     to : WordState
-    runs : run_words framed_base framed_code 9 framed_entry ≡ Goes to
+    count : ℕ
+    few : count ≤ 64
+    runs : run_words framed_base framed_code count framed_entry ≡ Goes to
     rests : IsAt framed_setting (start framed_setting 0).rank to framed_first
     quiet : to.output ≡ framed_entry.output
 
   enters : Enters
   unfolding framed_entry framed_first
   enters =
-      let end = spot (framed_items x.action fs) end_label in
-      let size : length framed_code ≡ total (framed_items x.action fs) = length-code (spot (framed_items x.action fs)) 0 (framed_items x.action fs) in
-      let s1 = addressed framed_entry 2 0 end in
-      let r1 = address-runs framed_base framed_code framed_entry 2 0 end (omega arith) (near end_label) refl stands.address in
-      let here : s1.registers 3 ≡ 65536 + 4 * length framed_code = ap address_of (stands.end ∙ sym size) in
-      let s2 = round_up-runs framed_base (4 * length framed_code) framed_code s1 (omega (arith, size, sized.small)) here stands.round in
+      let e = entries_from 0 in
+      let size : length framed_code ≡ total framed = length-code (spot framed) 0 framed in
+      let base_is : framed_base ≡ region_address (4 * spot framed end_label) = ap (λ n. region_address (4 * n)) (size ∙ sym stands.end) in
+      let below : framed_base + 8 * length framed_entry.words ≤ 2 ^ 32 = omega (arith, base-low x fs ok has_frames labels sized (records input), length-replicate {A = ℕ} framed_setting.count 0) in
+      let started : IsStarted framed end_label x.stack x.units framed_base framed_entry = record { here = refl; base_is = base_is; below = below; words = refl } in
+      let came = starts-at framed e x.stack x.units stands.entered (omega (arith, sized.small)) sized.few_words sized.few_units framed_base framed_entry started in
+      let a = came.0 in
       record {
-        to = s2.to;
-        runs = then-runs framed_base framed_code 2 7 framed_entry s1 s2.to r1 s2.runs;
+        to = a.end;
+        count = a.instructions;
+        few = a.few;
+        runs = a.leads.words;
         rests = record {
           rests = record {
             here = record {
               f = 512;
-              chains = record { alternative = 0; trap = 0; mark = 0 };
+              chains = no_chains;
               heap = no_heap;
-              words = replicate framed_setting.count 0;
-              stands = record { region = s2.region; frame_at = s2.stack; words_are = s2.words };
-              region = record { size = length-replicate framed_setting.count 0; alternative = λ o. absurd o; trap = λ o. absurd o; mark = λ o. absurd o };
+              words = first_words;
+              stands = record { region = came.1; frame_at = came.2; words_are = a.words };
+              region = record { size = first-size; alternative = first-zero 1 (omega arith); trap = first-zero 2 (omega arith); mark = first-zero 3 (omega arith) };
               clear = omega (arith, fits);
               units_are = nothing-spent;
               around = (refl, refl, refl, refl);
-              node = root-there x fs ok framed labels sized (records input);
+              node = root-there x fs ok has_frames labels sized (records input);
             };
-            at = s2.at ∙ ap address_of (sym stands.root);
+            at = a.at ∙ ap address_of (sym stands.root);
             rank_is = refl;
             given = root-given;
             receives = tt;
           };
-          shown = s2.output;
-          left = left-same {ys = s2.to.input} s2.input (refl, are-bytes input bytes);
+          shown = a.output;
+          left = left-same {ys = a.end.input} a.input (refl, are-bytes input bytes);
         };
-        quiet = s2.output;
+        quiet = a.output;
       }
 
   follows : CodeFollows framed_base framed_code (performances framed_setting) framed_entry
@@ -234,9 +279,9 @@ module _ (x : Subject) (fs : List PlacedFrame) (ok : IsCompilable x.action) (fra
       record {
         depth = depth;
         IsAt = IsAt framed_setting;
-        turn = turn framed_setting (compiled x fs ok framed labels sized (records input));
+        turn = turn framed_setting (compiled x fs ok has_frames labels sized (records input));
         rank = (start framed_setting 0).rank;
-        first = 9;
+        first = e.count;
         state = e.to;
         initial = framed_first;
         runs = e.runs;
@@ -244,13 +289,13 @@ module _ (x : Subject) (fs : List PlacedFrame) (ok : IsCompilable x.action) (fra
         output = e.quiet;
         related = e.rests;
         reached = refl;
-        paid = omega arith;
+        paid = omega (arith, e.few);
       }
 
   -- after m instructions of the image
   pub image-shows : All (λ i. is_encodable i ≡ true) framed_code → (m : ℕ) → Shows x input m (run m (started (compiled_image (code_bytes framed_code) x.stack x.units) input))
   unfolding framed_entry
-  image-shows encodable m = follows-shows x fs (framed_items x.action fs) sized input bytes encodable follows m
+  image-shows encodable m = follows-shows x fs framed sized input bytes encodable follows m
 
 -- ---- the main procedure needs more words than the stack has: the code is an exit with 3 at once
 

@@ -1,6 +1,6 @@
 -- Nodes that send: the value of their yielder is put into register 10, and the entry that sends is called. Where there is no
 -- value, the code has gone to the entry for failures.
-use Rattle.std.proofs.Common.{◌≡◌, ⊎_elim, ℕ, suc, ◌+◌, ◌*◌, ◌^◌, ◌<◌, ◌≤◌, true, List, [], ◌∷◌, ◌++◌, length, get_or, set, Some, None, refl, sym, ap, ap₂, ◌∙◌, subst, arith, inl, length-set, get_or-set_other, append_assoc}
+use Rattle.std.proofs.Common.{◌≡◌, ⊎_elim, ℕ, suc, ◌+◌, ◌*◌, ◌^◌, ◌<◌, ◌≤◌, true, List, [], ◌∷◌, ◌++◌, length, get_or, Some, None, refl, sym, ap, ap₂, ◌∙◌, subst, arith, inl, append_assoc}
 use Rattle.rv_code.specs.Bytes.{bytes_of}
 use Rattle.rv_asm.specs.Arrivals.{LabelsStand}
 use Rattle.rv_asm.specs.Assembly.{address_of, far_address, far_jump, spot, total, code_from}
@@ -8,7 +8,7 @@ use Rattle.rv_asm.specs.WordMachine.{WordState, Goes, run_words, Has}
 use Rattle.rv_asm.specs.declared.item.Item.{Item}
 use Rattle.rv_asm.specs.declared.item.Item.TheVariants.{Mark, Jump, Address}
 use Rattle.rv_asm.specs.DataWords.{StandsFor}
-use Rattle.rv_asm.specs.PieceRuns.{CanSend}
+use Rattle.rv_prelude.specs.PieceRuns.{HasRegion}
 use Rattle.rv_asm.proofs.Stretches.{Between, then-runs, between-then-quiet, quiet-then-between}
 use Rattle.action_terms.specs.Information.{Datum, Number}
 use Rattle.action_terms.specs.Actions.{Yielder, Send, Simple, node_at}
@@ -27,22 +27,23 @@ use Rattle.rv_yield.proofs.Evaluation.{value-comes}
 use Rattle.rv_yield.proofs.NeedLaws.{registers-enough}
 use Rattle.rv_yield.proofs.Steps.{Arrives, Present}
 use Rattle.rv_yield.proofs.Valued.{Known, Valued, valued-cases}
-use Rattle.rv_codegen.specs.Blocks.{fail_label, send_label, start_of, stop_of, opening, leaves, sends, send_entry}
+use Rattle.rv_codegen.specs.Blocks.{fail_label, send_label, start_of, stop_of, opening, leaves, sends}
 use Rattle.rv_codegen.proofs.AroundKept.{frames-high}
+use Rattle.rv_codegen.proofs.Committing.{sent_words, sent-other, sent-region}
 use Rattle.rv_codegen.proofs.Ending.{leaves-stand, nothing-done}
 use Rattle.rv_codegen.proofs.FindsGiven.{all-members, finds-given}
 use Rattle.rv_codegen.proofs.Holding.{grows-same}
 use Rattle.rv_codegen.proofs.InputLeft.{left-same}
-use Rattle.rv_codegen.proofs.Jumps.{jumped, jump-runs, addressed, address-runs}
+use Rattle.rv_prelude.proofs.Jumps.{jumped, jump-runs, addressed, address-runs}
 use Rattle.rv_codegen.proofs.Nothing.{built-makes_none, has-words, nothing-did}
 use Rattle.rv_codegen.proofs.Messages.{bytes_of-message, messages_bytes-append}
 use Rattle.rv_codegen.proofs.Performing.{Did, step-failed}
 use Rattle.rv_codegen.proofs.RestPoints.{Laid, Starting, StartGoesOn, near, open-run}
-use Rattle.rv_codegen.proofs.SendEntry.{send_entry-runs}
+use Rattle.rv_codegen.proofs.SendEntry.{send_code, send_entry-runs}
 use Rattle.rv_codegen.proofs.Settings.{Way, way-runs, Setting, code, point, start, stop, exit, failure}
 use Rattle.rv_codegen.proofs.Standing.{NodeStands}
 use Rattle.rv_codegen.proofs.Units.{units-kept}
-use Rattle.rv_codegen.proofs.Walk.{Cursor, stands, over, over-mark, mark-at, jump-stands, over-jump, address-stands, over-address}
+use Rattle.rv_prelude.proofs.Cursors.{Cursor, stands, over, over-mark, mark-at, jump-stands, over-jump, address-stands, over-address}
 
 -- what the code of a node needs of the yielder that it sends
 pub record IsSendable (y : Yielder) : Type 0 where
@@ -85,19 +86,19 @@ module _ (s : Setting) where
         leave = leaves-stand s labels k (m + 2 + 2) (stop_of k) behind stop_at (omega arith) within c5;
       }
 
-  module _ (laid : Laid s) (entry : Has (code s) (address_of (point s send_label).place) send_entry) where
+  module _ (laid : Laid s) (entry : Has (code s) (address_of (point s send_label).place) send_code) where
     -- the entry has been called from a state, and the node's exit has been reached
     record HasCalled (k : ℕ) (c : WordState) : Type 0 where
       end : WordState
       count : ℕ
       some : 0 < count
-      few : count ≤ 13
+      few : count ≤ 16
       runs : run_words s.base (code s) count c ≡ Goes end
       between : Between s.base (code s) count c end
       at : end.pc ≡ address_of (exit s k).place
       region_at : end.registers 3 ≡ c.registers 3
       frame_at : end.registers 2 ≡ c.registers 2
-      words : end.words ≡ set c.words 0 (c.registers 10)
+      words : end.words ≡ sent_words s c.words (c.registers 10)
       input : end.input ≡ c.input
       output : end.output ≡ c.output ++ bytes_of 8 (c.registers 10)
 
@@ -108,18 +109,18 @@ module _ (s : Setting) where
         let send_at = (point s send_label).place in
         let c3 = jumped c2 (calls.call + 2) send_at in
         let enters = jump-runs s.base (code s) c2 (calls.call + 2) send_at calls.within (near s laid send_label) refl calls.enter in
-        let can : CanSend s.base 0 c3 = record { aligned = laid.aligned; below = omega (arith, laid.below, laid.some); region = region; inside = omega (arith, size, laid.some) } in
-        let sent = send_entry-runs s.base (code s) c3 (address_of (stop s k).place) can refl (omega arith) (omega (arith, near s laid (stop_of k))) entry in
+        let in_region : HasRegion s.base c3 = record { aligned = laid.aligned; below = omega (arith, laid.below, size); front = omega (arith, size, laid.some); region = region } in
+        let sent = send_entry-runs s.base (code s) c3 (address_of (stop s k).place) in_region refl (omega arith) (omega (arith, near s laid (stop_of k))) entry in
         let g = way-runs s.base (code s) sent.to (stop s k) (exit s k) (near s laid (stop_of k)) (near s laid (get_or s.exits k 0)) sent.at calls.leave in
         let to3 = then-runs s.base (code s) 2 2 c c2 c3 back enters in
-        let last = then-runs s.base (code s) 7 g.count c3 sent.to g.end sent.runs g.runs in
+        let last = then-runs s.base (code s) 10 g.count c3 sent.to g.end sent.runs g.runs in
         record {
           end = g.end;
-          count = 4 + (7 + g.count);
+          count = 4 + (10 + g.count);
           some = omega arith;
           few = omega (arith, g.few);
-          runs = then-runs s.base (code s) 4 (7 + g.count) c c3 g.end to3 last;
-          between = quiet-then-between s.base (code s) 4 (7 + g.count) c c3 g.end to3 refl (between-then-quiet s.base (code s) 7 g.count c3 sent.to g.end sent.runs sent.between g.runs g.output);
+          runs = then-runs s.base (code s) 4 (10 + g.count) c c3 g.end to3 last;
+          between = quiet-then-between s.base (code s) 4 (10 + g.count) c c3 g.end to3 refl (between-then-quiet s.base (code s) 10 g.count c3 sent.to g.end sent.runs sent.between g.runs g.output);
           at = g.at;
           region_at = g.others 3 (omega arith) ∙ sent.others 3 (omega arith);
           frame_at = g.others 2 (omega arith) ∙ sent.others 2 (omega arith);
@@ -129,13 +130,9 @@ module _ (s : Setting) where
         }
 
     module _ (x : Starting s) where
-      -- what a call of the entry does to the words of the region
-      module _ (word : ℕ) where
-        abbrev sent_words : List ℕ
-        sent_words = set x.runs.here.words 0 word
-
-        word-kept : (j : ℕ) → 0 < j → get_or sent_words j 0 ≡ get_or x.runs.here.words j 0
-        word-kept j lt = get_or-set_other x.runs.here.words 0 j word 0 (omega arith)
+      -- a call of the entry writes four words at the front of the region
+      word-kept : (word j : ℕ) → 4 ≤ j → get_or (sent_words s x.runs.here.words word) j 0 ≡ get_or x.runs.here.words j 0
+      word-kept word j far = sent-other s x.runs.here.words x.runs.here.chains word x.runs.here.region laid.some j far
 
       module _ (y : Yielder) (e : node_at s.action x.k ≡ Simple (Send y)) where
         -- the code of the yielder has come to an address
@@ -149,8 +146,8 @@ module _ (s : Setting) where
         paid = subst (λ m. 400 + 24 * (0 + 1) * (node_yielder_count m + 1) ≤ s.factor) e (laid.paid x.k 0 (omega arith))
 
         -- an integer is sent
-        send-did : (closed : s.Opens → ⊥) (calls : Calls x.k y) (v : Sent (address_of calls.call)) → Did s laid x (with_effect (SendsEffect v.integer) done) (exit s x.k)
-        send-did closed calls v =
+        send-did : (calls : Calls x.k y) (v : Sent (address_of calls.call)) → Did s laid x (with_effect (SendsEffect v.integer) done) (exit s x.k)
+        send-did calls v =
             let h = x.runs.here in
             let a = v.arrives in
             let word = a.end.registers 10 in
@@ -158,7 +155,7 @@ module _ (s : Setting) where
             let region_at : a.end.registers 3 ≡ s.base = a.others 3 (omega arith) (omega arith) ∙ h.stands.region in
             let words_at : a.end.words ≡ h.words = a.words ∙ h.stands.words_are in
             let g = call-runs x.k y calls a.end a.at region_at (ap length words_at ∙ h.region.size) in
-            let words_are : g.end.words ≡ sent_words word = g.words ∙ ap (λ ws. set ws 0 word) words_at in
+            let words_are : g.end.words ≡ sent_words s h.words word = g.words ∙ ap (λ ws. sent_words s ws word) words_at in
             record {
               end = g.end;
               count = a.count + g.count;
@@ -169,11 +166,11 @@ module _ (s : Setting) where
               at = g.at;
               heap = h.heap;
               grows = grows-same h.heap;
-              words = sent_words word;
+              words = sent_words s h.words word;
               stands = record { region = g.region_at ∙ region_at; frame_at = g.frame_at ∙ a.others 2 (omega arith) (omega arith) ∙ h.stands.frame_at; words_are = words_are };
-              region = record { size = length-set h.words 0 word ∙ h.region.size; alternative = λ o. absurd (closed o); trap = λ o. absurd (closed o); mark = λ o. absurd (closed o) };
+              region = sent-region s h.words h.chains word h.region laid.some;
               agrees = record { here = λ o no. word-kept word (h.f + o) (omega (arith, high)); below = λ j l lt. word-kept word j (omega arith) };
-              units_are = units-kept s h.heap h.words (sent_words word) x.steps (step ∷ x.steps) x.world.cells (λ j out. word-kept word j (⊎_elim (λ o. omega (arith, o.0)) (λ o. omega arith) out)) (omega arith) h.units_are;
+              units_are = units-kept s h.heap h.words (sent_words s h.words word) x.steps (step ∷ x.steps) x.world.cells (λ j out. word-kept word j (⊎_elim (λ o. o.0) (λ o. omega arith) out)) (omega arith) h.units_are;
               left = left-same {ys = g.end.input} (g.input ∙ a.input) x.left;
               output = g.output ∙ ap₂ ◌++◌ (a.output ∙ x.shown) (ap (bytes_of 8) v.value ∙ bytes_of-message v.integer) ∙ sym (messages_bytes-append x.world.output v.integer);
             }
@@ -196,8 +193,8 @@ module _ (s : Setting) where
               by (Number n) is stands it = record { integer = n; is = is; fits = stands.1; arrives = p.arrives; value = stands.0 }
               by _ is stands it = absurd (cc)
 
-          pub send-goes : (s.Opens → ⊥) → LabelsStand s.items → stop_of x.k < s.labels → NodeStands s.items s.places.given s.places.out s.exits x.k (Simple (Send y)) → StartGoesOn s x
-          send-goes closed labels within stands =
+          pub send-goes : LabelsStand s.items → stop_of x.k < s.labels → NodeStands s.items s.places.given s.places.out s.exits x.k (Simple (Send y)) → StartGoesOn s x
+          send-goes labels within stands =
               let h = x.runs.here in
               let k = x.k in
               let given = s.places.given k in
@@ -206,7 +203,7 @@ module _ (s : Setting) where
               let calls = calls-stand laid labels k y stands.place stands.behind stands.opened.start within stands.opened.cursor in
               let size = total (value_items given 10 10 fail_label y) in
               let next : address_of ((start s k).place + size) ≡ address_of calls.call = ap address_of (sym calls.behind_value) in
-              let less : (start s k).place < (failure s).place = omega (arith, stands.opened.start, stands.before_failure) in
+              let less : (failure s).place < (start s k).place = omega (arith, stands.opened.start, stands.behind_failure) in
               let v = yields y x.d x.b x.world.cells in
               let suited : IsSuitedPrimitive (Send y) x.d x.b x.world.cells = subst (λ n. IsSuitedNode n x.d x.b x.world.cells) e (laid.data_laid.suits x.steps x.frames k x.d x.b x.world x.runs.here.node x.reached).suited in
               let outcome =
@@ -214,7 +211,7 @@ module _ (s : Setting) where
               ⊎_elim
               (λ (q : Known s.base (code s) h.heap (12 * yielder_count y) 10 10 x.state (address_of calls.call) v).
               let p = present (address_of calls.call) q suited.1 in
-              nothing-done s laid x (with_effect (SendsEffect p.integer) done) (open-sent (with_effect (SendsEffect p.integer) done) (ap sent p.is) refl) refl (send-did closed calls p))
+              nothing-done s laid x (with_effect (SendsEffect p.integer) done) (open-sent (with_effect (SendsEffect p.integer) done) (ap sent p.is) refl) refl (send-did calls p))
               (λ (p : (v ≡ None) × Comes (address_of (failure s).place)).
               step-failed s laid x (silent failed) (open-sent (silent failed) (ap sent p.0) refl) refl (nothing-did s laid x (12 * yielder_count y) (omega (arith, paid)) less p.1))
               (valued-cases s.base (code s) h.heap (12 * yielder_count y) 10 10 x.state (address_of calls.call) (address_of (failure s).place) v

@@ -10,7 +10,7 @@ use Rattle.action_terms.specs.Information.{Token}
 use Rattle.action_terms.specs.Need.{Sizes}
 use Rattle.rv_codegen.specs.Blocks.{fail_label, escape_label, front_of, start_of, stop_of}
 use Rattle.rv_codegen.proofs.Holding.{Slot, ApartSlots}
-use Rattle.rv_codegen.proofs.Jumps.{jumped, jump-runs}
+use Rattle.rv_prelude.proofs.Jumps.{jumped, jump-runs}
 
 -- a place in the code: how many instructions stand before it, and its rank, which falls from one label to the next
 pub record Point : Type 0 where
@@ -115,9 +115,6 @@ pub record Setting : Type 1 where
   -- the address of the region, and its words
   pub base : ℕ
   pub count : ℕ
-  -- the code opens alternatives or traps, and keeps words for them at the front of the region; it takes units, and counts them
-  pub Opens : Type 0
-  pub Takes : Type 0
 
 abbrev pub code : Setting → List Inst
 code s = code_of s.items

@@ -1,5 +1,5 @@
 -- What an admissible sort table tells of the data that a node completes with, also where its parts complete.
-use Rattle.std.proofs.Common.{◌≡◌, ℕ, ℤ, List, [], ◌∷◌, refl, sym, ap, subst, ◌∙◌}
+use Rattle.std.proofs.Common.{◌≡◌, ℕ, ℤ, List, subst}
 use Rattle.action_terms.specs.Information.{Binds, Data, World}
 use Rattle.action_terms.specs.Actions.{Action}
 use Rattle.action_terms.specs.Acting.{Done, Ended, Tree, Run, Par, Second}

@@ -63,11 +63,11 @@ module _ (s : Setting) where
     closures_apart = h.closures_apart;
   }
 
-  -- so many units are spent: where the code takes units they are counted, and they hold what was taken
+  -- so many units are spent: they are counted, and they hold what was taken
   pub record Spent (heap : Heap) (words : List ℕ) (spent : ℕ) (cells : Storage) : Type 0 where
-    pub counted : s.Takes → get_or words 4 0 ≡ spent
-    pub first_at : s.Takes → get_or words 6 0 ≡ s.base + 8 * (512 + s.stack)
-    pub end_at : s.Takes → get_or words 7 0 ≡ s.base + 8 * (512 + s.stack + 2 * s.room)
+    pub counted : get_or words 4 0 ≡ spent
+    pub first_at : get_or words 6 0 ≡ s.base + 8 * (512 + s.stack)
+    pub end_at : get_or words 7 0 ≡ s.base + 8 * (512 + s.stack + 2 * s.room)
     pub within : spent ≤ s.room
     pub held : HeapHeld heap (512 + s.stack) (512 + s.stack + 2 * spent) words cells
 
@@ -77,9 +77,9 @@ module _ (s : Setting) where
 
   spent-kept : (heap : Heap) (ws ws' : List ℕ) (spent : ℕ) (cells : Storage) → Untouched ws ws' → Spent heap ws spent cells → Spent heap ws' spent cells
   spent-kept heap ws ws' spent cells e h = record {
-    counted = λ t. e 4 (inl (omega arith, omega arith)) ∙ h.counted t;
-    first_at = λ t. e 6 (inl (omega arith, omega arith)) ∙ h.first_at t;
-    end_at = λ t. e 7 (inl (omega arith, omega arith)) ∙ h.end_at t;
+    counted = e 4 (inl (omega arith, omega arith)) ∙ h.counted;
+    first_at = e 6 (inl (omega arith, omega arith)) ∙ h.first_at;
+    end_at = e 7 (inl (omega arith, omega arith)) ∙ h.end_at;
     within = h.within;
     held = heap-kept heap (512 + s.stack) (512 + s.stack + 2 * spent) ws ws' cells (λ j a b. e j (inr a)) h.held;
   }

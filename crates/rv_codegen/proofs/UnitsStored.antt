@@ -87,9 +87,9 @@ module _ (s : Setting) where
   spent-stored heap ws spent cells c i v x p fits means h =
       let low = h.held.cell_low c i p in
       record {
-        counted = λ t. stored-other ws i v 4 (inl (omega arith)) ∙ h.counted t;
-        first_at = λ t. stored-other ws i v 6 (inl (omega arith)) ∙ h.first_at t;
-        end_at = λ t. stored-other ws i v 7 (inl (omega arith)) ∙ h.end_at t;
+        counted = stored-other ws i v 4 (inl (omega arith)) ∙ h.counted;
+        first_at = stored-other ws i v 6 (inl (omega arith)) ∙ h.first_at;
+        end_at = stored-other ws i v 7 (inl (omega arith)) ∙ h.end_at;
         within = h.within;
         held = heap-stored heap (512 + s.stack) (512 + s.stack + 2 * spent) ws cells c i v x p fits means h.held;
       }

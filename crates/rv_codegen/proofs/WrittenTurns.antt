@@ -41,9 +41,9 @@ module _ (s : Setting) (laid : Laid s) (x : Starting s) where
         let r = x.runs.here.region in
         record {
           size = w.size ∙ ap length x.runs.here.stands.words_are ∙ r.size;
-          alternative = λ o. low-kept 1 (omega (arith, high)) ∙ r.alternative o;
-          trap = λ o. low-kept 2 (omega (arith, high)) ∙ r.trap o;
-          mark = λ o. low-kept 3 (omega (arith, high)) ∙ r.mark o;
+          alternative = low-kept 1 (omega (arith, high)) ∙ r.alternative;
+          trap = low-kept 2 (omega (arith, high)) ∙ r.trap;
+          mark = low-kept 3 (omega (arith, high)) ∙ r.mark;
         }
 
     -- the code then goes on from a point to another

@@ -1,44 +1,60 @@
 -- The items that the code of an action is assembled from.
 use Rattle.std.specs.Prelude.{ℕ, suc, ◌+◌, ◌*◌, nat_eq, nat_lt, if◌then◌else◌, true, List, [], ◌∷◌, ◌++◌, map, pos, slice_index, slice_set, replicate, length}
 use Rattle.rv_code.specs.declared.instruction.Inst.{Inst}
-use Rattle.rv_code.specs.declared.instruction.Inst.TheVariants.{Op, OpImm, Shift, Upper, Jalr}
+use Rattle.rv_code.specs.declared.instruction.Inst.TheVariants.{Op, OpImm}
 use Rattle.rv_code.specs.declared.instruction.OpOp.TheVariants.{Add}
 use Rattle.rv_code.specs.declared.instruction.OpImmOp.TheVariants.{Addi}
-use Rattle.rv_code.specs.declared.instruction.ShiftOp.TheVariants.{Slli, Srli}
-use Rattle.rv_code.specs.declared.instruction.UpperOp.TheVariants.{Lui}
 use Rattle.rv_asm.specs.Conventions.{frame_register}
-use Rattle.rv_asm.specs.Pieces.{send_word, exit_with, load_constant}
+use Rattle.rv_asm.specs.Pieces.{load_constant}
 use Rattle.rv_asm.specs.declared.item.Item.{Item}
 use Rattle.rv_asm.specs.declared.item.Item.TheVariants.{Plain, Mark, Jump, Address}
 use Rattle.action_terms.specs.Actions.{Yielder, Item as DataItem, Complete, Failing, Escape, Commit, Regive, Give, Check, Send, Node, Simple, Both, Phases, Action}
 use Rattle.rv_yield.specs.Conditions.{condition_items}
 use Rattle.rv_yield.specs.Registers.{first_register}
 use Rattle.rv_yield.specs.YielderCode.{value_items}
+use Rattle.rv_prelude.specs.Items.{entries_from, prelude_items}
+use Rattle.rv_prelude.specs.Pieces.{commit}
 use Rattle.frame_layout.specs.Places.{Frame}
 use Rattle.rv_codegen.specs.Aliases.{given_of, out_of, places_in}
 use Rattle.rv_codegen.specs.GivenItems.{give_items, moves_items}
 
--- ---- labels
+-- ---- labels: first those of the prelude, `entries_from 0`
+
+-- the end of a run whose action has completed
+abbrev pub completed_label : ℕ
+completed_label = 0
+
+-- the end of one whose action has failed
+abbrev pub failed_label : ℕ
+failed_label = 1
+
+-- the end of one whose action has escaped
+abbrev pub escaped_label : ℕ
+escaped_label = 2
 
 -- the entry for failures
 abbrev pub fail_label : ℕ
-fail_label = 0
+fail_label = 4
 
 -- the entry for escapes
 abbrev pub escape_label : ℕ
-escape_label = 1
+escape_label = 5
 
 -- the entry that sends
 abbrev pub send_label : ℕ
-send_label = 2
+send_label = 7
+
+-- where the first instructions arrive
+abbrev pub start_label : ℕ
+start_label = 10
 
 -- the end of the code
 abbrev pub end_label : ℕ
-end_label = 3
+end_label = 11
 
 -- how many labels there are before those of nodes
 abbrev pub first_label : ℕ
-first_label = 4
+first_label = 12
 
 -- A node has four labels, in the order in which they stand.
 
@@ -57,24 +73,6 @@ start_of k = first_label + 2 + 4 * k
 -- the place behind what node k calls
 abbrev pub stop_of : ℕ → ℕ
 stop_of k = first_label + 3 + 4 * k
-
--- ---- the first instructions
-
--- rounds the address in register 3 up to a multiple of 4096, and puts the address 4096 bytes behind that into register 2
-abbrev pub round_up : List Inst
-round_up =
-    OpImm Addi 3 3 (pos 2047)
-    ∷ OpImm Addi 3 3 (pos 2047)
-    ∷ OpImm Addi 3 3 (pos 1)
-    ∷ Shift Srli 3 3 12
-    ∷ Shift Slli 3 3 12
-    ∷ Upper Lui 2 (pos 4096)
-    ∷ Op Add 2 2 3
-    ∷ []
-
--- register 3 holds the region's address: the least multiple of 4096 not below the end of the code; register 2 that of the stack
-abbrev pub prelude : List Item
-prelude = Address 3 end_label ∷ map Plain round_up
 
 -- ---- nodes
 
@@ -102,9 +100,13 @@ goes next label = if nat_eq label next then [] else Jump label ∷ []
 abbrev pub leaves : (k exit : ℕ) → List Item
 leaves k exit = goes (front_of (suc k)) exit
 
--- sends the integer of a yielder by the entry that sends; where the yielder yields nothing, this goes to the entry for failures
+-- sends the integer of a yielder by the entry that sends, which commits; where the yielder yields nothing, this goes to the entry for failures
 abbrev pub sends : (given : List ℕ) → (k : ℕ) → Yielder → List Item
 sends given k y = value_items given 10 10 fail_label y ++ (Address 1 (stop_of k) ∷ Jump send_label ∷ Mark (stop_of k) ∷ [])
+
+-- closes every open alternative
+abbrev pub commits : (k : ℕ) → List Item
+commits k = map Plain commit ++ Mark (stop_of k) ∷ []
 
 -- goes on where a yielder yields `true`, and else to the entry for failures
 abbrev pub checks : (given : List ℕ) → (k : ℕ) → Yielder → List Item
@@ -128,10 +130,10 @@ address_items offset =
 abbrev pub escapes : (given : List ℕ) → List Item
 escapes given = map Plain (address_items (slice_index given 0)) ++ Jump escape_label ∷ []
 
--- the code of node k behind its start, where the node goes on at a label, finds its data at the words `given` and leaves them at the words `out`. No alternative is open
+-- the code of node k behind its start, where the node goes on at a label, finds its data at the words `given` and leaves them at the words `out`
 abbrev pub body : (given out : List ℕ) → (k exit : ℕ) → Node → List Item
 body given out k exit (Simple Complete) = leaves k exit
-body given out k exit (Simple Commit) = leaves k exit
+body given out k exit (Simple Commit) = commits k ++ leaves k exit
 body given out k exit (Simple Regive) = regives given out k ++ leaves k exit
 body given out k exit (Simple (Give is)) = gives given out k is ++ leaves k exit
 body given out k exit (Simple Failing) = Jump fail_label ∷ []
@@ -156,26 +158,17 @@ blocks_from given out k exits [] = []
 blocks_from given out k exits (n ∷ a) =
     block (given k) (out k) k (slice_index exits k) n ++ blocks_from given out (suc k) exits a
 
--- ---- the entries
+-- ---- all of the code
 
--- sends the integer in register 10 and returns to the address in register 1
-abbrev pub send_entry : List Inst
-send_entry = send_word 10 0 ++ Jalr 0 1 (pos 0) ∷ []
+-- what stands behind the last of so many nodes: an action that has completed goes to the end of the run for that
+abbrev pub ending : (nodes : ℕ) → List Item
+ending nodes = opening nodes ++ (Jump completed_label ∷ Mark end_label ∷ [])
 
--- what stands behind the last of so many nodes: the exits of an action that has completed, of one that has failed and of one
--- that has escaped, and the entry that sends
-abbrev pub entries : (nodes : ℕ) → List Item
-entries nodes =
-    opening nodes
-    ++ (map Plain (exit_with 0)
-    ++ ((Mark fail_label ∷ map Plain (exit_with 1))
-    ++ ((Mark escape_label ∷ map Plain (exit_with 2))
-    ++ (Mark send_label ∷ (map Plain send_entry ++ Mark end_label ∷ [])))))
-
--- the code of an action: the first instructions, from which the run comes to the root, the nodes, and the entries
-abbrev pub action_items : (given out : ℕ → List ℕ) → Action → List Item
-action_items given out a = prelude ++ (blocks_from given out 0 (exits_of a) a ++ entries (length a))
+-- the code of an action for a capacity: the prelude, from which the run comes to the root, and the nodes
+abbrev pub action_items : (given out : ℕ → List ℕ) → (stack units : ℕ) → Action → List Item
+action_items given out stack units a =
+    prelude_items (entries_from 0) stack units ++ (Mark start_label ∷ (blocks_from given out 0 (exits_of a) a ++ ending (length a)))
 
 -- the same, with the places that these frames have for data
-abbrev pub framed_items : Action → List Frame → List Item
-framed_items a fs = action_items (given_of (places_in a fs) a) (out_of (places_in a fs) a) a
+abbrev pub framed_items : Action → List Frame → (stack units : ℕ) → List Item
+framed_items a fs stack units = action_items (given_of (places_in a fs) a) (out_of (places_in a fs) a) stack units a

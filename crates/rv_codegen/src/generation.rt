@@ -1,6 +1,6 @@
 //! The code of an action, for any action whose nodes are built.
 
-ghost use Rattle.std.specs.Prelude.{◌≡◌, ℕ, ◌+◌, ◌*◌, ◌<◌, ◌≤◌, [], All, OnOk, IfOk, length, Some, map, sum_by};
+ghost use Rattle.std.specs.Prelude.{◌≡◌, ℕ, ◌+◌, ◌*◌, ◌<◌, ◌≤◌, [], ◌++◌, All, OnOk, IfOk, length, Some, map, sum_by};
 ghost use Rattle.rv_code.specs.Encode.{encode};
 ghost use Rattle.rv_asm.specs.Arrivals.{LabelsStand};
 ghost use Rattle.rv_asm.specs.Assembly.{total, code_of};
@@ -16,7 +16,7 @@ ghost use Rattle.sort_rules.specs.Tables.{MarkedTable};
 ghost use Rattle.frame_layout.specs.Layouts.{HasApartNodes, IsLayout};
 ghost use Rattle.frame_layout.specs.Places.{frames_of};
 ghost use Rattle.rv_codegen.specs.Aliases.{list_at, lists_of, words_at};
-ghost use Rattle.rv_codegen.specs.Blocks.{first_label, blocks_from, action_items, framed_items};
+ghost use Rattle.rv_codegen.specs.Blocks.{first_label, blocks_from, ending, action_items, framed_items};
 ghost use Rattle.rv_codegen.specs.Marks.{extended, AreFresh};
 ghost use Rattle.rv_codegen.specs.Built.{unbuilt};
 ghost use Rattle.rv_codegen.specs.ItemCode.{AreReached};
@@ -24,7 +24,7 @@ ghost use Rattle.rv_codegen.specs.Measures.{node_count};
 ghost use Rattle.rv_codegen.specs.RightImage.{compiled_image, IsRight};
 
 use crate::data_tables::data_tables;
-use crate::entries::{append_entries, append_prelude, make_entries};
+use crate::entries::{append_ending, append_prelude};
 use crate::exits::make_exits;
 use crate::labels::{NodeLabels, make_labels};
 use crate::node::append_node;
@@ -59,47 +59,52 @@ fn append_nodes(asm: &mut Asm, plan: Plan<'_, '_, '_>) -> Result<(), Memory>
     Ok(())
 }
 
-/// Appends all of the code: the first instructions, the nodes and the entries.
+/// Appends the code of all nodes, and what stands behind them.
 fn append_action(asm: &mut Asm, plan: Plan<'_, '_, '_>) -> Result<(), Memory>
-    requires empty { asm.old.items ≡ [] }
     requires made { first_label + length plan.labels.row.now ≤ asm.old.labels }
-    ensures items { OnOk result (asm.new.items
-        ≡ action_items (list_at (lists_of plan.entry.given.now))
-        (list_at (lists_of plan.entry.out.now)) (action_of plan.entry.graph.now)) }
-    ensures short { OnOk result
-        (total asm.new.items ≤ 25 + 530 * length (action_of plan.entry.graph.now)
+    requires fresh { AreFresh 0 asm.old.items }
+    ensures items { OnOk result (asm.new ≡ extended asm.old
+        (blocks_from (list_at (lists_of plan.entry.given.now))
+        (list_at (lists_of plan.entry.out.now)) 0 plan.entry.exits.now
+        (action_of plan.entry.graph.now)
+        ++ ending (length (action_of plan.entry.graph.now)))) }
+    ensures short { OnOk result (total asm.new.items
+        ≤ total asm.old.items + 2 + 530 * length (action_of plan.entry.graph.now)
         + 520 * sum_by node_yielder_count (action_of plan.entry.graph.now)) }
 {
-    append_prelude(asm, plan.entries)?;
     append_nodes(asm, plan)?;
-    append_entries(asm, plan.labels, plan.graph.nodes().len(), plan.entries)
+    append_ending(asm, plan.labels, plan.graph.nodes().len(), plan.entries)
 }
 
-/// The code of a graph's action, by where its nodes find and leave data.
+/// The code of a graph's action for a capacity, by where its nodes find and leave data.
 fn assemble<'l>(
     alloc: Global,
     graph: &Graph<'_>,
     given: &'l [&'l [u32]],
     out: &'l [&'l [u32]],
+    capacity: Capacity,
 ) -> Result<Code, Memory>
     requires built { unbuilt (action_of graph.now) ≡ [] }
     requires given_count { length given.now ≡ length graph.now.nodes }
     requires out_count { length out.now ≡ length graph.now.nodes }
     requires given_reached { (k : ℕ) → AreReached (list_at (lists_of given.now) k) }
     requires out_reached { (k : ℕ) → AreReached (list_at (lists_of out.now) k) }
+    requires stack { (1 ≤ capacity.stack) × (capacity.stack ≤ 16777216) }
+    requires units { (1 ≤ capacity.units) × (capacity.units ≤ 4194304) }
     ensures words { IfOk result (λ code. map Some code.words.items
         ≡ map encode (code_of (action_items (list_at (lists_of given.now))
-        (list_at (lists_of out.now)) (action_of graph.now)))) }
+        (list_at (lists_of out.now)) capacity.stack capacity.units (action_of graph.now)))) }
     ensures labels { OnOk result (LabelsStand (action_items (list_at (lists_of given.now))
-        (list_at (lists_of out.now)) (action_of graph.now))) }
+        (list_at (lists_of out.now)) capacity.stack capacity.units (action_of graph.now))) }
     ensures short { OnOk result
         (total (action_items (list_at (lists_of given.now)) (list_at (lists_of out.now))
-        (action_of graph.now)) ≤ 25 + 530 * node_count (action_of graph.now)) }
+        capacity.stack capacity.units (action_of graph.now))
+        ≤ 4098 + 530 * node_count (action_of graph.now)) }
     ensures numbers { OnOk result (NumbersFit (action_of graph.now)) }
 {
     let count = graph.nodes().len();
     let mut asm = Asm::new(alloc)?;
-    let entries = make_entries(&mut asm)?;
+    let entries = append_prelude(&mut asm, capacity)?;
     let row = make_labels(alloc, &mut asm, 4 * count + 4)?;
     let labels = NodeLabels { row: &row };
     let exits = make_exits(alloc, graph, labels)?;
@@ -118,25 +123,35 @@ fn assemble<'l>(
     asm.finish()
 }
 
-/// The code of a graph's action, with the places of a layout for its data.
-fn assemble_framed(alloc: Global, graph: &Graph<'_>, layout: &Layout<'_>) -> Result<Code, Memory>
+/// The code of a graph's action for a capacity, with the places of a layout for its data.
+fn assemble_framed(
+    alloc: Global,
+    graph: &Graph<'_>,
+    layout: &Layout<'_>,
+    capacity: Capacity,
+) -> Result<Code, Memory>
     requires built { unbuilt (action_of graph.now) ≡ [] }
     requires table { (t : MarkedTable) × (width (length (action_of graph.now)) t ≤ 64)
         × IsLayout (action_of graph.now) t (frames_of layout.now) }
     requires apart { All HasApartNodes (frames_of layout.now) }
+    requires stack { (1 ≤ capacity.stack) × (capacity.stack ≤ 16777216) }
+    requires units { (1 ≤ capacity.units) × (capacity.units ≤ 4194304) }
     ensures words { IfOk result (λ code. map Some code.words.items
-        ≡ map encode (code_of (framed_items (action_of graph.now) (frames_of layout.now)))) }
+        ≡ map encode (code_of (framed_items (action_of graph.now) (frames_of layout.now)
+        capacity.stack capacity.units))) }
     ensures labels { OnOk result
-        (LabelsStand (framed_items (action_of graph.now) (frames_of layout.now))) }
+        (LabelsStand (framed_items (action_of graph.now) (frames_of layout.now)
+        capacity.stack capacity.units)) }
     ensures short { OnOk result
-        (total (framed_items (action_of graph.now) (frames_of layout.now))
-        ≤ 25 + 530 * node_count (action_of graph.now)) }
+        (total (framed_items (action_of graph.now) (frames_of layout.now)
+        capacity.stack capacity.units)
+        ≤ 4098 + 530 * node_count (action_of graph.now)) }
     ensures numbers { OnOk result (NumbersFit (action_of graph.now)) }
 {
     let count = graph.nodes().len();
     let places = places_by_number(alloc, layout, count)?;
     let tables = data_tables(alloc, graph, &places)?;
-    assemble(alloc, graph, &tables.given, &tables.out)
+    assemble(alloc, graph, &tables.given, &tables.out, capacity)
 }
 
 /// The code of an action whose nodes are built, for an admissible table of its sorts, a layout of
@@ -176,5 +191,5 @@ pub fn generate(
     if u64::from(main_words(layout)) > capacity.stack {
         return full_code(alloc);
     }
-    assemble_framed(alloc, graph, layout)
+    assemble_framed(alloc, graph, layout, capacity)
 }

@@ -9,7 +9,7 @@ ghost use Rattle.action_terms.specs.Meaning.{action_of};
 ghost use Rattle.action_terms.specs.Need.{items_yielder_count, node_yielder_count, yielder_count};
 ghost use Rattle.action_terms.specs.Numbering.{node_limit};
 ghost use Rattle.rv_yield.specs.Registers.{is_built};
-ghost use Rattle.rv_codegen.specs.Blocks.{first_label, start_of, stop_of, goes, leaves, address_items, escapes, gives, regives, checks, sends, body, block};
+ghost use Rattle.rv_codegen.specs.Blocks.{first_label, start_of, stop_of, goes, leaves, address_items, escapes, commits, gives, regives, checks, sends, body, block};
 ghost use Rattle.rv_codegen.specs.Aliases.{list_at, lists_of};
 ghost use Rattle.rv_codegen.specs.Marks.{extended, AreFresh, PlacesStop};
 ghost use Rattle.rv_codegen.specs.Built.{are_built, is_built_node};
@@ -22,6 +22,7 @@ use action_terms::{NodeView, PrimitiveView};
 use rv_asm::pieces::load_constant;
 use rv_asm::{Asm, Label};
 use rv_code::{Inst, OpImmOp, OpOp};
+use rv_prelude::pieces::commit;
 use rv_yield::{Source, condition_code, value_code};
 
 /// Appends the way to a label from before another: nothing where that is the one.
@@ -187,6 +188,41 @@ fn append_regiving(
     append_way(asm, next, exit)
 }
 
+/// Appends what closes every open alternative.
+#[tactic(auto, using(crate::proofs::Fresh::freshness))]
+fn append_commits(asm: &mut Asm, plan: Plan<'_, '_, '_>, k: usize) -> Result<(), Memory>
+    requires node { k < length plan.graph.now.nodes }
+    requires made { first_label + length plan.labels.row.now ≤ asm.old.labels }
+    requires stop { is_placed asm.old.items (stop_of k) ≡ false }
+    ensures items { OnOk result (asm.new ≡ extended asm.old (commits k)) }
+    ensures marks { OnOk result (PlacesStop k asm.old.items asm.new.items) }
+    ensures short { OnOk result (total asm.new.items ≤ total asm.old.items + 3) }
+{
+    commit(asm)?;
+    asm.place(plan.labels.stop(k));
+    Ok(())
+}
+
+/// Appends the code of node k where it commits and goes on at a label.
+fn append_committing(
+    asm: &mut Asm,
+    plan: Plan<'_, '_, '_>,
+    k: usize,
+    exit: Label,
+) -> Result<(), Memory>
+    requires node { k < length plan.graph.now.nodes }
+    requires made { first_label + length plan.labels.row.now ≤ asm.old.labels }
+    requires exit { exit < asm.old.labels }
+    requires stop { is_placed asm.old.items (stop_of k) ≡ false }
+    ensures items { OnOk result (asm.new ≡ extended asm.old (commits k ++ leaves k exit)) }
+    ensures marks { OnOk result (PlacesStop k asm.old.items asm.new.items) }
+    ensures short { OnOk result (total asm.new.items ≤ total asm.old.items + 5) }
+{
+    let next = plan.labels.front(k + 1);
+    append_commits(asm, plan, k)?;
+    append_way(asm, next, exit)
+}
+
 /// Appends what sends the integer of a yielder by the entry that sends. Where the yielder yields
 /// nothing, that goes to the entry for failures.
 #[tactic(auto, using(crate::proofs::Fresh::freshness))]
@@ -334,9 +370,8 @@ fn append_primitive(
         (Simple (primitive_viewed plan.entry.graph.now.yielders primitive.entry))) }
 {
     match primitive {
-        PrimitiveView::Complete | PrimitiveView::Commit => {
-            append_way(asm, plan.labels.front(k + 1), exit)
-        }
+        PrimitiveView::Complete => append_way(asm, plan.labels.front(k + 1), exit),
+        PrimitiveView::Commit => append_committing(asm, plan, k, exit),
         PrimitiveView::Regive => append_regiving(asm, plan, k, exit),
         PrimitiveView::Give { items } => append_giving(asm, plan, k, exit, items),
         PrimitiveView::Failing => asm.jump(plan.entries.fail),

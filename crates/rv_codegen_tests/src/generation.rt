@@ -63,14 +63,24 @@ fn code_of(
     }
 }
 
-// The words of (send 7 and send -1) and then (complete and fail). They are those that llvm-mc gives
-// for the first instructions, the blocks and the entries written in its notation.
-const WORDS: [u32; 37] = [
-    0x00000197, 0x09418193, 0x7ff18193, 0x7ff18193, 0x00118193, 0x00c1d193, 0x00c19193, 0x00001137,
-    0x00310133, 0x00700513, 0x00000097, 0x01008093, 0x00000f97, 0x048f8067, 0xfff00513, 0x00000097,
-    0x01008093, 0x00000f97, 0x034f8067, 0x00000f97, 0x014f8067, 0x00000513, 0x05d00893, 0x00000073,
-    0x00100513, 0x05d00893, 0x00000073, 0x00200513, 0x05d00893, 0x00000073, 0x00a1b023, 0x00018593,
-    0x00800613, 0x04000893, 0x00100513, 0x00000073, 0x00008067,
+// The words of (send 7 and send -1) and then (complete and fail), for a stack of 1024 words and one unit. They are
+// those that llvm-mc gives for the first instructions, the entries and the blocks written in its notation.
+const WORDS: [u32; 119] = [
+    0x00000197, 0x1dc18193, 0x7ff18193, 0x7ff18193, 0x00118193, 0x00c1d193, 0x00c19193, 0x00001137,
+    0x00310133, 0x000032b7, 0x00028293, 0x003282b3, 0x0251b423, 0x0251b823, 0x01000313, 0x00530333,
+    0x0261bc23, 0x00000f97, 0x160f8067, 0x00000513, 0x05d00893, 0x00000073, 0x00100513, 0x05d00893,
+    0x00000073, 0x00200513, 0x05d00893, 0x00000073, 0x00300513, 0x05d00893, 0x00000073, 0x0081b283,
+    0x00029663, 0x00000f97, 0xfd4f8067, 0x0002b303, 0x0061b423, 0x0102b303, 0x0061b823, 0x0182b303,
+    0x0061bc23, 0x0202b103, 0x0082b283, 0x00028067, 0x0101b283, 0x00029663, 0x00000f97, 0xfacf8067,
+    0x0181b303, 0x00000393, 0x00031663, 0x0002b383, 0x0182b303, 0x0071b423, 0x0102b383, 0x0071b823,
+    0x0061bc23, 0x0202b103, 0x0082b283, 0x00028067, 0x0001b423, 0x00100293, 0x0051bc23, 0x00008067,
+    0x00a1b023, 0x00018593, 0x00800613, 0x04000893, 0x00100513, 0x00000073, 0x0001b423, 0x00100293,
+    0x0051bc23, 0x00008067, 0x00018593, 0x00800613, 0x03f00893, 0x00000513, 0x00000073, 0x00800293,
+    0x00550663, 0x00000f97, 0xf38f8067, 0x0001b503, 0x0001b423, 0x00100293, 0x0051bc23, 0x00008067,
+    0x0201b283, 0x0301b403, 0x0381b383, 0x00429313, 0x00640433, 0x01040313, 0x0063f663, 0x00000f97,
+    0xef4f8067, 0x00128293, 0x0251b023, 0x00043023, 0x00040513, 0x0001b423, 0x00100293, 0x0051bc23,
+    0x00008067, 0x00700513, 0x00000097, 0x01008093, 0x00000f97, 0xf50f8067, 0xfff00513, 0x00000097,
+    0x01008093, 0x00000f97, 0xf3cf8067, 0x00000f97, 0xeb0f8067, 0x00000f97, 0xe78f8067,
 ];
 
 #[test]
@@ -101,9 +111,9 @@ fn count_words(rt: &impl Abort, alloc: Global, nodes: &[Pushed<'_>]) -> Result<u
     Ok(code.words.len())
 }
 
-// A chain of three sends has 9 words before it and 16 behind it. A send of a small number has one word for the
-// number, two for the address to return to and two for the jump to the entry, and no jump stands between the parts,
-// however they are grouped.
+// A chain of three sends has 19 words of first instructions and 86 of entries before it, and a jump behind it. A send
+// of a small number has one word for the number, two for the address to return to and two for the jump to the entry,
+// and no jump stands between the parts, however they are grouped.
 #[test]
 fn no_jump_between_sends(rt: HostRuntime) -> Result<(), Fail> {
     let to_the_right = [
@@ -118,7 +128,7 @@ fn no_jump_between_sends(rt: HostRuntime) -> Result<(), Fail> {
     ];
     assert_eq!(rt;
         count_words(&rt, rt.alloc(), &to_the_right)?,
-        9 + 3 * (1 + 2 + 2) + 16
+        19 + 86 + 3 * (1 + 2 + 2) + 2
     );
 
     let to_the_left = [
@@ -133,7 +143,7 @@ fn no_jump_between_sends(rt: HostRuntime) -> Result<(), Fail> {
     ];
     assert_eq!(rt;
         count_words(&rt, rt.alloc(), &to_the_left)?,
-        9 + 3 * (1 + 2 + 2) + 16
+        19 + 86 + 3 * (1 + 2 + 2) + 2
     );
     Ok(())
 }
@@ -165,9 +175,9 @@ fn image_of(rt: &impl Abort, alloc: Global, words: &[u32]) -> Result<Image, Fail
     })
 }
 
-// send 1 and then (send 2 and then send 3), performed: 9 instructions come to the root. A send takes one for the
-// number, two for the address to return to, two for the jump to the entry and seven there. An exit takes two, and
-// a third that doesn't return. Nothing is done between the sends.
+// send 1 and then (send 2 and then send 3), performed: 19 instructions come to the root. A send takes one for the
+// number, two for the address to return to, two for the jump to the entry and ten there. The way to the exit takes
+// two, and the exit two and a third that doesn't return. Nothing is done between the sends.
 #[test]
 fn instructions_of_three_sends(rt: HostRuntime) -> Result<(), Fail> {
     let arena = Bump::new(rt.alloc());
@@ -193,7 +203,7 @@ fn instructions_of_three_sends(rt: HostRuntime) -> Result<(), Fail> {
         machine.run(1000, &mut input, &mut sink),
         Run::Exited { code: 0 }
     );
-    assert_eq!(rt; machine.taken(), 9 + 3 * (1 + 2 + 2 + 7) + 2);
+    assert_eq!(rt; machine.taken(), 19 + 3 * (1 + 2 + 2 + 10) + 2 + 2);
     Ok(())
 }
 

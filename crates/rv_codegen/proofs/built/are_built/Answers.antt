@@ -1,4 +1,4 @@
-use Rattle.std.proofs.Common.{sym, ap, ◌∙◌}
+use Rattle.std.proofs.Common.{sym, ◌∙◌}
 use Rattle.rv_codegen.proofs.BuiltCode.{built-on, built-stops}
 use Rattle.rv_codegen.proofs.built.are_built.Goals as goal
 

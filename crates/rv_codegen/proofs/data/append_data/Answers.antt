@@ -1,7 +1,7 @@
 use Rattle.std.proofs.Common.{ap, sym, subst, ◌∙◌, ◌<◌, All, arith}
 use Rattle.std.proofs.lemmas.List.Elements.{All-drop}
-use Rattle.rv_codegen.proofs.BuiltCode.{built-first, built-rest, count-next, items-next}
-use Rattle.rv_codegen.proofs.DataItems.{gives-done, gives-next}
+use Rattle.rv_codegen.proofs.BuiltCode.{built-rest, count-next, items-next}
+use Rattle.rv_codegen.proofs.DataItems.{gives-next}
 use Rattle.rv_codegen.proofs.data.append_data.Goals as goal
 
 pub loop-item-preserved : goal.loop-item-preserved

@@ -1,12 +1,15 @@
-use Rattle.std.proofs.Common.{◌≡◌, ◌+◌, ◌*◌, ◌≤◌, IfOk, OnOk, Some, map, length, ap, ◌∙◌, arith, subst}
+use Rattle.std.proofs.Common.{◌≡◌, ◌+◌, ◌*◌, ◌≤◌, ◌++◌, IfOk, OnOk, Some, map, length, ap, ◌∙◌, arith, subst}
 use Rattle.rv_code.specs.Encode.{encode}
 use Rattle.rv_asm.specs.Arrivals.{LabelsStand}
 use Rattle.rv_asm.specs.Assembly.{code_of, total}
 use Rattle.std.proofs.lemmas.List.{length-map}
 use Rattle.action_terms.specs.Nodes.{listed_node}
 use Rattle.action_terms.specs.Meaning.{action_of}
+use Rattle.rv_prelude.specs.Items.{entries_from, prelude_items}
+use Rattle.rv_codegen.specs.Aliases.{list_at, lists_of}
+use Rattle.rv_codegen.specs.Blocks.{action_items, blocks_from, ending, exits_of, start_label}
 use Rattle.rv_codegen.specs.Measures.{node_count}
-use Rattle.rv_codegen.proofs.Emitting.{OnOk-always}
+use Rattle.rv_codegen.proofs.Emitting.{OnOk-always, whole-code}
 use Rattle.rv_codegen.proofs.ExitLaws.{exits-made}
 use Rattle.rv_codegen.proofs.GraphNodes.{length-action_of, tree-of-graph}
 use Rattle.rv_codegen.proofs.Generated.{count-few}
@@ -15,15 +18,41 @@ use Rattle.rv_codegen.proofs.generation.assemble.Goals as goal
 
 pub returns-clause-words : goal.returns-clause-words
 returns-clause-words c =
-    subst (λ items. IfOk c.finish.result (λ code. map Some code.words.items ≡ map encode (code_of items))) c.in_ok-append_action.ensures.items c.finish.ensures.words
+    let graph = c.args.graph.now in
+    let a = action_of graph in
+    let given = list_at (lists_of c.args.given.now) in
+    let out = list_at (lists_of c.args.out.now) in
+    let stack = c.args.capacity.stack in
+    let units = c.args.capacity.units in
+    let exits : c.deref-3.result.now ≡ exits_of a = ap (λ xs. xs) c.deref-3.ensures.value ∙ c.in_ok-exits.ensures.exits in
+    let whole : c.append_action.new.asm.items ≡ action_items given out stack units a = whole-code (prelude_items (entries_from 0) stack units) c.append_prelude.new.asm c.make_labels.new.asm c.append_action.new.asm start_label (blocks_from given out 0 c.deref-3.result.now a ++ ending (length a)) (blocks_from given out 0 (exits_of a) a ++ ending (length a)) (ap (λ z. z.items) c.in_ok-entries.ensures.asm) (ap (λ z. z.items) c.in_ok-row.ensures.asm) c.in_ok-append_action.ensures.items (ap (λ es. blocks_from given out 0 es a ++ ending (length a)) exits) in
+    subst (λ items. IfOk c.finish.result (λ code. map Some code.words.items ≡ map encode (code_of items))) whole c.finish.ensures.words
 
 pub returns-clause-labels : goal.returns-clause-labels
-returns-clause-labels c = subst (λ items. OnOk c.finish.result (LabelsStand items)) c.in_ok-append_action.ensures.items c.finish.ensures.labels
+returns-clause-labels c =
+    let graph = c.args.graph.now in
+    let a = action_of graph in
+    let given = list_at (lists_of c.args.given.now) in
+    let out = list_at (lists_of c.args.out.now) in
+    let stack = c.args.capacity.stack in
+    let units = c.args.capacity.units in
+    let exits : c.deref-3.result.now ≡ exits_of a = ap (λ xs. xs) c.deref-3.ensures.value ∙ c.in_ok-exits.ensures.exits in
+    let whole : c.append_action.new.asm.items ≡ action_items given out stack units a = whole-code (prelude_items (entries_from 0) stack units) c.append_prelude.new.asm c.make_labels.new.asm c.append_action.new.asm start_label (blocks_from given out 0 c.deref-3.result.now a ++ ending (length a)) (blocks_from given out 0 (exits_of a) a ++ ending (length a)) (ap (λ z. z.items) c.in_ok-entries.ensures.asm) (ap (λ z. z.items) c.in_ok-row.ensures.asm) c.in_ok-append_action.ensures.items (ap (λ es. blocks_from given out 0 es a ++ ending (length a)) exits) in
+    subst (λ items. OnOk c.finish.result (LabelsStand items)) whole c.finish.ensures.labels
 
 pub returns-clause-short : goal.returns-clause-short
 returns-clause-short c =
-    let short = c.in_ok-append_action.ensures.short in
-    OnOk-always _ c.finish.result (subst (λ items. total items ≤ 25 + 530 * node_count (action_of c.args.graph.now)) c.in_ok-append_action.ensures.items (omega (arith, short)))
+    let graph = c.args.graph.now in
+    let a = action_of graph in
+    let given = list_at (lists_of c.args.given.now) in
+    let out = list_at (lists_of c.args.out.now) in
+    let stack = c.args.capacity.stack in
+    let units = c.args.capacity.units in
+    let exits : c.deref-3.result.now ≡ exits_of a = ap (λ xs. xs) c.deref-3.ensures.value ∙ c.in_ok-exits.ensures.exits in
+    let whole : c.append_action.new.asm.items ≡ action_items given out stack units a = whole-code (prelude_items (entries_from 0) stack units) c.append_prelude.new.asm c.make_labels.new.asm c.append_action.new.asm start_label (blocks_from given out 0 c.deref-3.result.now a ++ ending (length a)) (blocks_from given out 0 (exits_of a) a ++ ending (length a)) (ap (λ z. z.items) c.in_ok-entries.ensures.asm) (ap (λ z. z.items) c.in_ok-row.ensures.asm) c.in_ok-append_action.ensures.items (ap (λ es. blocks_from given out 0 es a ++ ending (length a)) exits) in
+    let many : total c.make_labels.new.asm.items ≤ 4096 = omega (arith, c.in_ok-entries.ensures.short, ap (λ z. total z.items) c.in_ok-row.ensures.asm) in
+    let short : total c.append_action.new.asm.items ≤ 4098 + 530 * node_count (action_of c.args.graph.now) = omega (arith, c.in_ok-append_action.ensures.short, many) in
+    OnOk-always _ c.finish.result (subst (λ items. total items ≤ 4098 + 530 * node_count a) whole short)
 
 pub invariant_of-plan-clause-made : goal.invariant_of-plan-clause-made
 invariant_of-plan-clause-made c =
@@ -34,4 +63,7 @@ pub invariant_of-plan-clause-few : goal.invariant_of-plan-clause-few
 invariant_of-plan-clause-few c = node-few c.args.graph.now c.nodes-count.ensures.of_an_action
 
 pub finish-requires : goal.finish-requires
-finish-requires c = omega (arith, c.in_ok-append_action.ensures.short, count-few c.args.graph.now c.nodes-count.ensures.of_an_action)
+finish-requires c =
+    let many : total c.make_labels.new.asm.items ≤ 4096 = omega (arith, c.in_ok-entries.ensures.short, ap (λ z. total z.items) c.in_ok-row.ensures.asm) in
+    let short : total c.append_action.new.asm.items ≤ 4098 + 530 * node_count (action_of c.args.graph.now) = omega (arith, c.in_ok-append_action.ensures.short, many) in
+    omega (arith, short, count-few c.args.graph.now c.nodes-count.ensures.of_an_action)

@@ -68,7 +68,7 @@ returns-clause-words c =
     let same : map placed_node c.deref.result.now ≡ put_frames fs (replicate (length a) nowhere) = ap (map placed_node) c.deref.ensures.value ∙ c.in_ok-places.ensures ∙ ap (λ (n : ℕ). put_frames fs (replicate n nowhere)) count in
     let given_is = λ (k : ℕ) (less : k < length a). ap (λ (ys : List (Bor (List ℕ))). list_at (lists_of ys) k) c.deref-2.ensures.value ∙ c.in_ok-tables.ensures.given k (omega (arith, less, length-action_of g)) ∙ ap (λ (ns : List PlacedNode). given_of (place_at ns) a k) same in
     let out_is = λ (k : ℕ) (less : k < length a). ap (λ (ys : List (Bor (List ℕ))). list_at (lists_of ys) k) c.deref-3.ensures.value ∙ c.in_ok-tables.ensures.out k (omega (arith, less, length-action_of g)) ∙ ap (λ (ns : List PlacedNode). out_of (place_at ns) a k) same in
-    let framed = framed-same a fs (list_at (lists_of c.deref-2.result.now)) (list_at (lists_of c.deref-3.result.now)) given_is out_is in
+    let framed = framed-same a fs c.args.capacity.stack c.args.capacity.units (list_at (lists_of c.deref-2.result.now)) (list_at (lists_of c.deref-3.result.now)) given_is out_is in
     subst (λ (items : List Item). IfOk c.assemble.result (λ code. map Some code.words.items ≡ map encode (code_of items))) framed c.assemble.ensures.words
 
 pub returns-clause-labels : goal.returns-clause-labels
@@ -80,7 +80,7 @@ returns-clause-labels c =
     let same : map placed_node c.deref.result.now ≡ put_frames fs (replicate (length a) nowhere) = ap (map placed_node) c.deref.ensures.value ∙ c.in_ok-places.ensures ∙ ap (λ (n : ℕ). put_frames fs (replicate n nowhere)) count in
     let given_is = λ (k : ℕ) (less : k < length a). ap (λ (ys : List (Bor (List ℕ))). list_at (lists_of ys) k) c.deref-2.ensures.value ∙ c.in_ok-tables.ensures.given k (omega (arith, less, length-action_of g)) ∙ ap (λ (ns : List PlacedNode). given_of (place_at ns) a k) same in
     let out_is = λ (k : ℕ) (less : k < length a). ap (λ (ys : List (Bor (List ℕ))). list_at (lists_of ys) k) c.deref-3.ensures.value ∙ c.in_ok-tables.ensures.out k (omega (arith, less, length-action_of g)) ∙ ap (λ (ns : List PlacedNode). out_of (place_at ns) a k) same in
-    let framed = framed-same a fs (list_at (lists_of c.deref-2.result.now)) (list_at (lists_of c.deref-3.result.now)) given_is out_is in
+    let framed = framed-same a fs c.args.capacity.stack c.args.capacity.units (list_at (lists_of c.deref-2.result.now)) (list_at (lists_of c.deref-3.result.now)) given_is out_is in
     subst (λ (items : List Item). OnOk c.assemble.result (LabelsStand items)) framed c.assemble.ensures.labels
 
 pub returns-clause-short : goal.returns-clause-short
@@ -92,5 +92,5 @@ returns-clause-short c =
     let same : map placed_node c.deref.result.now ≡ put_frames fs (replicate (length a) nowhere) = ap (map placed_node) c.deref.ensures.value ∙ c.in_ok-places.ensures ∙ ap (λ (n : ℕ). put_frames fs (replicate n nowhere)) count in
     let given_is = λ (k : ℕ) (less : k < length a). ap (λ (ys : List (Bor (List ℕ))). list_at (lists_of ys) k) c.deref-2.ensures.value ∙ c.in_ok-tables.ensures.given k (omega (arith, less, length-action_of g)) ∙ ap (λ (ns : List PlacedNode). given_of (place_at ns) a k) same in
     let out_is = λ (k : ℕ) (less : k < length a). ap (λ (ys : List (Bor (List ℕ))). list_at (lists_of ys) k) c.deref-3.ensures.value ∙ c.in_ok-tables.ensures.out k (omega (arith, less, length-action_of g)) ∙ ap (λ (ns : List PlacedNode). out_of (place_at ns) a k) same in
-    let framed = framed-same a fs (list_at (lists_of c.deref-2.result.now)) (list_at (lists_of c.deref-3.result.now)) given_is out_is in
-    subst (λ (items : List Item). OnOk c.assemble.result (total items ≤ 25 + 530 * node_count a)) framed c.assemble.ensures.short
+    let framed = framed-same a fs c.args.capacity.stack c.args.capacity.units (list_at (lists_of c.deref-2.result.now)) (list_at (lists_of c.deref-3.result.now)) given_is out_is in
+    subst (λ (items : List Item). OnOk c.assemble.result (total items ≤ 4098 + 530 * node_count a)) framed c.assemble.ensures.short

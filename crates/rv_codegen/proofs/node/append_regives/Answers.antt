@@ -1,4 +1,4 @@
-use Rattle.std.proofs.Common.{◌≡◌, [], ◌∷◌, ◌++◌, ap, ◌∙◌, map, length, take, arith}
+use Rattle.std.proofs.Common.{[], ◌∷◌, ◌++◌, ap, ◌∙◌, map, arith}
 use Rattle.rv_asm.specs.Assembly.{is_placed}
 use Rattle.rv_asm.specs.declared.item.Item.TheVariants.{Mark, Plain}
 use Rattle.rv_codegen.specs.Aliases.{list_at, lists_of}

@@ -1,4 +1,4 @@
-use Rattle.std.proofs.Common.{ℕ, List, [], subst, arith, get_or}
+use Rattle.std.proofs.Common.{ℕ, List, [], subst, arith}
 use Rattle.std.specs.Borrow.{Bor}
 use Rattle.std.proofs.lemmas.List.{get_or-map}
 use Rattle.rv_codegen.specs.ItemCode.{AreReached}
