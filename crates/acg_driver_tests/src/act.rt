@@ -176,6 +176,140 @@ fn data_of_64_places(rt: HostRuntime) -> Result<(), Fail> {
     Ok(())
 }
 
+// Actions with alternatives, what is printed behind the words of the header, and the status.
+const ALTERNATIVES: [(&[u8], &[u8], Status); 12] = [
+    (
+        b"(send 1 and then fail) or send 2",
+        b"448\n1\nfailed\n",
+        Status::Failed,
+    ),
+    (
+        b"(check false and then send 1) or send 2",
+        b"448\n2\ncompleted\n",
+        Status::Done,
+    ),
+    (
+        b"((check false or fail) or send 3) and then escape",
+        b"448\n3\nescaped\n",
+        Status::Escaped,
+    ),
+    (
+        b"(send 1 or send 2) and then send 3",
+        b"448\n1\n3\ncompleted\n",
+        Status::Done,
+    ),
+    (
+        b"(complete or send 1) and then fail",
+        b"448\nfailed\n",
+        Status::Failed,
+    ),
+    (
+        b"(commit and then fail) or send 1",
+        b"448\nfailed\n",
+        Status::Failed,
+    ),
+    (
+        b"((commit or send 1) and then fail) or send 2",
+        b"448\nfailed\n",
+        Status::Failed,
+    ),
+    (
+        b"((fail or send 1) and then fail) or send 2",
+        b"448\n1\nfailed\n",
+        Status::Failed,
+    ),
+    (
+        b"(fail or (fail and complete)) or (escape or send 1)",
+        b"448\nescaped\n",
+        Status::Escaped,
+    ),
+    (
+        b"((give 1 and then fail) or (give 2)) then (send the given integer)",
+        b"496\n2\ncompleted\n",
+        Status::Done,
+    ),
+    (
+        b"(give 5) then ((check is(the given integer, 4)) or (send the given integer))",
+        b"592\n5\ncompleted\n",
+        Status::Done,
+    ),
+    (b"fail or fail", b"424\nfailed\n", Status::Failed),
+];
+
+#[test]
+fn alternatives(rt: HostRuntime) -> Result<(), Fail> {
+    for (action, behind, status) in ALTERNATIVES {
+        let mut printed = Vec::from_slice(rt.alloc(), b"stack 1048576 units 262144 factor ")?;
+        printed.extend_from_slice(behind)?;
+        assert!(rt; acts(rt.alloc(), action, &printed, status)?);
+    }
+    Ok(())
+}
+
+// So many times a text.
+fn repeated(text: &mut Vec<u8>, piece: &[u8], times: usize) -> Result<(), Fail> {
+    for _time in 0..times {
+        text.extend_from_slice(piece)?;
+    }
+    Ok(())
+}
+
+// Alternatives that all fail, nested to the left: each is opened within the first arm of the one before.
+#[test]
+fn alternatives_within_first_arms(rt: HostRuntime) -> Result<(), Fail> {
+    let mut action = Vec::new(rt.alloc());
+    repeated(&mut action, b"(", 20000)?;
+    action.extend_from_slice(b"fail")?;
+    repeated(&mut action, b" or fail)", 20000)?;
+    assert!(rt;
+        acts(
+            rt.alloc(),
+            &action,
+            b"stack 1048576 units 262144 factor 424\nfailed\n",
+            Status::Failed,
+        )?
+    );
+    Ok(())
+}
+
+// Alternatives that all fail, nested to the right: each is the second arm of the one before.
+#[test]
+fn alternatives_within_second_arms(rt: HostRuntime) -> Result<(), Fail> {
+    let mut action = Vec::new(rt.alloc());
+    repeated(&mut action, b"fail or (", 20000)?;
+    action.extend_from_slice(b"fail")?;
+    repeated(&mut action, b")", 20000)?;
+    assert!(rt;
+        acts(
+            rt.alloc(),
+            &action,
+            b"stack 1048576 units 262144 factor 424\nfailed\n",
+            Status::Failed,
+        )?
+    );
+    Ok(())
+}
+
+// A thousand commitments within a thousand open alternatives.
+#[test]
+fn commitments_within_alternatives(rt: HostRuntime) -> Result<(), Fail> {
+    let mut action = Vec::new(rt.alloc());
+    repeated(&mut action, b"(", 1001)?;
+    action.extend_from_slice(b"commit")?;
+    repeated(&mut action, b" and then commit", 999)?;
+    action.extend_from_slice(b")")?;
+    repeated(&mut action, b" or fail)", 1000)?;
+    assert!(rt;
+        acts(
+            rt.alloc(),
+            &action,
+            b"stack 1048576 units 262144 factor 424\ncompleted\n",
+            Status::Done,
+        )?
+    );
+    Ok(())
+}
+
 // Actions with no admissible table, those whose nodes have no code among them.
 const ILL_SORTED: [(&[u8], &[u8]); 7] = [
     (b"enact 1", b"ill-sorted 0\n"),

@@ -8,7 +8,7 @@ use Rattle.action_terms.specs.Actions.{Action, AndThen, Before, Both, Branch, Ch
 use Rattle.action_terms.specs.Performances.{Here, Later, OneOf}
 use Rattle.sort_rules.specs.Procedures.{parts_at}
 use Rattle.frame_layout.specs.Places.{PlacedNode}
-use Rattle.frame_layout.specs.Layouts.{IsInTurn, OfBoth, OfPhases}
+use Rattle.frame_layout.specs.Layouts.{IsInTurn, OfBoth, OfPhases, OfTrapping}
 use Rattle.frame_layout.proofs.GraphParts.{HasTrees}
 use Rattle.frame_layout.proofs.ProcedureRoots.{whole-is}
 use Rattle.rv_codegen.specs.Aliases.{back_places, front_places, given_in, given_of, of_part, out_in, out_of, whole_places}
@@ -181,3 +181,8 @@ module _ (a : Action) (trees : HasTrees a) (p : ℕ → PlacedNode) where
 
   pub trapping-given_left : (n l r : ℕ) → node_at a n ≡ Trapping l r → givens l ≡ givens n
   trapping-given_left n l r e = given-by n l (Trapping l r) e Here ∙ first-of l l (givens n) (p l).escaped refl
+
+  -- the handler finds what the first part escaped with in words that the first part has for it
+  pub trapping-given_right : (n l r : ℕ) → node_at a n ≡ Trapping l r → givens r ≡ (p l).escaped
+  trapping-given_right n l r e =
+      given-by n r (Trapping l r) e (Later Here) ∙ second-of l r (givens n) (p l).escaped (second-other n l r (subst (λ x. IsInTurn x l r) (sym e) OfTrapping))

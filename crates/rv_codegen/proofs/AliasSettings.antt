@@ -34,7 +34,7 @@ two-listed l r k (inl e) = subst (λ i. OneOf i (l ∷ r ∷ [])) e Here
 two-listed l r k (inr e) = subst (λ i. OneOf i (l ∷ r ∷ [])) e (Later Here)
 
 -- a part of a node is one of its parts by number
-part-listed : (n : Node) (k : ℕ) → IsPartOf n k → OneOf k (parts_at n)
+pub part-listed : (n : Node) (k : ℕ) → IsPartOf n k → OneOf k (parts_at n)
 part-listed (Both j l r) k h = two-listed l r k h
 part-listed (Phases q l r) k h = two-listed l r k h
 part-listed (Either l r) k h = two-listed l r k h

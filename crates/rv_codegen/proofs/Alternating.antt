@@ -13,7 +13,7 @@ use Rattle.action_terms.specs.Steps.{ArmOne, open_steps}
 use Rattle.action_terms.proofs.Parts.{quiet, reaches-quiet}
 use Rattle.rv_prelude.specs.PieceRuns.{Comes, HasPlace, quietly}
 use Rattle.rv_prelude.specs.Region.{Chains, HasChains, with_record, with_alternative, without_alternative}
-use Rattle.rv_codegen.specs.Blocks.{joint_of, start_of}
+use Rattle.rv_codegen.specs.Blocks.{start_of}
 use Rattle.rv_codegen.proofs.Around.{OrFrame, Kept}
 use Rattle.rv_codegen.proofs.AroundKept.{Agrees, around-kept, frames-high}
 use Rattle.rv_codegen.proofs.Configurations.{depth, performances}
@@ -22,14 +22,10 @@ use Rattle.rv_codegen.proofs.Holding.{Holds, HoldsBinds, grows-same, holds-kept,
 use Rattle.rv_codegen.proofs.InputLeft.{left-same}
 use Rattle.rv_codegen.proofs.NodeParts.{IsPartOf, KeepsRecord, part-at}
 use Rattle.rv_codegen.proofs.RestPoints.{Laid, Region, IsAt, Starting, starts, StartGoesOn, near, open-run}
-use Rattle.rv_codegen.proofs.Settings.{Point, Way, way-runs, Setting, code, point, front, start, exit}
+use Rattle.rv_codegen.proofs.Settings.{Point, Way, way-runs, Setting, code, front, start, stop, exit}
 use Rattle.rv_codegen.proofs.Units.{units-kept}
 
 module _ (s : Setting) where
-  -- where the first arm goes on: the record is closed there
-  abbrev pub joint : ℕ → Point
-  joint r = point s (joint_of r)
-
   -- the code of node n, whose arms are l and r: it opens a record and goes on to l. Where l has completed, it closes the
   -- record if that is still the innermost, and goes on where the node does
   pub record Alternative (n l r : ℕ) : Type 0 where
@@ -39,14 +35,14 @@ module _ (s : Setting) where
         (f : ℕ) (chains : Chains) (c : WordState) → c.pc ≡ address_of (start s n).place → HasPlace s.base f (s.places.keep n) c → HasChains c.words chains →
         Comes s.base (code s) 20 c (quietly c (address_of opened.place) (with_alternative s.base (f + s.places.keep n) (with_record s.base (f + s.places.keep n) f chains (front s r).place c.words)))
     pub enter : Way (code s) opened (start s l)
-    pub first_exit : exit s l ≡ joint r
+    pub first_exit : exit s l ≡ stop s n
     pub closed : Point
     pub near_closed : closed.place < 2 ^ 28
     pub closes_record :
-        (f : ℕ) (c : WordState) → c.pc ≡ address_of (joint r).place → HasPlace s.base f (s.places.keep n) c → get_or c.words 1 0 ≡ s.base + 8 * (f + s.places.keep n) →
+        (f : ℕ) (c : WordState) → c.pc ≡ address_of (stop s n).place → HasPlace s.base f (s.places.keep n) c → get_or c.words 1 0 ≡ s.base + 8 * (f + s.places.keep n) →
         Comes s.base (code s) 13 c (quietly c (address_of closed.place) (without_alternative (f + s.places.keep n) c.words))
     pub leaves_record :
-        (f : ℕ) (c : WordState) → c.pc ≡ address_of (joint r).place → HasPlace s.base f (s.places.keep n) c → get_or c.words 1 0 ≢ s.base + 8 * (f + s.places.keep n) →
+        (f : ℕ) (c : WordState) → c.pc ≡ address_of (stop s n).place → HasPlace s.base f (s.places.keep n) c → get_or c.words 1 0 ≢ s.base + 8 * (f + s.places.keep n) →
         Comes s.base (code s) 13 c (quietly c (address_of closed.place) c.words)
     pub leave : Way (code s) closed (exit s n)
 

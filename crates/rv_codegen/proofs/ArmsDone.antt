@@ -21,16 +21,16 @@ use Rattle.rv_codegen.proofs.Holding.{Holds, HoldsBinds, Slot, Apart, ApartSlots
 use Rattle.rv_codegen.proofs.InputLeft.{left-same}
 use Rattle.rv_codegen.proofs.NodeParts.{IsPartOf, IsNode, KeepsRecord, part-at}
 use Rattle.rv_codegen.proofs.RestPoints.{Laid, Region, IsAt, Completing, completes, EndGoesOn, near}
-use Rattle.rv_codegen.proofs.Settings.{way-runs, Setting, code, exit, frame_words}
+use Rattle.rv_codegen.proofs.Settings.{way-runs, Setting, code, stop, exit, frame_words}
 use Rattle.rv_codegen.proofs.Units.{units-kept, units-more}
-use Rattle.rv_codegen.proofs.Alternating.{Alternative, joint}
+use Rattle.rv_codegen.proofs.Alternating.{Alternative}
 
 -- no offset is written where nothing is
-none-apart : (os : List ℕ) → Apart (λ x. ⊥) os
+pub none-apart : (os : List ℕ) → Apart (λ x. ⊥) os
 none-apart [] = tt
 none-apart (o ∷ os) = (λ v. v, none-apart os)
 
-none-apart_slots : (ss : List Slot) → ApartSlots (λ x. ⊥) ss
+pub none-apart_slots : (ss : List Slot) → ApartSlots (λ x. ⊥) ss
 none-apart_slots [] = tt
 none-apart_slots (x ∷ ss) = (λ v. v, none-apart_slots ss)
 
@@ -99,8 +99,9 @@ module _ (s : Setting) where
           let k = x.done.k in
           let o = alternative node k k2 frame.node in
           let arms = all.arms node k k2 frame.node in
+          let ends = arms.left_out x.d x.b x.done.fits in
           let part : IsPartOf (node_at s.action node) k = part-at s.action node k (Either k k2) frame.node (inl refl) in
-          let at_joint : x.state.pc ≡ address_of (joint s k2).place = x.done.at ∙ ap (λ z. address_of z.place) o.first_exit in
+          let at_joint : x.state.pc ≡ address_of (stop s node).place = x.done.at ∙ ap (λ z. address_of z.place) o.first_exit in
           let has = joined node k k2 h.f x.state h.words frame.node high_frame h.clear h.stands.words_are h.region.size h.stands.region h.stands.frame_at in
           let head : get_or x.state.words 1 0 ≡ s.base + 8 * record_word = ap (λ ws. get_or ws 1 0) h.stands.words_are ∙ h.region.alternative ∙ frame.at in
           let q = o.closes_record h.f x.state at_joint has head in
@@ -141,11 +142,12 @@ module _ (s : Setting) where
                 };
                 at = g.at;
                 rank_is = refl;
-                leaves = subst (λ os. Holds s.base h.heap closed_words h.f os x.d) (sym arms.left_out) leaves';
+                leaves = subst (λ os. Holds s.base h.heap closed_words h.f os x.d) (sym ends.0) leaves';
                 binds = record {
                   held = subst (λ ss. HoldsBinds s.base h.heap closed_words h.f ss x.b) (sym arms.left_bound_out) binds';
                   table = record { ascends = x.done.binds.table.ascends; among = λ t y z. arms.left_binds t (x.done.binds.table.among t y z) };
                 };
+                fits = ends.1;
               };
               shown = g.output ∙ q.0.output ∙ x.shown;
               left = left-same {ys = g.end.input} (g.input ∙ q.0.input) x.left;
@@ -167,9 +169,10 @@ module _ (s : Setting) where
           let e = h.around.1.node in
           let o = alternative cut_node k r e in
           let arms = all.arms cut_node k r e in
+          let ends = arms.left_out x.d x.b x.done.fits in
           let part : IsPartOf (node_at s.action cut_node) k = part-at s.action cut_node k (Either k r) e (inl refl) in
           let high = frames-high s h.heap h.words x.frames h.f cut_node h.chains h.around.3 in
-          let at_joint : x.state.pc ≡ address_of (joint s r).place = x.done.at ∙ ap (λ z. address_of z.place) o.first_exit in
+          let at_joint : x.state.pc ≡ address_of (stop s cut_node).place = x.done.at ∙ ap (λ z. address_of z.place) o.first_exit in
           let has = joined cut_node k r h.f x.state h.words e high h.clear h.stands.words_are h.region.size h.stands.region h.stands.frame_at in
           let head : get_or x.state.words 1 0 ≡ 0 = ap (λ ws. get_or ws 1 0) h.stands.words_are ∙ h.region.alternative ∙ h.around.2 in
           let q = o.leaves_record h.f x.state at_joint has (omega (arith, head, high)) in
@@ -206,11 +209,12 @@ module _ (s : Setting) where
                 };
                 at = g.at;
                 rank_is = refl;
-                leaves = subst (λ os. Holds s.base h.heap h.words h.f os x.d) (sym arms.left_out) x.done.leaves;
+                leaves = subst (λ os. Holds s.base h.heap h.words h.f os x.d) (sym ends.0) x.done.leaves;
                 binds = record {
                   held = subst (λ ss. HoldsBinds s.base h.heap h.words h.f ss x.b) (sym arms.left_bound_out) x.done.binds.held;
                   table = record { ascends = x.done.binds.table.ascends; among = λ t y z. arms.left_binds t (x.done.binds.table.among t y z) };
                 };
+                fits = ends.1;
               };
               shown = g.output ∙ q.0.output ∙ x.shown;
               left = left-same {ys = g.end.input} (g.input ∙ q.0.input) x.left;

@@ -10,7 +10,7 @@ use Rattle.rv_prelude.specs.Region.{Chains, left_open, either_mark}
 use Rattle.rv_codegen.proofs.BindTables.{LeavesBinds, Binds_in}
 use Rattle.rv_codegen.proofs.Holding.{word_at, Holds, HoldsBinds, Apart, ApartSlots}
 use Rattle.rv_codegen.proofs.NodeParts.{IsPartOf, IsTailOf, Calls, KeepsRecord}
-use Rattle.rv_codegen.proofs.Settings.{Point, Way, Setting, code, front, start, stop, exit, frame_words}
+use Rattle.rv_codegen.proofs.Settings.{Point, Way, Setting, code, joint, front, start, stop, exit, frame_words}
 
 -- the chains after a commitment
 abbrev pub committed : Chains → Chains
@@ -71,7 +71,7 @@ module _ (s : Setting) where
   pub record TailFrame (k n : ℕ) : Type 0 where
     pub tail : IsTailOf (node_at s.action n) k
     pub exit_is : exit s k ≡ exit s n
-    pub ends : s.places.out n ≡ s.places.out k
+    pub ends : (d : Data) (b : Binds) → s.Ends k d b → (s.places.out n ≡ s.places.out k) × s.Ends n d b
     pub ends_bound : s.places.bound_out n ≡ s.places.bound_out k
     pub table : (t : Token) → s.places.BindsAt k t → s.places.BindsAt n t
 
@@ -134,7 +134,7 @@ module _ (s : Setting) where
       pub node : node_at s.action n ≡ Trapping k r
       pub receives : Receives f n b
       pub at : now.trap ≡ s.base + 8 * (f + s.places.keep n)
-      pub kept : Kept words n f before (front s r)
+      pub kept : Kept words n f before (joint s n)
       pub chain : now.alternative ≡ left_open now.mark before.alternative
 
     pub record OverFrame (f k n : ℕ) (b : Binds) : Type 0 where

@@ -10,7 +10,7 @@ use Rattle.rv_prelude.specs.Region.{Chains}
 use Rattle.rv_codegen.proofs.Around.{committed, IsPlaced, IsOther, Given, Receives, Leaves, BindsLeft, Kept, Around}
 use Rattle.rv_codegen.proofs.Holding.{word_at, Apart, ApartSlots, apart-fewer, apart-fewer_slots, Grows, holds-kept, holds-kept_binds}
 use Rattle.rv_codegen.proofs.NodeParts.{IsPartOf, KeepsRecord, tail-part, part-at}
-use Rattle.rv_codegen.proofs.Settings.{Point, Setting, front, frame_words}
+use Rattle.rv_codegen.proofs.Settings.{Point, Setting, joint, front, frame_words}
 
 module _ (s : Setting) where
   -- ---- a commitment closes all alternatives
@@ -124,7 +124,7 @@ module _ (s : Setting) where
     around-kept (InTrap n b ∷ fs) f k c g h =
         let x = h.1 in
         let part = part-at s.action n k (Trapping k x.r) x.node (inl refl) in
-        (h.0, record { r = x.r; node = x.node; receives = receives-kept f n k b part g x.receives; at = x.at; kept = record-kept f n k h.0 (front s x.r) (keeps-record n (Trapping k x.r) x.node tt) part g x.kept; chain = x.chain }, around-kept fs f n _ (agrees-out f n k part g) h.2)
+        (h.0, record { r = x.r; node = x.node; receives = receives-kept f n k b part g x.receives; at = x.at; kept = record-kept f n k h.0 (joint s n) (keeps-record n (Trapping k x.r) x.node tt) part g x.kept; chain = x.chain }, around-kept fs f n _ (agrees-out f n k part g) h.2)
     around-kept (InTail n ∷ fs) f k c g h =
         (h.0, around-kept fs f n c (agrees-out f n k (tail-part (node_at s.action n) k h.0.tail) g) h.1)
     around-kept (InCalled c' ∷ fs) f k c g h =

@@ -28,7 +28,7 @@ use Rattle.rv_codegen.proofs.Nothing.{built-makes_none, has-words, nothing-did}
 use Rattle.rv_codegen.proofs.Performing.{Did, step-failed}
 use Rattle.rv_codegen.proofs.PieceStands.{PieceStands, piece-stands}
 use Rattle.rv_codegen.proofs.RestPoints.{Laid, Starting, StartGoesOn, near, open-run}
-use Rattle.rv_codegen.proofs.Settings.{way-runs, Setting, code, start, stop, exit, failure}
+use Rattle.rv_codegen.proofs.Settings.{way-runs, Setting, code, start, stop, exit, failure, node_words}
 use Rattle.rv_codegen.proofs.Standing.{NodeStands}
 use Rattle.rv_codegen.proofs.Units.{units-more}
 
@@ -89,7 +89,7 @@ module _ (s : Setting) where
           let same : making (closures_in y) x.b (silent (checked (yields y x.d x.b x.world.cells))) ≡ n = ap (λ cs. making cs x.b (silent (checked (yields y x.d x.b x.world.cells)))) (built-makes_none y ok.built) ∙ ap (λ v. silent (checked v)) is in
           open-run s x.k x.d x.b x.world (Simple (Check y)) n e (subst (λ m. OneOf n (m ∷ [])) (sym same) Here)
 
-      pub check-goes : LabelsStand s.items → stop_of x.k < s.labels → NodeStands s.items s.places.given s.places.out s.exits x.k (Simple (Check y)) → StartGoesOn s x
+      pub check-goes : LabelsStand s.items → stop_of x.k < s.labels → NodeStands s.items (node_words s) s.exits x.k (Simple (Check y)) → StartGoesOn s x
       check-goes labels within_labels node =
           let h = x.runs.here in
           let given = s.places.given x.k in

@@ -25,7 +25,7 @@ use Rattle.rv_codegen.proofs.InputLeft.{left-same}
 use Rattle.rv_codegen.proofs.Performing.{Did}
 use Rattle.rv_codegen.proofs.PieceStands.{PieceStands, piece-stands}
 use Rattle.rv_codegen.proofs.RestPoints.{Laid, Region, Starting, StartGoesOn, near, open-run}
-use Rattle.rv_codegen.proofs.Settings.{Point, Way, way-runs, Setting, code, start, stop, exit}
+use Rattle.rv_codegen.proofs.Settings.{Point, Way, way-runs, Setting, code, start, stop, exit, node_words}
 use Rattle.rv_codegen.proofs.Standing.{NodeStands}
 use Rattle.rv_codegen.proofs.Units.{units-kept}
 
@@ -132,6 +132,6 @@ module _ (s : Setting) where
     leave = at.leave;
   }
 
-  pub commit-goes : (laid : Laid s) (x : Starting s) → node_at s.action x.k ≡ Simple Commit → LabelsStand s.items → stop_of x.k < s.labels → NodeStands s.items s.places.given s.places.out s.exits x.k (Simple Commit) → StartGoesOn s x
+  pub commit-goes : (laid : Laid s) (x : Starting s) → node_at s.action x.k ≡ Simple Commit → LabelsStand s.items → stop_of x.k < s.labels → NodeStands s.items (node_words s) s.exits x.k (Simple Commit) → StartGoesOn s x
   commit-goes laid x e labels within stands =
       commits-go laid x (commit-code laid x.k (piece-stands s x.k (map Plain commit) laid labels within (Simple Commit) refl stands)) e

@@ -1,5 +1,5 @@
 -- The code of an action whose nodes are built has all that is asked of it, with the places of a layout for data: no node has bindings, and none is called.
-use Rattle.std.proofs.Common.{◌≡◌, ℕ, suc, ◌+◌, ◌*◌, ◌^◌, ◌<◌, ◌≤◌, ℤ, true, false, List, [], ◌++◌, length, replicate, get_or, Option, Some, None, refl, sym, ap, ◌∙◌, subst, arith, inl, inr}
+use Rattle.std.proofs.Common.{◌≡◌, ℕ, suc, ◌+◌, ◌*◌, ◌^◌, ◌<◌, ◌≤◌, ℤ, true, false, List, [], ◌∷◌, ◌++◌, length, replicate, get_or, Option, Some, None, refl, sym, ap, ◌∙◌, subst, arith, inl, inr}
 use Rattle.std.specs.Prelude.{All, slice_get}
 use Rattle.std.proofs.lemmas.List.{length-replicate}
 use Rattle.std.proofs.lemmas.Option.{slice_get-get_or, slice_get_within}
@@ -12,16 +12,19 @@ use Rattle.rv_asm.specs.declared.item.Item.{Item}
 use Rattle.rv_asm.proofs.Labels.{length-code}
 use Rattle.rv_asm.proofs.Regions.{compiled-below}
 use Rattle.action_terms.specs.Actions.{Complete, Join, Chain, AndThen, Then, Hence, Before, Node, Simple, Both, Phases, Either, Trapping, Stray, Action, node_at, node_or_stray}
-use Rattle.action_terms.specs.Information.{NoBinds, World}
+use Rattle.action_terms.specs.Information.{Binds, Data, NoBinds, World}
 use Rattle.action_terms.specs.Literals.{NumbersFit}
 use Rattle.action_terms.specs.Need.{node_yielder_count}
-use Rattle.rv_codegen.specs.Blocks.{completed_label, failed_label, escaped_label, first_label, start_of, exits_of, framed_items, opening, goes, body}
+use Rattle.action_terms.specs.Performances.{OneOf, Here, Later}
+use Rattle.rv_codegen.specs.Blocks.{completed_label, failed_label, escaped_label, first_label, front_of, start_of, stop_of, exits_of, framed_items, opening, goes, body}
 use Rattle.sort_rules.specs.Admissible.{IsAdmissible}
 use Rattle.sort_rules.specs.Measures.{sizes, width}
 use Rattle.sort_rules.specs.Procedures.{procedure_of}
-use Rattle.frame_layout.specs.Layouts.{HasApartNodes, IsLayout}
+use Rattle.sort_rules.specs.Shapes.{CompletesInShape}
+use Rattle.frame_layout.specs.Layouts.{HasApartNodes, IsLayout, Itself}
 use Rattle.frame_layout.specs.Places.{Frame, PlacedNode}
 use Rattle.frame_layout.proofs.GraphParts.{HasTrees}
+use Rattle.frame_layout.proofs.NodeLists.{member-range}
 use Rattle.rv_codegen.specs.Aliases.{AreByNumber, nowhere, place_at, places_in, put_frames, words_at}
 use Rattle.rv_codegen.specs.Measures.{factor_by}
 use Rattle.rv_codegen.specs.RightImage.{Subject}
@@ -29,22 +32,26 @@ use Rattle.rv_codegen.specs.Built.{is_built_node}
 use Rattle.rv_codegen.proofs.AliasLengths.{length-out_of}
 use Rattle.rv_codegen.proofs.AliasPlaces.{HasOwnWords, given-not_out, given-within, out-once, out-within}
 use Rattle.rv_codegen.proofs.AliasRows.{given-row}
-use Rattle.rv_codegen.proofs.AliasRules.{Passes, both-given_left, both-given_right, both-joined, phases-given_left, phases-given_right, phases-joined, then-ends, then-given_right}
+use Rattle.rv_codegen.proofs.AliasRules.{Passes, both-given_left, both-given_right, both-joined, either-given, either-out, phases-given_left, phases-given_right, phases-joined, then-ends, then-given_right}
+use Rattle.rv_codegen.proofs.Alternating.{Alternative}
 use Rattle.rv_codegen.proofs.AliasSettings.{alias-placed, both-stays, data_places, phases-stays, same-frame}
 use Rattle.rv_codegen.proofs.Around.{InOrder, Shares}
+use Rattle.rv_codegen.proofs.CaughtPlaces.{given-caught}
+use Rattle.rv_codegen.proofs.EitherCode.{alternative-stands}
 use Rattle.rv_codegen.proofs.Ending.{none-long}
-use Rattle.rv_codegen.proofs.ExitLaws.{HasTree, PartExits, both-exits, phases-exits, root-exit}
-use Rattle.rv_codegen.proofs.Failing.{LaidRecords}
+use Rattle.rv_codegen.proofs.ExitLaws.{HasTree, PartExits, both-exits, either-exits, phases-exits, root-exit}
+use Rattle.rv_codegen.proofs.Failing.{LaidArms, LaidRecords}
 use Rattle.rv_codegen.proofs.Holding.{Apart}
-use Rattle.rv_codegen.proofs.LayoutWords.{in-fits, layout-words, words-reached, words-within}
+use Rattle.rv_codegen.proofs.LayoutWords.{in-fits, keep-reached, keep-within, layout-words, words-reached, words-within}
 use Rattle.rv_codegen.proofs.NodeParts.{IsNode, IsPartOf, KeepsRecord, part-node}
 use Rattle.rv_codegen.proofs.PuttingPlaces.{put-by_number}
 use Rattle.rv_codegen.proofs.RestPoints.{Laid, DataLaid, PhasePlaces, LaidPhases, LaidBoth}
-use Rattle.rv_codegen.proofs.Settings.{Way, Bodies, Setting, code, point, front, start, frame_words}
+use Rattle.rv_codegen.proofs.Settings.{Way, Bodies, Setting, code, point, front, start, frame_words, node_words}
 use Rattle.rv_codegen.proofs.SendEntry.{send_code}
 use Rattle.rv_codegen.proofs.Standing.{Stood, NodeStands, opens, action-stands}
 use Rattle.rv_codegen.proofs.Suited.{runs-in_shape}
 use Rattle.rv_codegen.proofs.SuitedEnds.{tree-completes}
+use Rattle.rv_codegen.proofs.SuitedTails.{EndsAs, either-ends, ends-as}
 use Rattle.rv_codegen.proofs.SuitedPlaces.{out-length, out-width, suits}
 use Rattle.rv_codegen.proofs.Turns.{Compiled}
 use Rattle.rv_codegen.proofs.Unbound.{joins-none, chains-none}
@@ -101,6 +108,7 @@ setting x fs items ample input =
       places = data_places x.action (places_in x.action fs) (words_at fs);
       procedures = record { root_of = procedure_of x.action; words = words_at fs; calls = λ n c. ⊥ };
       bodies = no_bodies;
+      Ends = λ k d b. CompletesInShape x.table k d b;
       base = region_address (4 * length (code_of items));
       count = region_words x.stack x.units;
     }
@@ -130,8 +138,8 @@ module _ (x : Subject) (fs : List Frame) (ok : IsCompilable x.action) (framed : 
   own : HasOwnWords x.action p (words_at fs)
   own = layout-words x.action ok.trees x.table fs framed.layout framed.apart ns by_number
 
-  pub stood : Stood (framed_items x.action fs x.stack x.units) s.places.given s.places.out x.stack x.units x.action
-  stood = action-stands s.places.given s.places.out x.stack x.units x.action (framed_items x.action fs x.stack x.units) refl labels
+  pub stood : Stood (framed_items x.action fs x.stack x.units) (node_words s) x.stack x.units x.action
+  stood = action-stands (node_words s) x.stack x.units x.action (framed_items x.action fs x.stack x.units) refl labels
 
   here : (k : ℕ) → IsNode (node_at x.action k) → slice_get x.action k ≡ Some (node_at x.action k)
   here k h = there (slice_get x.action k) h
@@ -148,7 +156,7 @@ module _ (x : Subject) (fs : List Frame) (ok : IsCompilable x.action) (framed : 
   part-there n k part = within-node k (ok.tree.within n k (node_at x.action n) (here n (part-node (node_at x.action n) k part)) part)
 
   -- the code of a node that is there
-  each : (k : ℕ) → IsNode (node_at x.action k) → NodeStands s.items s.places.given s.places.out s.exits k (node_at x.action k)
+  each : (k : ℕ) → IsNode (node_at x.action k) → NodeStands s.items (node_words s) s.exits k (node_at x.action k)
   each k h = stood.each k (node_at x.action k) (here k h)
 
   -- the front of a node leads to its start without an instruction
@@ -159,17 +167,17 @@ module _ (x : Subject) (fs : List Frame) (ok : IsCompilable x.action) (framed : 
       inl (o.front ∙ sym o.start, omega (arith, lt))
 
   -- the start of a node with parts leads to that of its first part
-  start-leads : (k l : ℕ) (n : Node) → IsNode n → NodeStands s.items s.places.given s.places.out s.exits k n → k < length x.action → body (s.places.given k) (s.places.out k) k (get_or s.exits k 0) n ≡ goes (start_of (suc k)) (start_of l) → Way (code s) (start s k) (start s l)
+  start-leads : (k l : ℕ) (n : Node) → IsNode n → NodeStands s.items (node_words s) s.exits k n → k < length x.action → body (node_words s k) k (get_or s.exits k 0) n ≡ goes (start_of (suc k)) (start_of l) → Way (code s) (start s k) (start s l)
   start-leads k l n node stands lt is =
       let c = subst (λ b. Cursor s.items stands.place (b ++ (opening (suc k) ++ stands.behind))) is stands.opened.cursor in
       way-stands s stands.place (start_of k) (start_of (suc k)) (start_of l) (opening (suc k) ++ stands.behind) stands.opened.start c (λ c'. (opens s.items labels (suc k) stands.place stands.behind c').start) (omega (arith, lt))
 
   -- the parts of a node with two parts are performed in order
-  in-order : (k l r : ℕ) (n : Node) → node_at x.action k ≡ n → IsNode n → IsPartOf n r → body (s.places.given k) (s.places.out k) k (get_or s.exits k 0) n ≡ goes (start_of (suc k)) (start_of l) → PartExits x.action ok.tree k l r → Apart (s.places.Writes r) (s.places.out l) → InOrder s k l r
+  in-order : (k l r : ℕ) (n : Node) → node_at x.action k ≡ n → IsNode n → IsPartOf n r → body (node_words s k) k (get_or s.exits k 0) n ≡ goes (start_of (suc k)) (start_of l) → PartExits x.action ok.tree k l r (front_of r) → Apart (s.places.Writes r) (s.places.out l) → InOrder s k l r
   in-order k l r n e some part is exits stays =
       let node : IsNode (node_at x.action k) = subst IsNode (sym e) some in
       let second = part-there k r (subst (λ m. IsPartOf m r) (sym e) part) in
-      let stands = subst (NodeStands s.items s.places.given s.places.out s.exits k) e (each k node) in
+      let stands = subst (NodeStands s.items (node_words s) s.exits k) e (each k node) in
       record {
         enter = start-leads k l n some stands (within k node) is;
         first_exit = ap (point s) exits.first;
@@ -231,12 +239,12 @@ module _ (x : Subject) (fs : List Frame) (ok : IsCompilable x.action) (framed : 
     few = λ k h. out-width x.action ok.trees x.table fs framed.layout framed.apart ns by_number k (within k h);
     written = λ k o m. inr (inl m);
     row = λ k. given-row x.action ok.trees x.table fs framed.layout framed.apart ns by_number k;
+    caught = λ k h. given-caught s ok.trees p (words_at fs) own (λ j. given-row x.action ok.trees x.table fs framed.layout framed.apart ns by_number j) k (within k h);
     unbound = λ k. refl;
     escaped = λ k. (p k).escaped;
     suits = λ steps frames k d b w node reached. suits x.action ok.trees x.table fs framed.layout framed.apart ns by_number framed.admissible input steps frames k (within k node) d b w reached;
-    fills = λ steps frames n t w m e u node own_tree reached step ends.
-        (tree-completes x.action x.table framed.admissible input steps frames n t w m e u own_tree reached step ends).given
-        ∙ sym (out-length x.action ok.trees x.table fs framed.layout framed.apart ns by_number n (within n node));
+    fits = λ steps frames n t w m e u node own_tree reached step ends. tree-completes x.action x.table framed.admissible input steps frames n t w m e u own_tree reached step ends;
+    fills = λ n e u node fits. fits.given ∙ sym (out-length x.action ok.trees x.table fs framed.layout framed.apart ns by_number n (within n node));
   }
 
   base-below : s.base + region_size x.stack x.units < 2000000000
@@ -267,14 +275,48 @@ module _ (x : Subject) (fs : List Frame) (ok : IsCompilable x.action) (framed : 
   ending-at : (l exit : ℕ) → EntryAt s.items l 3 (λ n. exit_with exit) → Has (code s) (address_of (spot s.items l)) (exit_with exit)
   ending-at l exit e = subst (λ n. Has (code s) (address_of n) (exit_with exit)) (sym e.is) e.stands
 
-  -- no node that is built keeps a record
-  no-record : (n : ℕ) → KeepsRecord (node_at x.action n) → ⊥
-  no-record n keeps = by (node_at x.action n) refl keeps
+  -- a node that keeps a record is there
+  keeping : (n : ℕ) → KeepsRecord (node_at x.action n) → n < length x.action
+  keeping n keeps = within n (keeps-node (node_at x.action n) keeps)
     where
-      by : (m : Node) → node_at x.action n ≡ m → KeepsRecord m → ⊥
-      by (Either l r) e h = let b : false ≡ true = ok.built n (Either l r) (node-there n (Either l r) e tt) in cc
-      by (Trapping l r) e h = let b : false ≡ true = ok.built n (Trapping l r) (node-there n (Trapping l r) e tt) in cc
-      by _ e h = absurd h
+      keeps-node : (m : Node) → KeepsRecord m → IsNode m
+      keeps-node (Either l r) h = tt
+      keeps-node (Trapping l r) h = tt
+      keeps-node _ h = absurd h
+
+  either-there : (k l r : ℕ) → node_at x.action k ≡ Either l r → PartExits x.action ok.tree k l r (stop_of k)
+  either-there k l r e = either-exits x.action ok.tree k l r (node-there k (Either l r) e tt)
+
+  -- where an arm completes, it leaves its data where the alternative does
+  arm-out : (k l r c : ℕ) → node_at x.action k ≡ Either l r → OneOf c (l ∷ r ∷ []) → IsPartOf (Either l r) c → EndsAs x.action x.table framed.admissible c k → (d : Data) (b : Binds) → CompletesInShape x.table c d b → (s.places.out k ≡ s.places.out c) × CompletesInShape x.table k d b
+  arm-out k l r c e listed part like d b h =
+      let whole = ends-as x.action x.table framed.admissible c k d b like h in
+      let node : IsNode (node_at x.action k) = subst IsNode (sym e) tt in
+      let other : IsNode (node_at x.action c) = part-there k c (subst (λ m. IsPartOf m c) (sym e) part) in
+      let same : length (p c).data_out ≡ length (s.places.out k) = sym (long c) ∙ sym (data-laid.fills c d b other h) ∙ data-laid.fills k d b node whole in
+      (sym (either-out x.action ok.trees p k l r c e listed same), whole)
+
+  arms-laid : (k l r : ℕ) → node_at x.action k ≡ Either l r → LaidArms s k l r
+  arms-laid k l r e = record {
+    left_given = either-given x.action ok.trees p k l r l e Here;
+    left_bound = refl;
+    right_given = either-given x.action ok.trees p k l r r e (Later Here);
+    right_bound = refl;
+    left_out = arm-out k l r l e Here (inl refl) (either-ends x.action x.table framed.admissible k l r e).0;
+    right_out = arm-out k l r r e (Later Here) (inr refl) (either-ends x.action x.table framed.admissible k l r e).1;
+    left_bound_out = refl;
+    right_bound_out = refl;
+    left_binds = λ token h. h;
+    right_binds = λ token h. h;
+    other = front-leads r (part-there k r (subst (λ m. IsPartOf m r) (sym e) (inr refl)));
+    second_exit = ap (point s) (either-there k l r e).second;
+  }
+
+  alternatives : (k l r : ℕ) → node_at x.action k ≡ Either l r → Alternative s k l r
+  alternatives k l r e =
+      let node : IsNode (node_at x.action k) = subst IsNode (sym e) tt in
+      alternative-stands s whole-laid labels k l r (keep-reached x.action ok.trees x.table fs framed.layout framed.apart ns by_number k) (ap (point s) (either-there k l r e).first)
+      (subst (NodeStands s.items (node_words s) s.exits k) e (each k node))
 
   records : LaidRecords s
   records =
@@ -282,9 +324,9 @@ module _ (x : Subject) (fs : List Frame) (ok : IsCompilable x.action) (framed : 
       let there = stood.entered in
       record {
         laid = whole-laid;
-        arms = λ n l r is. absurd (no-record n (subst KeepsRecord (sym is) tt));
-        keep_below = λ n keeps. absurd (no-record n keeps);
-        keeps = λ n o keeps. absurd (no-record n keeps);
+        arms = arms-laid;
+        keep_below = λ n keeps. keep-within x.action ok.trees x.table fs framed.layout framed.apart ns by_number n (keeping n keeps);
+        keeps = λ n o keeps low high. inl (n, keeping n keeps, Itself, inr (inr (inr (member-range (p n).keep 8 o low high))));
         fails = fails s.items e x.stack x.units there whole-laid.small;
         fails_out = fails-out s.items e x.stack x.units there whole-laid.small;
         failed_exits = ending-at failed_label 1 there.failed;
@@ -296,6 +338,7 @@ module _ (x : Subject) (fs : List Frame) (ok : IsCompilable x.action) (framed : 
       let there = stood.entered in
       record {
         records = records;
+        alternatives = alternatives;
         labels = labels;
         each = each;
         built = λ k h. ok.built k (node_at x.action k) (here k h);

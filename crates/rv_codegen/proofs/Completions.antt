@@ -35,6 +35,7 @@ module _ (s : Setting) (laid : Laid s) where
     pub around : Around s x.done.here.heap x.done.here.words x.frames x.done.here.f n x.done.here.chains
     pub leaves : Leaves s x.done.here.heap x.done.here.words x.done.here.f n d
     pub binds : BindsLeft s x.done.here.heap x.done.here.words x.done.here.f n b
+    pub fits : s.Ends n d b
     pub letters : List Letter
     pub step : OneOf (quiet letters (Ended (Done d b))) (open_steps s.action x.world (wrap frame (Ended (Done x.d x.b))))
 
@@ -74,6 +75,7 @@ module _ (s : Setting) (laid : Laid s) where
             rank_is = x.done.rank_is ∙ ap (λ z. z.rank) c.exit_is;
             leaves = c.leaves;
             binds = c.binds;
+            fits = c.fits;
           };
           shown = x.shown;
           left = x.left;
@@ -90,6 +92,7 @@ module _ (s : Setting) (laid : Laid s) where
       let tail : TailFrame s k n = h.around.0 in
       let part = tail-part (node_at s.action n) k tail.tail in
       let held = x.done.binds in
+      let ends = tail.ends x.d x.b x.done.fits in
       inl
       (quiet-advance s.base (code s) (performances s) depth (IsAt s) x.rank x.state (completes s (InTail n) x)
       (record {
@@ -118,11 +121,12 @@ module _ (s : Setting) (laid : Laid s) where
             };
             at = x.done.at ∙ ap (λ z. address_of z.place) tail.exit_is;
             rank_is = x.done.rank_is ∙ ap (λ z. z.rank) tail.exit_is;
-            leaves = subst (λ os. Holds s.base h.heap h.words h.f os x.d) (sym tail.ends) x.done.leaves;
+            leaves = subst (λ os. Holds s.base h.heap h.words h.f os x.d) (sym ends.0) x.done.leaves;
             binds = record {
               held = subst (λ ss. HoldsBinds s.base h.heap h.words h.f ss x.b) (sym tail.ends_bound) held.held;
               table = record { ascends = held.table.ascends; among = λ t d e. tail.table t (held.table.among t d e) };
             };
+            fits = ends.1;
           };
           shown = x.shown;
           left = x.left;

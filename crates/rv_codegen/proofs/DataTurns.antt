@@ -15,7 +15,7 @@ use Rattle.rv_codegen.proofs.GivenItems.{AreBuilt}
 use Rattle.rv_codegen.proofs.Giving.{LeavesBehind, LeavesData, give-goes, regive-moves}
 use Rattle.rv_codegen.proofs.PieceStands.{PieceStands, piece-stands}
 use Rattle.rv_codegen.proofs.RestPoints.{Laid, Starting, StartGoesOn, near}
-use Rattle.rv_codegen.proofs.Settings.{Setting, code, start, stop}
+use Rattle.rv_codegen.proofs.Settings.{Setting, code, start, stop, node_words}
 use Rattle.rv_codegen.proofs.Standing.{NodeStands}
 
 module _ (s : Setting) (laid : Laid s) (x : Starting s) where
@@ -44,13 +44,13 @@ module _ (s : Setting) (laid : Laid s) (x : Starting s) where
     behind_failure = at.behind_failure;
   }
 
-  pub gives-goes : (is : List Item) → node_at s.action x.k ≡ Simple (Give is) → AreBuilt is → closures_in_items is ≡ [] → LabelsStand s.items → stop_of x.k < s.labels → NodeStands s.items s.places.given s.places.out s.exits x.k (Simple (Give is)) → StartGoesOn s x
+  pub gives-goes : (is : List Item) → node_at s.action x.k ≡ Simple (Give is) → AreBuilt is → closures_in_items is ≡ [] → LabelsStand s.items → stop_of x.k < s.labels → NodeStands s.items (node_words s) s.exits x.k (Simple (Give is)) → StartGoesOn s x
   gives-goes is e built none labels within stands =
       let piece = give_items (s.places.given x.k) (s.places.out x.k) fail_label is in
       let at = piece-stands s x.k piece laid labels within (Simple (Give is)) refl stands in
       give-goes s laid x is e laid.data_laid.escaped (laid.data_laid.suits x.steps x.frames x.k x.d x.b x.world x.runs.here.node x.reached) built none leaves-data (leaves-behind piece (total piece) refl at within) at.code_stands
 
-  pub regives-goes : node_at s.action x.k ≡ Simple Regive → LabelsStand s.items → stop_of x.k < s.labels → NodeStands s.items s.places.given s.places.out s.exits x.k (Simple Regive) → StartGoesOn s x
+  pub regives-goes : node_at s.action x.k ≡ Simple Regive → LabelsStand s.items → stop_of x.k < s.labels → NodeStands s.items (node_words s) s.exits x.k (Simple Regive) → StartGoesOn s x
   regives-goes e labels within stands =
       let moves = moves_items (s.places.given x.k) (s.places.out x.k) in
       let at = piece-stands s x.k (map Plain moves) laid labels within (Simple Regive) refl stands in

@@ -18,7 +18,7 @@ use Rattle.rv_codegen.proofs.Holding.{Holds, HoldsBinds, grows-same}
 use Rattle.rv_codegen.proofs.InputLeft.{Left, left-same}
 use Rattle.rv_codegen.proofs.Performing.{chains_after, Did, step-done, step-failed}
 use Rattle.rv_codegen.proofs.RestPoints.{Laid, Region, Starting, StartGoesOn, near, open-run, went-stands}
-use Rattle.rv_codegen.proofs.Settings.{Way, way-runs, Setting, code, point, start, exit, failure}
+use Rattle.rv_codegen.proofs.Settings.{Way, way-runs, Setting, code, point, start, exit, failure, node_words}
 use Rattle.rv_codegen.proofs.Standing.{NodeStands, opens}
 use Rattle.rv_codegen.proofs.Units.{Units, units-more}
 use Rattle.rv_prelude.proofs.Cursors.{Cursor, jump-stands}
@@ -45,7 +45,8 @@ module _ (s : Setting) where
     -- the node completes without data and bindings
     pub nothing-done : (n : Step) → OneOf n (open_steps s.action x.world (Run x.k x.d x.b)) → n.tree ≡ done → Did s laid x n (exit s x.k) → StartGoesOn s x
     nothing-done n o tree did =
-        let none = none-long (s.places.out x.k) (laid.data_laid.fills x.steps x.frames x.k (Run x.k x.d x.b) x.world n [] NoBinds x.runs.here.node refl x.reached o tree) in
+        let fits = laid.data_laid.fits x.steps x.frames x.k (Run x.k x.d x.b) x.world n [] NoBinds x.runs.here.node refl x.reached o tree in
+        let none = none-long (s.places.out x.k) (laid.data_laid.fills x.k [] NoBinds x.runs.here.node fits) in
         step-done s laid x n [] NoBinds o tree did
         (subst (λ os. Holds s.base did.heap did.words x.runs.here.f os []) (sym none) tt)
         (binds-none x.k (laid.data_laid.unbound x.k) did.heap did.words x.runs.here.f)
@@ -75,7 +76,7 @@ module _ (s : Setting) where
         }
 
     -- so it does where its code goes on at once
-    ends-goes : (p : Primitive) (n : Step) → node_at s.action x.k ≡ Simple p → performed p x.d x.b x.world ≡ n → closures_of p ≡ [] → n.made ≡ [] → n.tree ≡ done → world_after n.effect x.world ≡ x.world → Region s x.runs.here.words (chains_after (commits n.effect) x.runs.here.chains) → LabelsStand s.items → start_of x.k < s.labels → NodeStands s.items s.places.given s.places.out s.exits x.k (Simple p) → body (s.places.given x.k) (s.places.out x.k) x.k (get_or s.exits x.k 0) (Simple p) ≡ leaves x.k (get_or s.exits x.k 0) → StartGoesOn s x
+    ends-goes : (p : Primitive) (n : Step) → node_at s.action x.k ≡ Simple p → performed p x.d x.b x.world ≡ n → closures_of p ≡ [] → n.made ≡ [] → n.tree ≡ done → world_after n.effect x.world ≡ x.world → Region s x.runs.here.words (chains_after (commits n.effect) x.runs.here.chains) → LabelsStand s.items → start_of x.k < s.labels → NodeStands s.items (node_words s) s.exits x.k (Simple p) → body (node_words s x.k) x.k (get_or s.exits x.k 0) (Simple p) ≡ leaves x.k (get_or s.exits x.k 0) → StartGoesOn s x
     ends-goes p n e is none_made none_in tree same region labels within stands code_is =
         let cursor = subst (λ b. Cursor s.items stands.place (b ++ (opening (suc x.k) ++ stands.behind))) code_is stands.opened.cursor in
         let way = leaves-stand labels x.k stands.place (start_of x.k) stands.behind stands.opened.start (omega arith) within cursor in
@@ -84,10 +85,10 @@ module _ (s : Setting) where
         let o = open-run s x.k x.d x.b x.world (Simple p) n e (subst (λ m. OneOf n (m ∷ [])) (sym made) Here) in
         nothing-done n o tree did
 
-    pub complete-goes : node_at s.action x.k ≡ Simple Complete → LabelsStand s.items → start_of x.k < s.labels → NodeStands s.items s.places.given s.places.out s.exits x.k (Simple Complete) → StartGoesOn s x
+    pub complete-goes : node_at s.action x.k ≡ Simple Complete → LabelsStand s.items → start_of x.k < s.labels → NodeStands s.items (node_words s) s.exits x.k (Simple Complete) → StartGoesOn s x
     complete-goes e labels within stands = ends-goes Complete (silent done) e refl refl refl refl refl x.runs.here.region labels within stands refl
 
-    pub fail-goes : node_at s.action x.k ≡ Simple Failing → NodeStands s.items s.places.given s.places.out s.exits x.k (Simple Failing) → StartGoesOn s x
+    pub fail-goes : node_at s.action x.k ≡ Simple Failing → NodeStands s.items (node_words s) s.exits x.k (Simple Failing) → StartGoesOn s x
     fail-goes e stands =
         let far = jump-stands s.items stands.place fail_label (opening (suc x.k) ++ stands.behind) stands.opened.cursor in
         let way : Way (code s) (start s x.k) (failure s) = inr (subst (λ m. Has (code s) (address_of m) (far_jump m (spot s.items fail_label))) (sym stands.opened.start) far) in

@@ -18,8 +18,8 @@ use Rattle.rv_codegen.proofs.Holding.{Holds, grows-same, in_row}
 use Rattle.rv_codegen.proofs.InputLeft.{left-same}
 use Rattle.rv_prelude.proofs.Jumps.{jumped, jump-runs}
 use Rattle.rv_codegen.proofs.Performing.{Did, step-escaped}
-use Rattle.rv_codegen.proofs.RestPoints.{Laid, Starting, StartGoesOn, near, open-run}
-use Rattle.rv_codegen.proofs.Settings.{Setting, code, start, escape}
+use Rattle.rv_codegen.proofs.RestPoints.{Laid, MayBeCaught, Starting, StartGoesOn, near, open-run}
+use Rattle.rv_codegen.proofs.Settings.{Setting, code, start, escape, node_words}
 use Rattle.rv_codegen.proofs.Standing.{NodeStands}
 use Rattle.rv_codegen.proofs.Units.{units-more}
 use Rattle.rv_prelude.proofs.Cursors.{Cursor, plain-stands, over-plain, jump-stands, cursor-within}
@@ -51,7 +51,7 @@ module _ (s : Setting) (laid : Laid s) (x : Starting s) where
     then : Has (code s) (address_of ((start s x.k).place + size)) (far_jump ((start s x.k).place + size) (escape s).place)
     within : (start s x.k).place + size < 2 ^ 28
 
-  escape-stands : NodeStands s.items s.places.given s.places.out s.exits x.k (Simple Escape) → EscapeStands
+  escape-stands : NodeStands s.items (node_words s) s.exits x.k (Simple Escape) → EscapeStands
   escape-stands stands =
       let n = stands.place in
       let here : spot s.items (start_of x.k) ≡ n = stands.opened.start in
@@ -108,7 +108,7 @@ module _ (s : Setting) (laid : Laid s) (x : Starting s) where
       }
 
   -- the node escapes with what it is given
-  pub escape-goes : node_at s.action x.k ≡ Simple Escape → NodeStands s.items s.places.given s.places.out s.exits x.k (Simple Escape) → StartGoesOn s x
+  pub escape-goes : node_at s.action x.k ≡ Simple Escape → NodeStands s.items (node_words s) s.exits x.k (Simple Escape) → StartGoesOn s x
   escape-goes e stands =
       let h = x.runs.here in
       let n = silent (Ended (Esc x.d)) in
@@ -118,5 +118,6 @@ module _ (s : Setting) (laid : Laid s) (x : Starting s) where
       let zero : first ≡ first + 0 = omega arith in
       let row : Holds s.base h.heap h.words h.f (in_row (first + 0) (length x.d)) x.d =
       subst (λ m. Holds s.base h.heap h.words h.f (in_row (first + 0) m) x.d) (sym long) (subst (λ o. Holds s.base h.heap h.words h.f (in_row o (length given)) x.d) zero (subst (λ os. Holds s.base h.heap h.words h.f os x.d) (laid.data_laid.row x.k) x.runs.given)) in
-      step-escaped s laid x n x.d (open-run s x.k x.d x.b x.world (Simple Escape) n e Here) refl did (h.f + first) (address-found at).value
+      step-escaped s laid x n x.d (open-run s x.k x.d x.b x.world (Simple Escape) n e Here) refl did first (address-found at).value
       (in-row s.base h.heap h.words h.f first 0 (length x.d) x.d row)
+      (subst (MayBeCaught s x.k first) (sym long) (laid.data_laid.caught x.k h.node))

@@ -20,14 +20,14 @@ use Rattle.rv_codegen.specs.GivenItems.{escape_with_items, give_items, point_ite
 use Rattle.rv_codegen.proofs.AliasWords.{run-once}
 use Rattle.rv_codegen.proofs.EscapingWith.{EscapesBehind, EscapesPlaces, first-inside}
 use Rattle.rv_codegen.proofs.FindsGiven.{all-members, finds-given, frame-inside, has-frame}
-use Rattle.rv_codegen.proofs.GivenItems.{AreBuilt, Gave, gives-run}
+use Rattle.rv_codegen.proofs.GivenItems.{AreBuilt, Gave, gives-run, holds-length}
 use Rattle.rv_codegen.proofs.Giving.{items-paid}
 use Rattle.rv_codegen.proofs.Holding.{Holds}
 use Rattle.rv_codegen.proofs.MovedWords.{HasWritten, frame-after, holds-elsewhere, written-at, written-then}
 use Rattle.rv_codegen.proofs.Nothing.{moves-on}
 use Rattle.rv_codegen.proofs.Performing.{step-escaped, step-failed}
 use Rattle.rv_codegen.proofs.Pointing.{consecutive-row, first_of, points-run}
-use Rattle.rv_codegen.proofs.RestPoints.{Laid, Starting, StartGoesOn, near, open-run}
+use Rattle.rv_codegen.proofs.RestPoints.{Laid, MayBeCaught, Starting, StartGoesOn, near, open-run}
 use Rattle.rv_codegen.proofs.Settings.{Setting, code, start, escape, failure}
 use Rattle.rv_codegen.proofs.Suited.{SuitsAt}
 use Rattle.rv_codegen.proofs.WrittenTurns.{did-registers, written-did, written-there}
@@ -86,7 +86,8 @@ module _ (s : Setting) (laid : Laid s) (x : Starting s) (is : List Item) (e : no
           let did = written-did s laid x (limit + 9) os places.own (address_of behind.from.place) w (Ended (Esc d)) behind.from (escape s) refl behind.within (near s laid escape_label) behind.rank (omega (arith, escapes-paid places)) behind.leave in
           let ten = did-registers s laid x (limit + 9) os places.own (address_of behind.from.place) w (Ended (Esc d)) behind.from (escape s) refl behind.within (near s laid escape_label) behind.rank (omega (arith, escapes-paid places)) behind.leave 10 (omega arith) in
           let kept = holds-elsewhere s.base h.heap h.f [] a.end.words w.end.words pointed.written.kept os d (λ z m absent. elim absent [ ]) held in
-          step-escaped s laid x n d (open-escaped none (Some d) is_d) refl did (h.f + first_of os) (ten ∙ pointed.value) (consecutive-row s.base h.heap w.end.words h.f os d places.row kept)
+          step-escaped s laid x n d (open-escaped none (Some d) is_d) refl did (first_of os) (ten ∙ pointed.value) (consecutive-row s.base h.heap w.end.words h.f os d places.row kept)
+          (subst (MayBeCaught s x.k (first_of os)) (sym (holds-length s.base h.heap a.end.words h.f os d held)) places.caught)
 
       gave-escapes : (o : Option Data) → yielded ≡ o → Gave s.base (code s) x.runs.here.heap x.runs.here.f limit os x.state (address_of middle) (address_of (failure s).place) o → StartGoesOn s x
       gave-escapes (Some d) is_o (w, held) = row-escapes d is_o w held

@@ -17,7 +17,7 @@ use Rattle.rv_codegen.proofs.GivenItems.{holds-length}
 use Rattle.rv_codegen.proofs.MovedWords.{HasWritten, frame-after, holds-elsewhere, moves-run, written-at, written-then}
 use Rattle.rv_codegen.proofs.Performing.{step-escaped}
 use Rattle.rv_codegen.proofs.Pointing.{consecutive-row, first_of, points-run}
-use Rattle.rv_codegen.proofs.RestPoints.{Laid, Starting, StartGoesOn, near, open-run}
+use Rattle.rv_codegen.proofs.RestPoints.{Laid, MayBeCaught, Starting, StartGoesOn, near, open-run}
 use Rattle.rv_codegen.proofs.Settings.{Point, Way, Setting, code, start, escape, frame_words}
 use Rattle.rv_codegen.proofs.Suited.{SuitsAt}
 use Rattle.rv_codegen.proofs.WrittenTurns.{MayWriteAt, did-registers, written-did}
@@ -31,6 +31,7 @@ module _ (s : Setting) (laid : Laid s) (x : Starting s) where
     pub own : MayWriteAt s laid x escaped
     pub row : AreConsecutive escaped
     pub apart : (o : ℕ) → OneOf o (s.places.given x.k) → OneOf o escaped → ⊥
+    pub caught : MayBeCaught s x.k (first_of escaped) (length escaped)
     pub few : length escaped ≤ s.widest
     pub some_words : 0 < frame_words s x.k
 
@@ -77,4 +78,4 @@ module _ (s : Setting) (laid : Laid s) (x : Starting s) where
       let many : length x.d ≡ length os = suits.escapes n x.d o refl in
       let moved_held = moved.holds (omega (arith, many, holds-length s.base h.heap c.words h.f given x.d f.holds)) in
       let held = holds-elsewhere s.base h.heap h.f [] a.end.words w.end.words pointed.written.kept os x.d (λ z m none. elim none [ ]) moved_held in
-      step-escaped s laid x n x.d o refl did (h.f + first_of os) (ten ∙ pointed.value) (consecutive-row s.base h.heap w.end.words h.f os x.d places.row held)
+      step-escaped s laid x n x.d o refl did (first_of os) (ten ∙ pointed.value) (consecutive-row s.base h.heap w.end.words h.f os x.d places.row held) (subst (MayBeCaught s x.k (first_of os)) (sym many) places.caught)

@@ -1,16 +1,17 @@
--- Where nodes go on: the first part of a node at the front of the second, and the second where the node does.
+-- Where nodes go on: the first part of a node at the front of the second, or at the stop of an alternative, and the second where the node does.
 use Rattle.std.proofs.Common.{◌≡◌, ◌≢◌, ℕ, zero, suc, ◌+◌, ◌*◌, ◌<◌, ◌≤◌, List, [], ◌∷◌, length, get_or, set, replicate, Some, refl, sym, ap, ◌∙◌, arith, inl, inr, length-set, get_or-set_same, add-zero, add-one, drop}
 use Rattle.std.proofs.lemmas.List.{get_or-set_other, get_or-replicate, length-replicate, drop_more, get_or_default}
 use Rattle.std.proofs.lemmas.Option.{slice_get-get_or}
 use Rattle.std.specs.Prelude.{slice_get, All}
-use Rattle.action_terms.specs.Actions.{Join, Chain, Node, Both, Phases, Stray, Action, node_or_stray, node_at}
-use Rattle.rv_codegen.specs.Blocks.{first_label, front_of, with_exits, exits_from, exits_of}
+use Rattle.action_terms.specs.Actions.{Join, Chain, Node, Both, Phases, Either, Stray, Action, node_or_stray, node_at}
+use Rattle.rv_codegen.specs.Blocks.{first_label, front_of, stop_of, with_exits, exits_from, exits_of}
 use Rattle.rv_codegen.proofs.NodeParts.{IsPartOf}
 
 -- the parts of a node that performs both are two
 abbrev pub PartsApart : Node → Type 0
 PartsApart (Both j l r) = l ≢ r
 PartsApart (Phases q l r) = l ≢ r
+PartsApart (Either l r) = l ≢ r
 PartsApart _ = Unit {0}
 
 -- the parts of an action's nodes make a tree: each is a node behind its own, and of one node alone
@@ -23,6 +24,7 @@ pub record HasTree (a : Action) : Type 0 where
 length-with_exits : (n : Node) (k : ℕ) (exits : List ℕ) → length (with_exits n k exits) ≡ length exits
 length-with_exits (Both j l r) k exits = length-set (set exits l (front_of r)) r (get_or exits k 0) ∙ length-set exits l (front_of r)
 length-with_exits (Phases q l r) k exits = length-set (set exits l (front_of r)) r (get_or exits k 0) ∙ length-set exits l (front_of r)
+length-with_exits (Either l r) k exits = length-set (set exits l (stop_of k)) r (get_or exits k 0) ∙ length-set exits l (stop_of k)
 length-with_exits _ k exits = refl
 
 -- a node leaves what isn't its part
@@ -31,6 +33,8 @@ with_exits-other (Both j l r) k c exits h =
     get_or-set_other (set exits l (front_of r)) r c (get_or exits k 0) 0 (λ e. h (inr (sym e))) ∙ get_or-set_other exits l c (front_of r) 0 (λ e. h (inl (sym e)))
 with_exits-other (Phases q l r) k c exits h =
     get_or-set_other (set exits l (front_of r)) r c (get_or exits k 0) 0 (λ e. h (inr (sym e))) ∙ get_or-set_other exits l c (front_of r) 0 (λ e. h (inl (sym e)))
+with_exits-other (Either l r) k c exits h =
+    get_or-set_other (set exits l (stop_of k)) r c (get_or exits k 0) 0 (λ e. h (inr (sym e))) ∙ get_or-set_other exits l c (stop_of k) 0 (λ e. h (inl (sym e)))
 with_exits-other _ k c exits h = refl
 
 exits_from-other : (a : Action) (k c : ℕ) (exits : List ℕ) → ((j : ℕ) (n : Node) → slice_get a j ≡ Some n → IsPartOf n c → ⊥) → get_or (exits_from k a exits) c 0 ≡ get_or exits c 0
@@ -69,47 +73,50 @@ module _ (a : Action) (tree : HasTree a) where
   abbrev at_first : List ℕ
   at_first = replicate (length a) (front_of (length a))
 
-  -- the exits of the parts l and r of node k, and of the node
-  record SetsExits (k l r : ℕ) (then : List ℕ) : Type 0 where
-    first : get_or (set (set then l (front_of r)) r (get_or then k 0)) l 0 ≡ front_of r
-    second : get_or (set (set then l (front_of r)) r (get_or then k 0)) r 0 ≡ get_or then k 0
-    own : get_or (set (set then l (front_of r)) r (get_or then k 0)) k 0 ≡ get_or then k 0
+  -- the exits of the parts l and r of node k, the first of which goes on at a label, and of the node
+  record SetsExits (k l r to : ℕ) (then : List ℕ) : Type 0 where
+    first : get_or (set (set then l to) r (get_or then k 0)) l 0 ≡ to
+    second : get_or (set (set then l to) r (get_or then k 0)) r 0 ≡ get_or then k 0
+    own : get_or (set (set then l to) r (get_or then k 0)) k 0 ≡ get_or then k 0
 
-  sets-exits : (k l r : ℕ) (then : List ℕ) → l ≢ r → k < l → k < r → l < length then → r < length then → SetsExits k l r then
-  sets-exits k l r then other kl kr ll rl =
+  sets-exits : (k l r to : ℕ) (then : List ℕ) → l ≢ r → k < l → k < r → l < length then → r < length then → SetsExits k l r to then
+  sets-exits k l r to then other kl kr ll rl =
       let ne : k ≢ r = omega arith in
       let nf : k ≢ l = omega arith in
-      let s = length-set then l (front_of r) in
+      let s = length-set then l to in
       record {
-        first = get_or-set_other (set then l (front_of r)) r l (get_or then k 0) 0 other ∙ get_or-set_same then l (front_of r) 0 ll;
-        second = get_or-set_same (set then l (front_of r)) r (get_or then k 0) 0 (omega (arith, s, rl));
-        own = get_or-set_other (set then l (front_of r)) r k (get_or then k 0) 0 ne ∙ get_or-set_other then l k (front_of r) 0 nf;
+        first = get_or-set_other (set then l to) r l (get_or then k 0) 0 other ∙ get_or-set_same then l to 0 ll;
+        second = get_or-set_same (set then l to) r (get_or then k 0) 0 (omega (arith, s, rl));
+        own = get_or-set_other (set then l to) r k (get_or then k 0) 0 ne ∙ get_or-set_other then l k to 0 nf;
       }
 
-  -- the exits of the parts of a node with two parts in order
-  pub record PartExits (k l r : ℕ) : Type 0 where
-    pub first : get_or (exits_of a) l 0 ≡ front_of r
+  -- the first part of node k goes on at a label, and the second where the node does
+  pub record PartExits (k l r to : ℕ) : Type 0 where
+    pub first : get_or (exits_of a) l 0 ≡ to
     pub second : get_or (exits_of a) r 0 ≡ get_or (exits_of a) k 0
 
-  part-exits : (k l r : ℕ) (n : Node) → slice_get a k ≡ Some n → IsPartOf n l → IsPartOf n r → l ≢ r → ((then : List ℕ) → with_exits n k then ≡ set (set then l (front_of r)) r (get_or then k 0)) → PartExits k l r
-  part-exits k l r n e left right apart is =
+  part-exits : (k l r to : ℕ) (n : Node) → slice_get a k ≡ Some n → IsPartOf n l → IsPartOf n r → l ≢ r → ((then : List ℕ) → with_exits n k then ≡ set (set then l to) r (get_or then k 0)) → PartExits k l r to
+  part-exits k l r to n e left right apart is =
       let x = reaches-node a 0 k n at_first e in
       let kl = tree.after k l n e left in
       let kr = tree.after k r n e right in
       let size : length x.then ≡ length a = x.size ∙ length-replicate (length a) (front_of (length a)) in
       let here : 0 + k ≡ k = omega arith in
       let sets = λ (c : ℕ). ap (λ i. get_or (with_exits n i x.then) c 0) here ∙ ap (λ es. get_or es c 0) (is x.then) in
-      let s = sets-exits k l r x.then apart kl kr (omega (arith, size, tree.within k l n e left)) (omega (arith, size, tree.within k r n e right)) in
+      let s = sets-exits k l r to x.then apart kl kr (omega (arith, size, tree.within k l n e left)) (omega (arith, size, tree.within k r n e right)) in
       let exit_l = x.exit l (λ i m q p. let z = tree.one_parent i k l m n q e p left in omega arith) ∙ sets l ∙ s.first in
       let exit_r = x.exit r (λ i m q p. let z = tree.one_parent i k r m n q e p right in omega arith) ∙ sets r ∙ s.second in
       let exit_k = x.exit k (λ i m q p. let z = tree.after i k m q p in omega arith) ∙ sets k ∙ s.own in
       record { first = exit_l; second = exit_r ∙ sym exit_k }
 
-  pub both-exits : (k l r : ℕ) (q : Join) → slice_get a k ≡ Some (Both q l r) → PartExits k l r
-  both-exits k l r q e = part-exits k l r (Both q l r) e (inl refl) (inr refl) (tree.apart k (Both q l r) e) (λ then. refl)
+  pub both-exits : (k l r : ℕ) (q : Join) → slice_get a k ≡ Some (Both q l r) → PartExits k l r (front_of r)
+  both-exits k l r q e = part-exits k l r (front_of r) (Both q l r) e (inl refl) (inr refl) (tree.apart k (Both q l r) e) (λ then. refl)
 
-  pub phases-exits : (k l r : ℕ) (q : Chain) → slice_get a k ≡ Some (Phases q l r) → PartExits k l r
-  phases-exits k l r q e = part-exits k l r (Phases q l r) e (inl refl) (inr refl) (tree.apart k (Phases q l r) e) (λ then. refl)
+  pub phases-exits : (k l r : ℕ) (q : Chain) → slice_get a k ≡ Some (Phases q l r) → PartExits k l r (front_of r)
+  phases-exits k l r q e = part-exits k l r (front_of r) (Phases q l r) e (inl refl) (inr refl) (tree.apart k (Phases q l r) e) (λ then. refl)
+
+  pub either-exits : (k l r : ℕ) → slice_get a k ≡ Some (Either l r) → PartExits k l r (stop_of k)
+  either-exits k l r e = part-exits k l r (stop_of k) (Either l r) e (inl refl) (inr refl) (tree.apart k (Either l r) e) (λ then. refl)
 
   pub root-exit : 0 < length a → get_or (exits_of a) 0 0 ≡ front_of (length a)
   root-exit some =
@@ -138,15 +145,16 @@ set-below bound (suc i) v (x ∷ exits) lt h (suc j) = set-below bound i v exits
 two-below : (bound l r v w : ℕ) (exits : List ℕ) → v < bound → w < bound → AreBelow bound exits → AreBelow bound (set (set exits l v) r w)
 two-below bound l r v w exits lv lw h = set-below bound r w (set exits l v) lw (set-below bound l v exits lv h)
 
-with_exits-below : (n : Node) (count bound k : ℕ) (exits : List ℕ) → first_label + 1 + 4 * count ≤ bound → ((c : ℕ) → IsPartOf n c → c < count) → AreBelow bound exits → AreBelow bound (with_exits n k exits)
-with_exits-below (Both j l r) count bound k exits le parts h = two-below bound l r (front_of r) (get_or exits k 0) exits (omega (arith, parts r (inr refl))) (h k) h
-with_exits-below (Phases q l r) count bound k exits le parts h = two-below bound l r (front_of r) (get_or exits k 0) exits (omega (arith, parts r (inr refl))) (h k) h
-with_exits-below _ count bound k exits le parts h = h
+with_exits-below : (n : Node) (count bound k : ℕ) (exits : List ℕ) → first_label + 1 + 4 * count ≤ bound → k < count → ((c : ℕ) → IsPartOf n c → c < count) → AreBelow bound exits → AreBelow bound (with_exits n k exits)
+with_exits-below (Both j l r) count bound k exits le own parts h = two-below bound l r (front_of r) (get_or exits k 0) exits (omega (arith, parts r (inr refl))) (h k) h
+with_exits-below (Phases q l r) count bound k exits le own parts h = two-below bound l r (front_of r) (get_or exits k 0) exits (omega (arith, parts r (inr refl))) (h k) h
+with_exits-below (Either l r) count bound k exits le own parts h = two-below bound l r (stop_of k) (get_or exits k 0) exits (omega arith) (h k) h
+with_exits-below _ count bound k exits le own parts h = h
 
-exits_from-below : (a : Action) (count bound k : ℕ) (exits : List ℕ) → first_label + 1 + 4 * count ≤ bound → ((j c : ℕ) (n : Node) → slice_get a j ≡ Some n → IsPartOf n c → c < count) → AreBelow bound exits → AreBelow bound (exits_from k a exits)
-exits_from-below [] count bound k exits le parts h = h
-exits_from-below (n ∷ a) count bound k exits le parts h =
-    exits_from-below a count bound (suc k) (with_exits n k exits) le (λ j c m e p. parts (suc j) c m e p) (with_exits-below n count bound k exits le (λ c p. parts 0 c n refl p) h)
+exits_from-below : (a : Action) (count bound k : ℕ) (exits : List ℕ) → first_label + 1 + 4 * count ≤ bound → k + length a ≤ count → ((j c : ℕ) (n : Node) → slice_get a j ≡ Some n → IsPartOf n c → c < count) → AreBelow bound exits → AreBelow bound (exits_from k a exits)
+exits_from-below [] count bound k exits le all parts h = h
+exits_from-below (n ∷ a) count bound k exits le all parts h =
+    exits_from-below a count bound (suc k) (with_exits n k exits) le (omega (arith, all)) (λ j c m e p. parts (suc j) c m e p) (with_exits-below n count bound k exits le (omega (arith, all)) (λ c p. parts 0 c n refl p) h)
 
 all-below : (bound n v : ℕ) → v < bound → AreBelow bound (replicate n v)
 all-below bound zero v lt i = omega arith
@@ -157,6 +165,6 @@ all-below bound (suc n) v lt (suc i) = all-below bound n v lt i
 pub exits-made : (a : Action) → HasTree a → (exits : List ℕ) (labels : ℕ) → exits ≡ exits_of a → first_label + (4 * length a + 4) ≤ labels → All (λ l. l < labels) exits
 exits-made a tree exits labels e many i d within =
     let first = all-below labels (length a) (front_of (length a)) (omega arith) in
-    let below = exits_from-below a (length a) labels 0 (replicate (length a) (front_of (length a))) (omega arith) (λ j c n f p. tree.within j c n f p) first i in
+    let below = exits_from-below a (length a) labels 0 (replicate (length a) (front_of (length a))) (omega arith) (omega arith) (λ j c n f p. tree.within j c n f p) first i in
     let here : get_or exits i d ≡ get_or (exits_of a) i 0 = get_or_default exits i d 0 within ∙ ap (λ l. get_or l i 0) e in
     rw here below

@@ -29,7 +29,7 @@ use Rattle.rv_codegen.proofs.RestPoints.{Laid, Region, IsAt, FailsAt, GoesOn, ne
 use Rattle.rv_codegen.proofs.Settings.{Way, way-runs, Setting, code, point, front, start, exit, frame_words}
 use Rattle.rv_codegen.proofs.Units.{units-kept}
 
-pending-append : (xs ys : List Frame) → pending ys ≤ pending (xs ++ ys)
+pub pending-append : (xs ys : List Frame) → pending ys ≤ pending (xs ++ ys)
 pending-append [] ys = omega arith
 pending-append (f ∷ xs) ys = let r = pending-append xs ys in omega arith
 
@@ -42,8 +42,8 @@ module _ (s : Setting) where
     pub left_bound : s.places.bound l ≡ s.places.bound n
     pub right_given : s.places.given r ≡ s.places.given n
     pub right_bound : s.places.bound r ≡ s.places.bound n
-    pub left_out : s.places.out n ≡ s.places.out l
-    pub right_out : s.places.out n ≡ s.places.out r
+    pub left_out : (d : Data) (b : Binds) → s.Ends l d b → (s.places.out n ≡ s.places.out l) × s.Ends n d b
+    pub right_out : (d : Data) (b : Binds) → s.Ends r d b → (s.places.out n ≡ s.places.out r) × s.Ends n d b
     pub left_bound_out : s.places.bound_out n ≡ s.places.bound_out l
     pub right_bound_out : s.places.bound_out n ≡ s.places.bound_out r
     pub left_binds : (t : Token) → s.places.BindsAt l t → s.places.BindsAt n t

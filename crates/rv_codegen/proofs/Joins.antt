@@ -117,7 +117,8 @@ module _ (s : Setting) (laid : Laid s) where
       let p = laid.both n k r frame.j frame.node in
       let both = both-leave s.base h.heap h.words h.f s.places.bound s.places.bound_out s.places.BindsAt frame.j n k r x.d d1 x.b b1 p.binds x.done.binds frame.other.2 in
       let o = joined-here n k r frame.j x.d d1 x.b b1 (Done (x.d ++ d1) (overlaid x.b b1)) x.world frame.node both.0 in
-      let full = laid.data_laid.fills x.steps x.frames n (Par n (Ended (Done x.d x.b)) (Ended (Done d1 b1))) x.world (quiet (Joins ∷ []) (Ended (Done (x.d ++ d1) (overlaid x.b b1)))) (x.d ++ d1) (overlaid x.b b1) (subst IsNode (sym frame.node) tt) refl x.reached o refl in
+      let fits = laid.data_laid.fits x.steps x.frames n (Par n (Ended (Done x.d x.b)) (Ended (Done d1 b1))) x.world (quiet (Joins ∷ []) (Ended (Done (x.d ++ d1) (overlaid x.b b1)))) (x.d ++ d1) (overlaid x.b b1) (subst IsNode (sym frame.node) tt) refl x.reached o refl in
+      let full = laid.data_laid.fills n (x.d ++ d1) (overlaid x.b b1) (subst IsNode (sym frame.node) tt) fits in
       node-completes s laid (InParLeft n (Ended (Done d1 b1))) x n (x.d ++ d1) (overlaid x.b b1)
       (record {
         part = part-at s.action n k (Both frame.j k r) frame.node (inl refl);
@@ -125,6 +126,7 @@ module _ (s : Setting) (laid : Laid s) where
         around = h.around.1;
         leaves = both-left s h.heap h.words h.f n k r x.d d1 p.joins x.done.leaves frame.other.1 full;
         binds = both.1;
+        fits = fits;
         letters = Joins ∷ [];
         step = o;
       })
@@ -156,7 +158,8 @@ module _ (s : Setting) (laid : Laid s) where
       let p = laid.both n l k frame.j frame.node in
       let both = both-leave s.base h.heap h.words h.f s.places.bound s.places.bound_out s.places.BindsAt frame.j n l k d1 x.d b1 x.b p.binds frame.other.2 x.done.binds in
       let o = joined-here n l k frame.j d1 x.d b1 x.b (Done (d1 ++ x.d) (overlaid b1 x.b)) x.world frame.node both.0 in
-      let full = laid.data_laid.fills x.steps x.frames n (Par n (Ended (Done d1 b1)) (Ended (Done x.d x.b))) x.world (quiet (Joins ∷ []) (Ended (Done (d1 ++ x.d) (overlaid b1 x.b)))) (d1 ++ x.d) (overlaid b1 x.b) (subst IsNode (sym frame.node) tt) refl x.reached o refl in
+      let fits = laid.data_laid.fits x.steps x.frames n (Par n (Ended (Done d1 b1)) (Ended (Done x.d x.b))) x.world (quiet (Joins ∷ []) (Ended (Done (d1 ++ x.d) (overlaid b1 x.b)))) (d1 ++ x.d) (overlaid b1 x.b) (subst IsNode (sym frame.node) tt) refl x.reached o refl in
+      let full = laid.data_laid.fills n (d1 ++ x.d) (overlaid b1 x.b) (subst IsNode (sym frame.node) tt) fits in
       node-completes s laid (InParRight n (Ended (Done d1 b1))) x n (d1 ++ x.d) (overlaid b1 x.b)
       (record {
         part = part-at s.action n k (Both frame.j l k) frame.node (inr refl);
@@ -164,6 +167,7 @@ module _ (s : Setting) (laid : Laid s) where
         around = h.around.1;
         leaves = both-left s h.heap h.words h.f n l k d1 x.d p.joins frame.other.1 x.done.leaves full;
         binds = both.1;
+        fits = fits;
         letters = Joins ∷ [];
         step = o;
       })

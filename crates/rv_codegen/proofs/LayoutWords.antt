@@ -2,7 +2,7 @@
 use Rattle.std.proofs.Common.{◌≡◌, ◌≢◌, ◌⊎◌, ℕ, zero, suc, ◌+◌, ◌<◌, ◌≤◌, Bool, true, false, List, [], ◌∷◌, length, map, refl, sym, ap, subst, ◌∙◌, arith, inl, inr, cond}
 use Rattle.std.specs.Prelude.{All, Option, Some, None, filter, nat_eq, if◌then◌else◌}
 use Rattle.std.specs.List.{range_with_len}
-use Rattle.std.proofs.lemmas.Bool.{eq-eqb}
+use Rattle.std.proofs.lemmas.Bool.{cases_lt, eq-eqb}
 use Rattle.std.proofs.lemmas.Bool.Decides.{eqb_tells}
 use Rattle.action_terms.specs.Actions.{Action}
 use Rattle.action_terms.specs.Performances.{OneOf, Here, Later}
@@ -177,6 +177,20 @@ module _ (a : Action) (trees : HasTrees a) where
         let record_word : OneOf (place_at ns k).keep (record_words (place_at ns k).keep) = Here in
         let r = layout-words.within k (place_at ns k).keep within (own-word (place_at ns k) (place_at ns k).keep (inr (inr (inr record_word)))) in
         omega (arith, r.0, r.1)
+
+    -- the record of a node stands in its frame
+    pub keep-within : (k : ℕ) → k < length a → (place_at ns k).keep + 8 ≤ words_at fs (procedure_of a k)
+    keep-within k within =
+        let last = (place_at ns k).keep + 7 in
+        let word : OneOf last (record_words (place_at ns k).keep) = member-range (place_at ns k).keep 8 last (omega arith) (omega arith) in
+        let r = layout-words.within k last within (own-word (place_at ns k) last (inr (inr (inr word)))) in
+        omega (arith, r.1)
+
+    pub keep-reached : (k : ℕ) → (place_at ns k).keep < 33554432
+    keep-reached k =
+        either (λ within. let a_frame = keep-within k within in let reached = words-reached k within in omega (arith, a_frame, reached))
+        (λ past. let none : (place_at ns k).keep ≡ 0 = ap (λ (n : PlacedNode). n.keep) (past-nowhere ns k (omega (arith, by_number.long, past))) in omega (arith, none))
+        (cases_lt k (length a))
 
     -- a node leaves its data in as many words as its row asks for
     pub out-fits : (k : ℕ) → k < length a → length (place_at ns k).data_out ≡ part_length (t (DataOut k))

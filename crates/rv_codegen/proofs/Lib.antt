@@ -74,9 +74,12 @@ pub mod BuiltCode
 pub mod Failing
 pub mod Alternating
 pub mod ArmsDone
+pub mod EitherCode
 pub mod Committing
 pub mod Pointing
 pub mod EscapingWith
 pub mod CheckingWith
 pub mod PlacedData
 pub mod EscapingItems
+pub mod CaughtPlaces
+pub mod SuitedTails

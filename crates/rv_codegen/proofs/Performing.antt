@@ -22,7 +22,7 @@ use Rattle.rv_codegen.proofs.AroundKept.{Agrees, around-kept, around-shut}
 use Rattle.rv_codegen.proofs.Configurations.{depth, performances, pending-shut}
 use Rattle.rv_codegen.proofs.Holding.{Holds, Grows, in_row}
 use Rattle.rv_codegen.proofs.InputLeft.{Left}
-use Rattle.rv_codegen.proofs.RestPoints.{Laid, Region, Stands, Stays, RestsAt, IsAt, Starting, starts, StartGoesOn}
+use Rattle.rv_codegen.proofs.RestPoints.{Laid, MayBeCaught, Region, Stands, Stays, RestsAt, IsAt, Starting, starts, StartGoesOn}
 use Rattle.rv_codegen.proofs.Settings.{Point, Setting, code, start, exit, failure, escape}
 use Rattle.rv_codegen.proofs.Units.{Units}
 
@@ -106,7 +106,7 @@ module _ (s : Setting) where
     pub step-done : (n : Step) (d : Data) (b : Binds) → OneOf n (open_steps s.action x.world (Run x.k x.d x.b)) → n.tree ≡ Ended (Done d b) → (did : Did n (exit s x.k)) → Leaves s did.heap did.words x.runs.here.f x.k d → BindsLeft s did.heap did.words x.runs.here.f x.k b → StartGoesOn s x
     step-done n d b o same did leaves binds =
         step-goes n (Ended (Done d b)) (exit s x.k) o same did
-        (record { k = x.k; here = stays-behind n (exit s x.k) did; at = did.at; rank_is = refl; leaves = leaves; binds = binds })
+        (record { k = x.k; here = stays-behind n (exit s x.k) did; at = did.at; rank_is = refl; leaves = leaves; binds = binds; fits = laid.data_laid.fits x.steps x.frames x.k (Run x.k x.d x.b) x.world n d b x.runs.here.node refl x.reached o same })
 
     -- the node has failed
     pub step-failed : (n : Step) → OneOf n (open_steps s.action x.world (Run x.k x.d x.b)) → n.tree ≡ failed → Did n (failure s) → StartGoesOn s x
@@ -114,11 +114,11 @@ module _ (s : Setting) where
         step-goes n failed (failure s) o same did
         (record { k = x.k; here = stays-behind n (failure s) did; at = did.at; rank_is = refl })
 
-    -- the node has escaped with data, which stand in a row from a word of the region on
-    pub step-escaped : (n : Step) (e : Data) → OneOf n (open_steps s.action x.world (Run x.k x.d x.b)) → n.tree ≡ Ended (Esc e) → (did : Did n (escape s)) → (source : ℕ) → did.end.registers 10 ≡ s.base + 8 * source → Holds s.base did.heap did.words source (in_row 0 (length e)) e → StartGoesOn s x
-    step-escaped n e o same did source at held =
+    -- the node has escaped with data, which stand in a row from a word of its frame on
+    pub step-escaped : (n : Step) (e : Data) → OneOf n (open_steps s.action x.world (Run x.k x.d x.b)) → n.tree ≡ Ended (Esc e) → (did : Did n (escape s)) → (offset : ℕ) → did.end.registers 10 ≡ s.base + 8 * (x.runs.here.f + offset) → Holds s.base did.heap did.words (x.runs.here.f + offset) (in_row 0 (length e)) e → MayBeCaught s x.k offset (length e) → StartGoesOn s x
+    step-escaped n e o same did offset at held caught =
         step-goes n (Ended (Esc e)) (escape s) o same did
-        (record { k = x.k; here = stays-behind n (escape s) did; at = did.at; rank_is = refl; source = source; source_at = at; held = held })
+        (record { k = x.k; here = stays-behind n (escape s) did; at = did.at; rank_is = refl; offset = offset; source_at = at; held = held; caught = caught })
 
     -- the code of the node has come to where the run ends as full
     pub record Filled (full : ℕ) : Type 0 where

@@ -116,14 +116,15 @@ module _ (s : Setting) (laid : Laid s) where
     second-ends q e u node same leaves binds =
         let next = Ended (Done e u) in
         let o : OneOf (silent next) (open_steps s.action x.world (Second n d1 b1 (Ended (Done x.d x.b)))) = subst (λ n'. OneOf (silent next) (map silent (chained_parts n' d1 b1 x.d x.b))) (sym node) (subst (λ z. OneOf (silent next) (silent (Ended z) ∷ [])) (sym same) Here) in
-        let full = laid.data_laid.fills x.steps x.frames n (Second n d1 b1 (Ended (Done x.d x.b))) x.world (silent next) e u (subst IsNode (sym node) tt) refl x.reached o refl in
+        let fits = laid.data_laid.fits x.steps x.frames n (Second n d1 b1 (Ended (Done x.d x.b))) x.world (silent next) e u (subst IsNode (sym node) tt) refl x.reached o refl in
         node-completes s laid (InSecond n d1 b1) x n e u
         (record {
           part = part-at s.action n x.done.k (Phases q behind.l x.done.k) node (inr refl);
           exit_is = behind.order.second_exit;
           around = x.done.here.around.1;
-          leaves = leaves full;
+          leaves = leaves (laid.data_laid.fills n e u (subst IsNode (sym node) tt) fits);
           binds = binds;
+          fits = fits;
           letters = [];
           step = o;
         })

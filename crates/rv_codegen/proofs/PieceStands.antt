@@ -9,7 +9,7 @@ use Rattle.action_terms.specs.Actions.{Node}
 use Rattle.rv_codegen.specs.Blocks.{start_of, stop_of, opening, leaves, body}
 use Rattle.rv_codegen.proofs.Ending.{leaves-stand}
 use Rattle.rv_codegen.proofs.RestPoints.{Laid}
-use Rattle.rv_codegen.proofs.Settings.{Way, Setting, code, start, stop, exit, failure}
+use Rattle.rv_codegen.proofs.Settings.{Way, Setting, code, start, stop, exit, failure, node_words}
 use Rattle.rv_codegen.proofs.Standing.{NodeStands}
 use Rattle.rv_prelude.proofs.Cursors.{Cursor, stands, over, over-mark, mark-at, cursor-within}
 
@@ -22,7 +22,7 @@ module _ (s : Setting) (k : ℕ) (piece : List Item) where
     pub leave : Way (code s) (stop s k) (exit s k)
     pub behind_failure : (failure s).place < (start s k).place
 
-  pub piece-stands : Laid s → LabelsStand s.items → stop_of k < s.labels → (node : Node) → body (s.places.given k) (s.places.out k) k (get_or s.exits k 0) node ≡ (piece ++ Mark (stop_of k) ∷ []) ++ leaves k (get_or s.exits k 0) → NodeStands s.items s.places.given s.places.out s.exits k node → PieceStands
+  pub piece-stands : Laid s → LabelsStand s.items → stop_of k < s.labels → (node : Node) → body (node_words s k) k (get_or s.exits k 0) node ≡ (piece ++ Mark (stop_of k) ∷ []) ++ leaves k (get_or s.exits k 0) → NodeStands s.items (node_words s) s.exits k node → PieceStands
   piece-stands laid labels within_labels node is at =
       let n = at.place in
       let here : spot s.items (start_of k) ≡ n = at.opened.start in

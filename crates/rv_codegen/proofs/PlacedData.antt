@@ -11,7 +11,8 @@ use Rattle.rv_codegen.proofs.AliasSettings.{placed}
 use Rattle.rv_codegen.proofs.AliasWords.{own-word}
 use Rattle.rv_codegen.proofs.EscapingWith.{EscapesPlaces}
 use Rattle.rv_codegen.proofs.Giving.{LeavesData}
-use Rattle.rv_codegen.proofs.RestPoints.{Laid, Starting}
+use Rattle.rv_codegen.proofs.Pointing.{first_of}
+use Rattle.rv_codegen.proofs.RestPoints.{Laid, MayBeCaught, Starting}
 use Rattle.rv_codegen.proofs.Settings.{Setting}
 
 module _ (s : Setting) (trees : HasTrees s.action) (p : ℕ → PlacedNode) (words : ℕ → ℕ) (own : HasOwnWords s.action p words) where
@@ -36,14 +37,15 @@ module _ (s : Setting) (trees : HasTrees s.action) (p : ℕ → PlacedNode) (wor
     escaped-inside o m = (own.within x.k o within (own-word (p x.k) o (inr (inr (inl m))))).1
 
     -- where data are found, and put in a row
-    pub escapes-places : AreConsecutive (p x.k).escaped → length (p x.k).escaped ≤ s.widest → 0 < words (procedure_of s.action x.k) → EscapesPlaces at laid x (p x.k).escaped
-    escapes-places row few some = record {
+    pub escapes-places : AreConsecutive (p x.k).escaped → length (p x.k).escaped ≤ s.widest → 0 < words (procedure_of s.action x.k) → MayBeCaught at x.k (first_of (p x.k).escaped) (length (p x.k).escaped) → EscapesPlaces at laid x (p x.k).escaped
+    escapes-places row few some caught = record {
       near_given = λ o m. let r = given-within s.action trees p words own x.k o within m in omega (arith, r.1, reached);
       given_inside = λ o m. (given-within s.action trees p words own x.k o within m).1;
       near_escaped = λ o m. omega (arith, escaped-inside o m, reached);
       own = record { may = λ o m. inl (x.k, within, Itself, inr (inr (inl m))); inside = λ o m. escaped-inside o m };
       row = row;
       apart = λ o m n. given-apart s.action trees p words own x.k o m (inl (x.k, within, Itself, inr (inr (inl n))));
+      caught = caught;
       few = few;
       some_words = some;
     }

@@ -1,5 +1,5 @@
 -- The places of nodes, each put at its number.
-use Rattle.std.proofs.Common.{◌≡◌, ℕ, zero, suc, ◌+◌, ◌<◌, List, [], ◌∷◌, drop, get_or, length, map, set, refl, sym, ap, subst, ◌∙◌, arith, inl, inr, get_or-set_other, get_or-set_same, length-set}
+use Rattle.std.proofs.Common.{◌≡◌, ℕ, zero, suc, ◌+◌, ◌<◌, List, [], ◌∷◌, ◌++◌, append_assoc, drop, get_or, length, map, set, refl, sym, ap, subst, ◌∙◌, arith, inl, inr, get_or-set_other, get_or-set_same, length-set}
 use Rattle.std.proofs.lemmas.Bool.Decides.{eqb_tells}
 use Rattle.std.proofs.lemmas.List.{drop_more, map-set}
 use Rattle.std.specs.Prelude.{filter, nat_eq, true}
@@ -46,6 +46,13 @@ put-next places list i d less =
     let x : NodePlaces = get_or places i d in
     ap (put_each (map placed_node (drop (i + 1) places))) (map-set placed_node list x.node x)
     ∙ sym (ap (λ (ps : List NodePlaces). put_each (map placed_node ps) (map placed_node list)) (drop_more places i d less))
+
+-- one record more
+pub keeps-next : (places : List NodePlaces) (ks : List ℕ) (i : ℕ) (d : NodePlaces) → i < length places
+    → (ks ++ (get_or places i d).keep ∷ []) ++ map (λ (n : PlacedNode). n.keep) (map placed_node (drop (i + 1) places)) ≡ ks ++ map (λ (n : PlacedNode). n.keep) (map placed_node (drop i places))
+keeps-next places ks i d less =
+    append_assoc ks ((get_or places i d).keep ∷ []) (map (λ (n : PlacedNode). n.keep) (map placed_node (drop (i + 1) places)))
+    ∙ ap (λ (ps : List NodePlaces). ks ++ map (λ (n : PlacedNode). n.keep) (map placed_node ps)) (sym (drop_more places i d less))
 
 -- one procedure more
 pub put-procedure : (procedures : List Procedure) (before after : List PlacedNode) (i : ℕ) (d : Procedure) → i < length procedures

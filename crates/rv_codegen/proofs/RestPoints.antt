@@ -7,13 +7,14 @@ use Rattle.rv_asm.specs.WordMachine.{WordState}
 use Rattle.rv_asm.proofs.Labels.{spot_le-total}
 use Rattle.rv_asm.proofs.Moments.{Advances, Stops}
 use Rattle.action_terms.specs.Information.{Binds, Data, Storage, World}
-use Rattle.action_terms.specs.Actions.{Join, Chain, AndThen, Then, Hence, Before, Both, Phases, Node, node_at}
+use Rattle.action_terms.specs.Actions.{Join, Chain, AndThen, Then, Hence, Before, Both, Phases, Trapping, Node, node_at}
 use Rattle.action_terms.specs.Acting.{Done, Esc, Fail, Tree, Run, Ended}
 use Rattle.action_terms.specs.Need.{units, node_yielder_count}
 use Rattle.action_terms.specs.Performances.{OneOf, messages_bytes}
 use Rattle.action_terms.specs.Steps.{Step, run_steps, open_steps}
 use Rattle.action_terms.specs.Frames.{Frame, plug, wrap}
 use Rattle.action_terms.proofs.Parts.{Reaches}
+use Rattle.frame_layout.specs.Layouts.{IsIn}
 use Rattle.rv_prelude.specs.Region.{Chains}
 use Rattle.rv_codegen.proofs.AliasWords.{IsOnce}
 use Rattle.rv_codegen.proofs.Around.{IsPlaced, InOrder, JoinsData, Shares, HandsOver, Given, Receives, Leaves, BindsLeft, Around}
@@ -70,6 +71,7 @@ module _ (s : Setting) where
     pub rank_is : rank ≡ (exit s k).rank
     pub leaves : Leaves s here.heap here.words here.f k d
     pub binds : BindsLeft s here.heap here.words here.f k b
+    pub fits : s.Ends k d b
 
   -- node k has failed, at the entry for failures
   pub record FailsAt (steps : List Step) (cells : Storage) (rank : ℕ) (state : WordState) (fs : List Frame) : Type 0 where
@@ -78,15 +80,22 @@ module _ (s : Setting) where
     pub at : state.pc ≡ address_of (failure s).place
     pub rank_is : rank ≡ (failure s).rank
 
+  -- n words in a row of the frame of node k, from an offset on: a handler around the node may copy them to its own words, the first one first, and none is written over before it is read
+  pub record MayBeCaught (k offset n : ℕ) : Type 0 where
+    pub inside : offset + n ≤ frame_words s k
+    pub read : (m l r : ℕ) → node_at s.action m ≡ Trapping l r → IsIn s.action l k → (get_or (s.places.given r) 0 0 ≤ offset) ⊎ (offset + n ≤ get_or (s.places.given r) 0 0)
+
   -- node k has escaped with data, at the entry for escapes: register 10 has the address of the data, which stand in a row
   pub record EscapesAt (steps : List Step) (cells : Storage) (rank : ℕ) (state : WordState) (fs : List Frame) (d : Data) : Type 0 where
     pub k : ℕ
     pub here : Stays steps cells state fs k
     pub at : state.pc ≡ address_of (escape s).place
     pub rank_is : rank ≡ (escape s).rank
-    pub source : ℕ
-    pub source_at : state.registers 10 ≡ s.base + 8 * source
-    pub held : Holds s.base here.heap here.words source (in_row 0 (length d)) d
+    -- the offset of the first word, in the frame of the node
+    pub offset : ℕ
+    pub source_at : state.registers 10 ≡ s.base + 8 * (here.f + offset)
+    pub held : Holds s.base here.heap here.words (here.f + offset) (in_row 0 (length d)) d
+    pub caught : MayBeCaught k offset (length d)
 
   abbrev pub RestsAt : List Step → Storage → (rank : ℕ) → WordState → List Frame → Tree → Type 0
   RestsAt steps cells rank state fs (Run k d b) = RunsAt steps cells rank state fs k d b
@@ -143,13 +152,15 @@ module _ (s : Setting) where
     pub written : (k x : ℕ) → OneOf x (s.places.out k) → s.places.Writes k x
     -- what a node is given stands in a row
     pub row : (k : ℕ) → s.places.given k ≡ in_row (get_or (s.places.given k) 0 0) (length (s.places.given k))
+    pub caught : (k : ℕ) → IsNode (node_at s.action k) → MayBeCaught k (get_or (s.places.given k) 0 0) (length (s.places.given k))
     -- no bindings are left
     pub unbound : (k : ℕ) → s.places.bound_out k ≡ []
     -- what the code of a node counts on, with the words of what it escapes with
     pub escaped : ℕ → List ℕ
     pub suits : (steps : List Step) (fs : List Frame) (k : ℕ) (d : Data) (b : Binds) (w : World) → IsNode (node_at s.action k) → Reaches s.action s.input steps (plug fs (Run k d b)) w → SuitsAt s.action s.places.out escaped k d b w
-    -- a node completes with as many data as it has words for them
-    pub fills : (steps : List Step) (fs : List Frame) (n : ℕ) (t : Tree) (w : World) (m : Step) (e : Data) (u : Binds) → IsNode (node_at s.action n) → IsTreeOf n t → Reaches s.action s.input steps (plug fs t) w → OneOf m (open_steps s.action w t) → m.tree ≡ Ended (Done e u) → length e ≡ length (s.places.out n)
+    -- a node completes as the sorts let it, and so with as many data as it has words for them
+    pub fits : (steps : List Step) (fs : List Frame) (n : ℕ) (t : Tree) (w : World) (m : Step) (e : Data) (u : Binds) → IsNode (node_at s.action n) → IsTreeOf n t → Reaches s.action s.input steps (plug fs t) w → OneOf m (open_steps s.action w t) → m.tree ≡ Ended (Done e u) → s.Ends n e u
+    pub fills : (n : ℕ) (e : Data) (u : Binds) → IsNode (node_at s.action n) → s.Ends n e u → length e ≡ length (s.places.out n)
 
   pub record Laid : Type 0 where
     pub placed : IsPlaced s

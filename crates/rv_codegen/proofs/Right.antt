@@ -43,7 +43,7 @@ use Rattle.rv_codegen.proofs.Around.{Given}
 use Rattle.rv_codegen.proofs.Holding.{Holds}
 use Rattle.rv_codegen.proofs.InputLeft.{AreBytes, left-same}
 use Rattle.rv_codegen.proofs.RestPoints.{IsAt}
-use Rattle.rv_codegen.proofs.Settings.{Setting, start}
+use Rattle.rv_codegen.proofs.Settings.{Setting, start, node_words}
 use Rattle.rv_codegen.proofs.Standing.{Stood}
 use Rattle.rv_codegen.proofs.Compiling.{IsCompilable, HasFrames, IsSized, setting, compiled, stood, root-there, root-places, base-low}
 use Rattle.rv_codegen.proofs.Turns.{turn}
@@ -144,7 +144,7 @@ module _ (x : Subject) (fs : List PlacedFrame) (ok : IsCompilable x.action) (has
   abbrev framed_setting : Setting
   framed_setting = setting x fs framed sized.ample (records input)
 
-  stands : Stood framed framed_setting.places.given framed_setting.places.out x.stack x.units x.action
+  stands : Stood framed (node_words framed_setting) x.stack x.units x.action
   stands = stood x fs ok has_frames labels sized (records input)
 
   framed_entry : WordState

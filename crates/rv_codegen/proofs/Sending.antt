@@ -40,7 +40,7 @@ use Rattle.rv_codegen.proofs.Messages.{bytes_of-message, messages_bytes-append}
 use Rattle.rv_codegen.proofs.Performing.{Did, step-failed}
 use Rattle.rv_codegen.proofs.RestPoints.{Laid, Starting, StartGoesOn, near, open-run}
 use Rattle.rv_codegen.proofs.SendEntry.{send_code, send_entry-runs}
-use Rattle.rv_codegen.proofs.Settings.{Way, way-runs, Setting, code, point, start, stop, exit, failure}
+use Rattle.rv_codegen.proofs.Settings.{Way, way-runs, Setting, code, point, start, stop, exit, failure, node_words}
 use Rattle.rv_codegen.proofs.Standing.{NodeStands}
 use Rattle.rv_codegen.proofs.Units.{units-kept}
 use Rattle.rv_prelude.proofs.Cursors.{Cursor, stands, over, over-mark, mark-at, jump-stands, over-jump, address-stands, over-address}
@@ -193,7 +193,7 @@ module _ (s : Setting) where
               by (Number n) is stands it = record { integer = n; is = is; fits = stands.1; arrives = p.arrives; value = stands.0 }
               by _ is stands it = absurd (cc)
 
-          pub send-goes : LabelsStand s.items → stop_of x.k < s.labels → NodeStands s.items s.places.given s.places.out s.exits x.k (Simple (Send y)) → StartGoesOn s x
+          pub send-goes : LabelsStand s.items → stop_of x.k < s.labels → NodeStands s.items (node_words s) s.exits x.k (Simple (Send y)) → StartGoesOn s x
           send-goes labels within stands =
               let h = x.runs.here in
               let k = x.k in

@@ -6,9 +6,9 @@ use Rattle.rv_asm.specs.WordMachine.{WordState, Goes, Has, run_words}
 use Rattle.rv_asm.specs.declared.item.Item.{Item}
 use Rattle.rv_asm.proofs.Registers.{put-other}
 use Rattle.action_terms.specs.Actions.{Action}
-use Rattle.action_terms.specs.Information.{Token}
+use Rattle.action_terms.specs.Information.{Token, Binds, Data}
 use Rattle.action_terms.specs.Need.{Sizes}
-use Rattle.rv_codegen.specs.Blocks.{fail_label, escape_label, front_of, start_of, stop_of}
+use Rattle.rv_codegen.specs.Blocks.{NodeWords, fail_label, escape_label, joint_of, front_of, start_of, stop_of}
 use Rattle.rv_codegen.proofs.Holding.{Slot, ApartSlots}
 use Rattle.rv_prelude.proofs.Jumps.{jumped, jump-runs}
 
@@ -112,6 +112,8 @@ pub record Setting : Type 1 where
   pub places : DataPlaces
   pub procedures : Procedures
   pub bodies : Bodies
+  -- what the sorts let a node complete with
+  pub Ends : ℕ → Data → Binds → Type 0
   -- the address of the region, and its words
   pub base : ℕ
   pub count : ℕ
@@ -122,6 +124,10 @@ code s = code_of s.items
 -- where a label stands: ranks fall as labels ascend
 abbrev pub point : Setting → ℕ → Point
 point s l = record { place = spot s.items l; rank = s.labels - l }
+
+-- where the handler of a node copies what it is given
+abbrev pub joint : Setting → ℕ → Point
+joint s k = point s (joint_of k)
 
 abbrev pub front : Setting → ℕ → Point
 front s k = point s (front_of k)
@@ -143,6 +149,10 @@ failure s = point s fail_label
 -- the entry for escapes
 abbrev pub escape : Setting → Point
 escape s = point s escape_label
+
+-- the words of the frame that the code of a node names
+abbrev pub node_words : Setting → ℕ → NodeWords
+node_words s k = record { given = s.places.given k; out = s.places.out k; keep = s.places.keep k }
 
 -- the words of the frame in which a node is performed
 abbrev pub frame_words : Setting → ℕ → ℕ

@@ -10,7 +10,7 @@ use Rattle.action_terms.specs.Actions.{Node, Action}
 use Rattle.rv_prelude.specs.Items.{entries_from, first_items, ends_items, fail_items, escape_items, calls_items, entries_items, prelude_items}
 use Rattle.rv_prelude.proofs.Cursors.{Cursor, cursor-start, cursor-within, over, over-mark, over-jump, mark-at, jump-stands, regroup}
 use Rattle.rv_prelude.proofs.Entered.{Stood as Entered, prelude-stands}
-use Rattle.rv_codegen.specs.Blocks.{completed_label, fail_label, start_label, end_label, joint_of, front_of, start_of, opening, block, blocks_from, ending, exits_of, action_items, body}
+use Rattle.rv_codegen.specs.Blocks.{NodeWords, completed_label, fail_label, start_label, end_label, joint_of, front_of, start_of, opening, block, blocks_from, ending, exits_of, action_items, body}
 
 -- the labels of a node's opening stand before what follows it
 pub record Opened (items : List Item) (k n : ℕ) (rest : List Item) : Type 0 where
@@ -20,10 +20,10 @@ pub record Opened (items : List Item) (k n : ℕ) (rest : List Item) : Type 0 wh
   pub cursor : Cursor items n rest
 
 -- the code of node k, which goes on at a label, and behind it the labels of the next node. The entries stand before all nodes
-pub record NodeStands (items : List Item) (given out : ℕ → List ℕ) (exits : List ℕ) (k : ℕ) (node : Node) : Type 0 where
+pub record NodeStands (items : List Item) (ws : ℕ → NodeWords) (exits : List ℕ) (k : ℕ) (node : Node) : Type 0 where
   pub place : ℕ
   pub behind : List Item
-  pub opened : Opened items k place (body (given k) (out k) k (get_or exits k 0) node ++ (opening (suc k) ++ behind))
+  pub opened : Opened items k place (body (ws k) k (get_or exits k 0) node ++ (opening (suc k) ++ behind))
   pub behind_failure : spot items fail_label < place
 
 module _ (items : List Item) (labels : LabelsStand items) where
@@ -38,41 +38,41 @@ module _ (items : List Item) (labels : LabelsStand items) where
         cursor = over-mark items n (start_of k) rest c2;
       }
 
-  module _ (given out : ℕ → List ℕ) (exits : List ℕ) where
+  module _ (ws : ℕ → NodeWords) (exits : List ℕ) where
     -- what stands from a node on begins with its labels, or with those of the entries
     record Begins (k : ℕ) (rest : List Item) : Type 0 where
       behind : List Item
       is : rest ≡ opening k ++ behind
 
-    begins : (a : Action) (k : ℕ) → Begins k (blocks_from given out k exits a ++ ending (k + length a))
+    begins : (a : Action) (k : ℕ) → Begins k (blocks_from ws k exits a ++ ending (k + length a))
     begins [] k = let same : k + 0 ≡ k = omega arith in record { behind = _; is = ap ending same }
     begins (n ∷ a) k = record { behind = _; is = refl }
 
     -- the codes of nodes stand one after another
     abbrev AllStand : ℕ → Action → Type 0
-    AllStand k a = (j : ℕ) (x : Node) → slice_get a j ≡ Some x → NodeStands items given out exits (k + j) x
+    AllStand k a = (j : ℕ) (x : Node) → slice_get a j ≡ Some x → NodeStands items ws exits (k + j) x
 
-    all-stand : (a : Action) (k n : ℕ) → Cursor items n (blocks_from given out k exits a ++ ending (k + length a)) → spot items fail_label < n → AllStand k a
+    all-stand : (a : Action) (k n : ℕ) → Cursor items n (blocks_from ws k exits a ++ ending (k + length a)) → spot items fail_label < n → AllStand k a
     all-stand [] k n c within = λ j x e. absurd (cc)
     all-stand (x ∷ a) k n c within =
-        let b = block (given k) (out k) k (get_or exits k 0) x in
+        let b = block (ws k) k (get_or exits k 0) x in
         let next : suc k + length a ≡ k + suc (length a) = omega arith in
-        let tail = blocks_from given out (suc k) exits a ++ ending (suc k + length a) in
+        let tail = blocks_from ws (suc k) exits a ++ ending (suc k + length a) in
         let c0 : Cursor items n (b ++ tail) =
-        subst (λ m. Cursor items n (b ++ (blocks_from given out (suc k) exits a ++ ending m))) (sym next) (subst (Cursor items n) (append_assoc b (blocks_from given out (suc k) exits a) (ending (k + suc (length a)))) c) in
+        subst (λ m. Cursor items n (b ++ (blocks_from ws (suc k) exits a ++ ending m))) (sym next) (subst (Cursor items n) (append_assoc b (blocks_from ws (suc k) exits a) (ending (k + suc (length a)))) c) in
         let start = begins a (suc k) in
         let c1 : Cursor items n (b ++ (opening (suc k) ++ start.behind)) = subst (λ t. Cursor items n (b ++ t)) start.is c0 in
-        let c2 : Cursor items n (opening k ++ (body (given k) (out k) k (get_or exits k 0) x ++ (opening (suc k) ++ start.behind))) = subst (Cursor items n) (append_assoc (opening k) (body (given k) (out k) k (get_or exits k 0) x) (opening (suc k) ++ start.behind)) c1 in
-        let this : NodeStands items given out exits k x = record { place = n; behind = start.behind; opened = opens k n _ c2; behind_failure = within } in
+        let c2 : Cursor items n (opening k ++ (body (ws k) k (get_or exits k 0) x ++ (opening (suc k) ++ start.behind))) = subst (Cursor items n) (append_assoc (opening k) (body (ws k) k (get_or exits k 0) x) (opening (suc k) ++ start.behind)) c1 in
+        let this : NodeStands items ws exits k x = record { place = n; behind = start.behind; opened = opens k n _ c2; behind_failure = within } in
         in_turn this (all-stand a (suc k) (n + total b) (over items n b tail c0) (omega (arith, within)))
       where
-        in_turn : NodeStands items given out exits k x → ((j : ℕ) (y : Node) → slice_get a j ≡ Some y → NodeStands items given out exits (suc k + j) y) → (j : ℕ) (y : Node) → slice_get (x ∷ a) j ≡ Some y → NodeStands items given out exits (k + j) y
-        in_turn first rest zero y e = let same : x ≡ y = cc in subst (λ m. NodeStands items given out exits m y) (sym (add-zero k)) (subst (NodeStands items given out exits k) same first)
-        in_turn first rest (suc j) y e = let next : suc k + j ≡ k + suc j = omega arith in subst (λ m. NodeStands items given out exits m y) next (rest j y e)
+        in_turn : NodeStands items ws exits k x → ((j : ℕ) (y : Node) → slice_get a j ≡ Some y → NodeStands items ws exits (suc k + j) y) → (j : ℕ) (y : Node) → slice_get (x ∷ a) j ≡ Some y → NodeStands items ws exits (k + j) y
+        in_turn first rest zero y e = let same : x ≡ y = cc in subst (λ m. NodeStands items ws exits m y) (sym (add-zero k)) (subst (NodeStands items ws exits k) same first)
+        in_turn first rest (suc j) y e = let next : suc k + j ≡ k + suc j = omega arith in subst (λ m. NodeStands items ws exits m y) next (rest j y e)
 
 -- everything that stands in the code of an action
-pub record Stood (items : List Item) (given out : ℕ → List ℕ) (stack units : ℕ) (a : Action) : Type 0 where
-  pub each : (k : ℕ) (x : Node) → slice_get a k ≡ Some x → NodeStands items given out (exits_of a) k x
+pub record Stood (items : List Item) (ws : ℕ → NodeWords) (stack units : ℕ) (a : Action) : Type 0 where
+  pub each : (k : ℕ) (x : Node) → slice_get a k ≡ Some x → NodeStands items ws (exits_of a) k x
   -- the first instructions and the entries
   pub entered : Entered items (entries_from 0) stack units
   -- the first instructions come to the root of the action
@@ -107,9 +107,9 @@ nodes-begin items labels stack units rest same =
       behind = omega (arith, at);
     }
 
-pub action-stands : (given out : ℕ → List ℕ) (stack units : ℕ) (a : Action) (items : List Item) → items ≡ action_items given out stack units a → LabelsStand items → Stood items given out stack units a
-action-stands given out stack units a items same labels =
-    let blocks = blocks_from given out 0 (exits_of a) a in
+pub action-stands : (ws : ℕ → NodeWords) (stack units : ℕ) (a : Action) (items : List Item) → items ≡ action_items ws stack units a → LabelsStand items → Stood items ws stack units a
+action-stands ws stack units a items same labels =
+    let blocks = blocks_from ws 0 (exits_of a) a in
     let nodes = blocks ++ ending (length a) in
     let begin = nodes-begin items labels stack units (Mark start_label ∷ nodes) same in
     let n0 = begin.place in
@@ -117,15 +117,15 @@ action-stands given out stack units a items same labels =
     let c1 : Cursor items n0 nodes = over-mark items n0 start_label nodes begin.cursor in
     let zero : length a ≡ 0 + length a = omega arith in
     let c_nodes : Cursor items n0 (blocks ++ ending (0 + length a)) = subst (λ n. Cursor items n0 (blocks ++ ending n)) zero c1 in
-    let first = begins items labels given out (exits_of a) a 0 in
-    let all = all-stand items labels given out (exits_of a) a 0 n0 c_nodes begin.behind in
+    let first = begins items labels ws (exits_of a) a 0 in
+    let all = all-stand items labels ws (exits_of a) a 0 n0 c_nodes begin.behind in
     let n1 = n0 + total blocks in
     let last = Jump completed_label ∷ Mark end_label ∷ [] in
     let ends = opens items labels (length a) n1 last (over items n0 blocks (ending (length a)) c1) in
     let far = jump-stands items n1 completed_label (Mark end_label ∷ []) ends.cursor in
     let c2 : Cursor items (n1 + 2) (Mark end_label ∷ []) = over-jump items n1 completed_label (Mark end_label ∷ []) ends.cursor in
     record {
-      each = λ k x e. let z : 0 + k ≡ k = omega arith in subst (λ m. NodeStands items given out (exits_of a) m x) z (all k x e);
+      each = λ k x e. let z : 0 + k ≡ k = omega arith in subst (λ m. NodeStands items ws (exits_of a) m x) z (all k x e);
       entered = prelude-stands items labels (entries_from 0) stack units (Mark start_label ∷ nodes) same;
       root = (opens items labels 0 n0 first.behind (subst (Cursor items n0) first.is c_nodes)).start ∙ sym start_at;
       completed = subst (λ m. Has (code_of items) (address_of m) (far_jump m (spot items completed_label))) (sym ends.front) far;

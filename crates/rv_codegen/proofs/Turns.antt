@@ -24,6 +24,8 @@ use Rattle.rv_prelude.specs.EntryRuns.{EscapesOut}
 use Rattle.rv_prelude.specs.PieceRuns.{HasRegion}
 use Rattle.rv_prelude.specs.Region.{Chains}
 use Rattle.rv_prelude.proofs.Jumps.{jumped, jump-runs}
+use Rattle.rv_codegen.proofs.Alternating.{Alternative, or-starts}
+use Rattle.rv_codegen.proofs.ArmsDone.{or-done, cut-done}
 use Rattle.rv_codegen.proofs.Around.{Around}
 use Rattle.rv_codegen.proofs.Checking.{IsCheckable, check-goes}
 use Rattle.rv_codegen.proofs.Completions.{tail-done}
@@ -42,15 +44,16 @@ use Rattle.rv_codegen.proofs.Phases.{phases-start, first-done, second-done}
 use Rattle.rv_codegen.proofs.RestPoints.{Laid, RestsAt, RunsAt, DoneAt, EscapesAt, IsAt, GoesOn, Starting, StartGoesOn, near}
 use Rattle.rv_codegen.proofs.SendEntry.{send_code}
 use Rattle.rv_codegen.proofs.Sending.{IsSendable, send-goes}
-use Rattle.rv_codegen.proofs.Settings.{Setting, code, point, start, exit}
+use Rattle.rv_codegen.proofs.Settings.{Setting, code, point, start, exit, node_words}
 use Rattle.rv_codegen.proofs.Standing.{NodeStands}
 
 module _ (s : Setting) where
   -- the nodes are of kinds that are built, their code stands, and so do the exits and the entry that sends
   pub record Compiled : Type 0 where
     pub records : LaidRecords s
+    pub alternatives : (n l r : ℕ) → node_at s.action n ≡ Either l r → Alternative s n l r
     pub labels : LabelsStand s.items
-    pub each : (k : ℕ) → IsNode (node_at s.action k) → NodeStands s.items s.places.given s.places.out s.exits k (node_at s.action k)
+    pub each : (k : ℕ) → IsNode (node_at s.action k) → NodeStands s.items (node_words s) s.exits k (node_at s.action k)
     pub built : (k : ℕ) → IsNode (node_at s.action k) → is_built_node (node_at s.action k) ≡ true
     pub numbers : NumbersFit s.action
     pub few : (k : ℕ) → node_yielder_count (node_at s.action k) < 65536
@@ -75,7 +78,7 @@ module _ (s : Setting) where
 
     -- ---- a node is to be performed
 
-    run-goes : (x : Starting s) (n : Node) → node_at s.action x.k ≡ n → NodeStands s.items s.places.given s.places.out s.exits x.k n → is_built_node n ≡ true → StartGoesOn s x
+    run-goes : (x : Starting s) (n : Node) → node_at s.action x.k ≡ n → NodeStands s.items (node_words s) s.exits x.k n → is_built_node n ≡ true → StartGoesOn s x
     run-goes x (Simple Complete) e stands b = complete-goes s laid x e it.labels (omega (arith, it.within x.k x.runs.here.node)) stands
     run-goes x (Simple Commit) e stands b = commit-goes s laid x e it.labels (it.within x.k x.runs.here.node) stands
     run-goes x (Simple Regive) e stands b = regives-goes s laid x e it.labels (it.within x.k x.runs.here.node) stands
@@ -93,6 +96,7 @@ module _ (s : Setting) where
         send-goes s laid it.send x y e ok it.labels (it.within x.k x.runs.here.node) stands
     run-goes x (Both j l r) e stands b = both-start s laid x j l r e
     run-goes x (Phases q l r) e stands b = phases-start s laid x q l r e
+    run-goes x (Either l r) e stands b = or-starts s it.records it.alternatives x l r e
     run-goes x _ e stands b = absurd (let r : false ≡ true = b in cc)
 
     -- ---- no trap is open: an escape passes all frames, and the run ends where the whole action has escaped
@@ -103,8 +107,8 @@ module _ (s : Setting) where
     escape-passes e heap words (InParRight n x ∷ fs) f k c h = let r = escape-passes e heap words fs f n c h.1 in ((tt, r.0), r.1)
     escape-passes e heap words (InFirst n d b ∷ fs) f k c h = let r = escape-passes e heap words fs f n c h.1 in ((tt, r.0), r.1)
     escape-passes e heap words (InSecond n d b ∷ fs) f k c h = let r = escape-passes e heap words fs f n c h.1 in ((tt, r.0), r.1)
-    escape-passes e heap words (InOr k2 d b ∷ fs) f k c h = absurd (unbuilt h.0 (Either k k2) h.2.node tt refl)
-    escape-passes e heap words (InCut ∷ fs) f k c h = absurd (unbuilt h.0 (Either k h.1.r) h.1.node tt refl)
+    escape-passes e heap words (InOr k2 d b ∷ fs) f k c h = let r = escape-passes e heap words fs f h.0 h.1 h.3 in ((tt, r.0), ap (λ z. z.trap) h.2.same ∙ r.1)
+    escape-passes e heap words (InCut ∷ fs) f k c h = let r = escape-passes e heap words fs f h.0 c h.3 in ((tt, r.0), r.1)
     escape-passes e heap words (InTrap n b ∷ fs) f k c h = absurd (unbuilt n (Trapping k h.1.r) h.1.node tt refl)
     escape-passes e heap words (InTail n ∷ fs) f k c h = let r = escape-passes e heap words fs f n c h.1 in ((tt, r.0), r.1)
     escape-passes e heap words (InCalled c' ∷ fs) f k c h = let r = escape-passes e heap words fs h.1 h.0 c h.3 in ((tt, r.0), r.1)
@@ -170,8 +174,8 @@ module _ (s : Setting) where
     done-goes steps (InParRight n y ∷ fs) w state rank d b shown left x r = right-done s laid n y (record { steps = steps; frames = fs; d = d; b = b; world = w; rank = rank; state = state; shown = shown; left = left; done = x; reached = r })
     done-goes steps (InFirst n d0 b0 ∷ fs) w state rank d b shown left x r = first-done s laid n d0 b0 (record { steps = steps; frames = fs; d = d; b = b; world = w; rank = rank; state = state; shown = shown; left = left; done = x; reached = r })
     done-goes steps (InSecond n d1 b1 ∷ fs) w state rank d b shown left x r = second-done s laid n d1 b1 (record { steps = steps; frames = fs; d = d; b = b; world = w; rank = rank; state = state; shown = shown; left = left; done = x; reached = r })
-    done-goes steps (InOr k2 d0 b0 ∷ fs) w state rank d b shown left x r = absurd (unbuilt x.here.around.0 (Either x.k k2) x.here.around.2.node tt refl)
-    done-goes steps (InCut ∷ fs) w state rank d b shown left x r = absurd (unbuilt x.here.around.0 (Either x.k x.here.around.1.r) x.here.around.1.node tt refl)
+    done-goes steps (InOr k2 d0 b0 ∷ fs) w state rank d b shown left x r = or-done s it.records it.alternatives k2 d0 b0 (record { steps = steps; frames = fs; d = d; b = b; world = w; rank = rank; state = state; shown = shown; left = left; done = x; reached = r })
+    done-goes steps (InCut ∷ fs) w state rank d b shown left x r = cut-done s it.records it.alternatives (record { steps = steps; frames = fs; d = d; b = b; world = w; rank = rank; state = state; shown = shown; left = left; done = x; reached = r })
     done-goes steps (InTrap n b0 ∷ fs) w state rank d b shown left x r = absurd (unbuilt n (Trapping x.k x.here.around.1.r) x.here.around.1.node tt refl)
     done-goes steps (InTail n ∷ fs) w state rank d b shown left x r = tail-done s laid n (record { steps = steps; frames = fs; d = d; b = b; world = w; rank = rank; state = state; shown = shown; left = left; done = x; reached = r })
     done-goes steps (InCalled c ∷ fs) w state rank d b shown left x r = absurd (it.uncalled x.here.around.0 c x.here.around.2.may)

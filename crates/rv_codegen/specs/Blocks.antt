@@ -8,14 +8,14 @@ use Rattle.rv_asm.specs.Conventions.{frame_register}
 use Rattle.rv_asm.specs.Pieces.{load_constant}
 use Rattle.rv_asm.specs.declared.item.Item.{Item}
 use Rattle.rv_asm.specs.declared.item.Item.TheVariants.{Plain, Mark, Jump, Address}
-use Rattle.action_terms.specs.Actions.{Yielder, Item as DataItem, Complete, Failing, Escape, Commit, Regive, Give, Check, Send, Node, Simple, Both, Phases, Action}
+use Rattle.action_terms.specs.Actions.{Yielder, Item as DataItem, Complete, Failing, Escape, Commit, Regive, Give, Check, Send, Node, Simple, Both, Phases, Either, Action}
 use Rattle.rv_yield.specs.Conditions.{condition_items}
 use Rattle.rv_yield.specs.Registers.{first_register}
 use Rattle.rv_yield.specs.YielderCode.{value_items}
 use Rattle.rv_prelude.specs.Items.{entries_from, prelude_items}
-use Rattle.rv_prelude.specs.Pieces.{commit}
-use Rattle.frame_layout.specs.Places.{Frame}
-use Rattle.rv_codegen.specs.Aliases.{given_of, out_of, places_in}
+use Rattle.rv_prelude.specs.Pieces.{commit, close_alternative, open_alternative_items}
+use Rattle.frame_layout.specs.Places.{Frame, PlacedNode}
+use Rattle.rv_codegen.specs.Aliases.{given_of, list_at, out_of, places_in}
 use Rattle.rv_codegen.specs.GivenItems.{give_items, moves_items}
 
 -- ---- labels: first those of the prelude, `entries_from 0`
@@ -70,17 +70,18 @@ front_of k = first_label + 1 + 4 * k
 abbrev pub start_of : ℕ → ℕ
 start_of k = first_label + 2 + 4 * k
 
--- the place behind what node k calls
+-- the place behind what node k calls, or behind the first arm of the alternative k
 abbrev pub stop_of : ℕ → ℕ
 stop_of k = first_label + 3 + 4 * k
 
 -- ---- nodes
 
 -- the labels where nodes go on once they have completed, by the number of the node: the first part of a node goes on at the
--- front of the second, and the second where the node does
+-- front of the second, that of an alternative at the stop of its node, and the second where the node does
 abbrev pub with_exits : Node → ℕ → List ℕ → List ℕ
 with_exits (Both j l r) k exits = slice_set (slice_set exits l (front_of r)) r (slice_index exits k)
 with_exits (Phases q l r) k exits = slice_set (slice_set exits l (front_of r)) r (slice_index exits k)
+with_exits (Either l r) k exits = slice_set (slice_set exits l (stop_of k)) r (slice_index exits k)
 with_exits _ k exits = exits
 
 -- so it is for the nodes from number k on
@@ -130,33 +131,46 @@ address_items offset =
 abbrev pub escapes : (given : List ℕ) → List Item
 escapes given = map Plain (address_items (slice_index given 0)) ++ Jump escape_label ∷ []
 
--- the code of node k behind its start, where the node goes on at a label, finds its data at the words `given` and leaves them at the words `out`
-abbrev pub body : (given out : List ℕ) → (k exit : ℕ) → Node → List Item
-body given out k exit (Simple Complete) = leaves k exit
-body given out k exit (Simple Commit) = commits k ++ leaves k exit
-body given out k exit (Simple Regive) = regives given out k ++ leaves k exit
-body given out k exit (Simple (Give is)) = gives given out k is ++ leaves k exit
-body given out k exit (Simple Failing) = Jump fail_label ∷ []
-body given out k exit (Simple Escape) = escapes given
-body given out k exit (Simple (Check y)) = checks given k y ++ leaves k exit
-body given out k exit (Simple (Send y)) = sends given k y ++ leaves k exit
-body given out k exit (Both j l r) = goes (start_of (suc k)) (start_of l)
-body given out k exit (Phases q l r) = goes (start_of (suc k)) (start_of l)
-body given out k exit _ = []
+-- opens the record of an alternative, whose other arm begins at the front of node r, and goes on to node l; where that has completed, it closes the record
+abbrev pub arms : (keep k l r : ℕ) → List Item
+arms keep k l r =
+    (open_alternative_items keep (front_of r) ++ (Jump (start_of l) ∷ []))
+    ++ (Mark (stop_of k) ∷ map Plain (close_alternative keep))
+
+-- the words of a frame that the code of a node names: where it finds its data, where it leaves them, and the first word of its record
+pub record NodeWords : Type 0 where
+  pub given : List ℕ
+  pub out : List ℕ
+  pub keep : ℕ
+
+-- the code of node k behind its start, where the node goes on at a label
+abbrev pub body : NodeWords → (k exit : ℕ) → Node → List Item
+body ws k exit (Simple Complete) = leaves k exit
+body ws k exit (Simple Commit) = commits k ++ leaves k exit
+body ws k exit (Simple Regive) = regives ws.given ws.out k ++ leaves k exit
+body ws k exit (Simple (Give is)) = gives ws.given ws.out k is ++ leaves k exit
+body ws k exit (Simple Failing) = Jump fail_label ∷ []
+body ws k exit (Simple Escape) = escapes ws.given
+body ws k exit (Simple (Check y)) = checks ws.given k y ++ leaves k exit
+body ws k exit (Simple (Send y)) = sends ws.given k y ++ leaves k exit
+body ws k exit (Both j l r) = goes (start_of (suc k)) (start_of l)
+body ws k exit (Phases q l r) = goes (start_of (suc k)) (start_of l)
+body ws k exit (Either l r) = arms ws.keep k l r ++ (Jump exit ∷ [])
+body ws k exit _ = []
 
 -- the marks before the body of node k
 abbrev pub opening : (k : ℕ) → List Item
 opening k = Mark (joint_of k) ∷ Mark (front_of k) ∷ Mark (start_of k) ∷ []
 
 -- the code of node k
-abbrev pub block : (given out : List ℕ) → (k exit : ℕ) → Node → List Item
-block given out k exit n = opening k ++ body given out k exit n
+abbrev pub block : NodeWords → (k exit : ℕ) → Node → List Item
+block ws k exit n = opening k ++ body ws k exit n
 
--- the code of the nodes from number k on, by where nodes find and leave data
-abbrev pub blocks_from : (given out : ℕ → List ℕ) → (k : ℕ) → List ℕ → Action → List Item
-blocks_from given out k exits [] = []
-blocks_from given out k exits (n ∷ a) =
-    block (given k) (out k) k (slice_index exits k) n ++ blocks_from given out (suc k) exits a
+-- the code of the nodes from number k on, by the words of nodes
+abbrev pub blocks_from : (ℕ → NodeWords) → (k : ℕ) → List ℕ → Action → List Item
+blocks_from ws k exits [] = []
+blocks_from ws k exits (n ∷ a) =
+    block (ws k) k (slice_index exits k) n ++ blocks_from ws (suc k) exits a
 
 -- ---- all of the code
 
@@ -165,10 +179,18 @@ abbrev pub ending : (nodes : ℕ) → List Item
 ending nodes = opening nodes ++ (Jump completed_label ∷ Mark end_label ∷ [])
 
 -- the code of an action for a capacity: the prelude, from which the run comes to the root, and the nodes
-abbrev pub action_items : (given out : ℕ → List ℕ) → (stack units : ℕ) → Action → List Item
-action_items given out stack units a =
-    prelude_items (entries_from 0) stack units ++ (Mark start_label ∷ (blocks_from given out 0 (exits_of a) a ++ ending (length a)))
+abbrev pub action_items : (ℕ → NodeWords) → (stack units : ℕ) → Action → List Item
+action_items ws stack units a =
+    prelude_items (entries_from 0) stack units ++ (Mark start_label ∷ (blocks_from ws 0 (exits_of a) a ++ ending (length a)))
 
--- the same, with the places that these frames have for data
+-- the words that some places have for the nodes of an action
+abbrev pub placed_words : (ℕ → PlacedNode) → Action → ℕ → NodeWords
+placed_words p a k = record { given = given_of p a k; out = out_of p a k; keep = (p k).keep }
+
+-- the same, with the places that these frames have
 abbrev pub framed_items : Action → List Frame → (stack units : ℕ) → List Item
-framed_items a fs stack units = action_items (given_of (places_in a fs) a) (out_of (places_in a fs) a) stack units a
+framed_items a fs stack units = action_items (placed_words (places_in a fs) a) stack units a
+
+-- the words that tables have for nodes, by their numbers
+abbrev pub table_words : (given out : List (List ℕ)) → (keeps : List ℕ) → ℕ → NodeWords
+table_words given out keeps k = record { given = list_at given k; out = list_at out k; keep = slice_index keeps k }

@@ -1,6 +1,6 @@
 -- Which nodes have code.
 use Rattle.std.specs.Prelude.{ℕ, suc, Bool, true, false, ◌&&◌, if◌then◌else◌, List, [], ◌∷◌}
-use Rattle.action_terms.specs.Actions.{Item, Single, Them, Complete, Failing, Escape, Commit, Regive, Give, Check, Send, Node, Simple, Both, Phases, Action}
+use Rattle.action_terms.specs.Actions.{Item, Single, Them, Complete, Failing, Escape, Commit, Regive, Give, Check, Send, Node, Simple, Both, Phases, Either, Action}
 use Rattle.rv_yield.specs.Registers.{is_built}
 
 -- whether the code of data can be generated: that of each yielder of a datum. `them` is moved
@@ -21,6 +21,7 @@ is_built_node (Simple (Check y)) = is_built y
 is_built_node (Simple (Send y)) = is_built y
 is_built_node (Both j l r) = true
 is_built_node (Phases q l r) = true
+is_built_node (Either l r) = true
 is_built_node _ = false
 
 -- the numbers, from k on, of the nodes whose code can't be generated

@@ -67,7 +67,7 @@ fn is_built(graph: &Graph<'_>, needs: &[usize], k: usize) -> bool
 {
     match graph.view(k) {
         NodeView::Simple(primitive) => is_built_primitive(graph, needs, primitive),
-        NodeView::Both { .. } | NodeView::Phases { .. } => true,
+        NodeView::Both { .. } | NodeView::Phases { .. } | NodeView::Either { .. } => true,
         _ => false,
     }
 }

@@ -11,8 +11,8 @@ use action_terms::{Graph, NodeView};
 use rv_asm::Label;
 use std::alloc::Global;
 
-/// Has the first part of node k go on at the front of the second, and the second where the node
-/// does.
+/// Has the first part of node k go on at the front of the second, or at the stop of an alternative,
+/// and the second where the node does.
 fn set_exits(exits: &mut Vec<Label>, labels: NodeLabels<'_>, graph: &Graph<'_>, k: usize)
     requires node { k < length graph.now.nodes }
     requires len { vec_len exits.old ≡ length graph.now.nodes }
@@ -35,6 +35,11 @@ fn set_exits(exits: &mut Vec<Label>, labels: NodeLabels<'_>, graph: &Graph<'_>, 
             let exit = exits[k];
             exits[left as usize] = labels.front(right as usize);
             exits[right as usize] = exit;
+        }
+        NodeView::Either { left, right } => {
+            let behind = exits[k];
+            exits[left as usize] = labels.stop(k);
+            exits[right as usize] = behind;
         }
         _ => {}
     }

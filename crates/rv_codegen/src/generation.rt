@@ -1,6 +1,6 @@
 //! The code of an action, for any action whose nodes are built.
 
-ghost use Rattle.std.specs.Prelude.{◌≡◌, ℕ, ◌+◌, ◌*◌, ◌<◌, ◌≤◌, [], ◌++◌, All, OnOk, IfOk, length, Some, map, sum_by};
+ghost use Rattle.std.specs.Prelude.{◌≡◌, ℕ, ◌+◌, ◌*◌, ◌<◌, ◌≤◌, [], ◌++◌, All, OnOk, IfOk, length, Some, map, slice_index, sum_by, vec_len};
 ghost use Rattle.rv_code.specs.Encode.{encode};
 ghost use Rattle.rv_asm.specs.Arrivals.{LabelsStand};
 ghost use Rattle.rv_asm.specs.Assembly.{total, code_of};
@@ -16,14 +16,14 @@ ghost use Rattle.sort_rules.specs.Tables.{MarkedTable};
 ghost use Rattle.frame_layout.specs.Layouts.{HasApartNodes, IsLayout};
 ghost use Rattle.frame_layout.specs.Places.{frames_of};
 ghost use Rattle.rv_codegen.specs.Aliases.{list_at, lists_of, words_at};
-ghost use Rattle.rv_codegen.specs.Blocks.{first_label, blocks_from, ending, action_items, framed_items};
+ghost use Rattle.rv_codegen.specs.Blocks.{first_label, blocks_from, ending, action_items, framed_items, table_words};
 ghost use Rattle.rv_codegen.specs.Marks.{extended, AreFresh};
 ghost use Rattle.rv_codegen.specs.Built.{unbuilt};
 ghost use Rattle.rv_codegen.specs.ItemCode.{AreReached};
 ghost use Rattle.rv_codegen.specs.Measures.{node_count};
 ghost use Rattle.rv_codegen.specs.RightImage.{compiled_image, IsRight};
 
-use crate::data_tables::data_tables;
+use crate::data_tables::{DataTables, data_tables};
 use crate::entries::{append_ending, append_prelude};
 use crate::exits::make_exits;
 use crate::labels::{NodeLabels, make_labels};
@@ -44,8 +44,8 @@ fn append_nodes(asm: &mut Asm, plan: Plan<'_, '_, '_>) -> Result<(), Memory>
     requires made { first_label + length plan.labels.row.now ≤ asm.old.labels }
     requires fresh { AreFresh 0 asm.old.items }
     ensures items { OnOk result (asm.new
-        ≡ extended asm.old (blocks_from (list_at (lists_of plan.entry.given.now))
-        (list_at (lists_of plan.entry.out.now)) 0 plan.entry.exits.now
+        ≡ extended asm.old (blocks_from (table_words (lists_of plan.entry.given.now)
+        (lists_of plan.entry.out.now) plan.entry.keeps.now) 0 plan.entry.exits.now
         (action_of plan.entry.graph.now))) }
     ensures fresh { OnOk result (AreFresh (length plan.entry.graph.now.nodes) asm.new.items) }
     ensures short { OnOk result
@@ -64,8 +64,8 @@ fn append_action(asm: &mut Asm, plan: Plan<'_, '_, '_>) -> Result<(), Memory>
     requires made { first_label + length plan.labels.row.now ≤ asm.old.labels }
     requires fresh { AreFresh 0 asm.old.items }
     ensures items { OnOk result (asm.new ≡ extended asm.old
-        (blocks_from (list_at (lists_of plan.entry.given.now))
-        (list_at (lists_of plan.entry.out.now)) 0 plan.entry.exits.now
+        (blocks_from (table_words (lists_of plan.entry.given.now)
+        (lists_of plan.entry.out.now) plan.entry.keeps.now) 0 plan.entry.exits.now
         (action_of plan.entry.graph.now)
         ++ ending (length (action_of plan.entry.graph.now)))) }
     ensures short { OnOk result (total asm.new.items
@@ -77,28 +77,29 @@ fn append_action(asm: &mut Asm, plan: Plan<'_, '_, '_>) -> Result<(), Memory>
 }
 
 /// The code of a graph's action for a capacity, by where its nodes find and leave data.
-fn assemble<'l>(
+fn assemble(
     alloc: Global,
     graph: &Graph<'_>,
-    given: &'l [&'l [u32]],
-    out: &'l [&'l [u32]],
+    tables: &DataTables<'_>,
     capacity: Capacity,
 ) -> Result<Code, Memory>
     requires built { unbuilt (action_of graph.now) ≡ [] }
-    requires given_count { length given.now ≡ length graph.now.nodes }
-    requires out_count { length out.now ≡ length graph.now.nodes }
-    requires given_reached { (k : ℕ) → AreReached (list_at (lists_of given.now) k) }
-    requires out_reached { (k : ℕ) → AreReached (list_at (lists_of out.now) k) }
+    requires given_count { vec_len tables.now.given ≡ length graph.now.nodes }
+    requires out_count { vec_len tables.now.out ≡ length graph.now.nodes }
+    requires keeps_count { vec_len tables.now.keeps ≡ length graph.now.nodes }
+    requires given_reached { (k : ℕ) → AreReached (list_at (lists_of tables.now.given.items) k) }
+    requires out_reached { (k : ℕ) → AreReached (list_at (lists_of tables.now.out.items) k) }
+    requires keeps_reached { (k : ℕ) → slice_index tables.now.keeps.items k < 33554432 }
     requires stack { (1 ≤ capacity.stack) × (capacity.stack ≤ 16777216) }
     requires units { (1 ≤ capacity.units) × (capacity.units ≤ 4194304) }
     ensures words { IfOk result (λ code. map Some code.words.items
-        ≡ map encode (code_of (action_items (list_at (lists_of given.now))
-        (list_at (lists_of out.now)) capacity.stack capacity.units (action_of graph.now)))) }
-    ensures labels { OnOk result (LabelsStand (action_items (list_at (lists_of given.now))
-        (list_at (lists_of out.now)) capacity.stack capacity.units (action_of graph.now))) }
+        ≡ map encode (code_of (action_items (table_words (lists_of tables.now.given.items)
+        (lists_of tables.now.out.items) tables.now.keeps.items) capacity.stack capacity.units (action_of graph.now)))) }
+    ensures labels { OnOk result (LabelsStand (action_items (table_words (lists_of tables.now.given.items)
+        (lists_of tables.now.out.items) tables.now.keeps.items) capacity.stack capacity.units (action_of graph.now))) }
     ensures short { OnOk result
-        (total (action_items (list_at (lists_of given.now)) (list_at (lists_of out.now))
-        capacity.stack capacity.units (action_of graph.now))
+        (total (action_items (table_words (lists_of tables.now.given.items)
+        (lists_of tables.now.out.items) tables.now.keeps.items) capacity.stack capacity.units (action_of graph.now))
         ≤ 4098 + 530 * node_count (action_of graph.now)) }
     ensures numbers { OnOk result (NumbersFit (action_of graph.now)) }
 {
@@ -114,8 +115,9 @@ fn assemble<'l>(
         graph: &*graph,
         needs: &needs,
         labels,
-        given,
-        out,
+        given: &tables.given,
+        out: &tables.out,
+        keeps: &tables.keeps,
         exits: &exits,
         entries: &entries,
     };
@@ -151,7 +153,7 @@ fn assemble_framed(
     let count = graph.nodes().len();
     let places = places_by_number(alloc, layout, count)?;
     let tables = data_tables(alloc, graph, &places)?;
-    assemble(alloc, graph, &tables.given, &tables.out, capacity)
+    assemble(alloc, graph, &tables, capacity)
 }
 
 /// The code of an action whose nodes are built, for an admissible table of its sorts, a layout of

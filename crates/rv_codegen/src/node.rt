@@ -1,15 +1,16 @@
 //! The code of one node.
 
-ghost use Rattle.std.specs.Prelude.{◌≡◌, ℕ, ◌+◌, ◌*◌, ◌<◌, ◌≤◌, ◌++◌, All, OnOk, true, false, length, map, slice_index};
+ghost use Rattle.std.specs.Prelude.{◌≡◌, ℕ, ◌+◌, ◌*◌, ◌<◌, ◌≤◌, [], ◌∷◌, ◌++◌, All, OnOk, true, false, length, map, slice_index};
 ghost use Rattle.rv_asm.specs.Assembly.{total, is_placed};
-ghost use Rattle.rv_asm.specs.declared.item.Item.TheVariants.{Plain};
+ghost use Rattle.rv_asm.specs.declared.item.Item.TheVariants.{Plain, Jump};
 ghost use Rattle.action_terms.specs.Actions.{Simple, node_at};
 ghost use Rattle.action_terms.specs.Forms.{AreItems, HasPrimitiveOperands, IsDatum, items_at, primitive_viewed, yielder_at};
 ghost use Rattle.action_terms.specs.Meaning.{action_of};
 ghost use Rattle.action_terms.specs.Need.{items_yielder_count, node_yielder_count, yielder_count};
 ghost use Rattle.action_terms.specs.Numbering.{node_limit};
+ghost use Rattle.rv_prelude.specs.Pieces.{open_alternative_items};
 ghost use Rattle.rv_yield.specs.Registers.{is_built};
-ghost use Rattle.rv_codegen.specs.Blocks.{first_label, start_of, stop_of, goes, leaves, address_items, escapes, commits, gives, regives, checks, sends, body, block};
+ghost use Rattle.rv_codegen.specs.Blocks.{first_label, front_of, start_of, stop_of, goes, leaves, address_items, escapes, commits, gives, regives, checks, sends, arms, body, block, table_words};
 ghost use Rattle.rv_codegen.specs.Aliases.{list_at, lists_of};
 ghost use Rattle.rv_codegen.specs.Marks.{extended, AreFresh, PlacesStop};
 ghost use Rattle.rv_codegen.specs.Built.{are_built, is_built_node};
@@ -22,7 +23,7 @@ use action_terms::{NodeView, PrimitiveView};
 use rv_asm::pieces::load_constant;
 use rv_asm::{Asm, Label};
 use rv_code::{Inst, OpImmOp, OpOp};
-use rv_prelude::pieces::commit;
+use rv_prelude::pieces::{close_alternative, commit, open_alternative};
 use rv_yield::{Source, condition_code, value_code};
 
 /// Appends the way to a label from before another: nothing where that is the one.
@@ -361,8 +362,8 @@ fn append_primitive(
     requires exit { exit < asm.old.labels }
     requires stop { is_placed asm.old.items (stop_of k) ≡ false }
     ensures items { OnOk result (asm.new ≡ extended asm.old
-        (body (list_at (lists_of plan.entry.given.now) k)
-        (list_at (lists_of plan.entry.out.now) k) k exit
+        (body (table_words (lists_of plan.entry.given.now)
+        (lists_of plan.entry.out.now) plan.entry.keeps.now k) k exit
         (Simple (primitive_viewed plan.entry.graph.now.yielders primitive.entry)))) }
     ensures marks { OnOk result (PlacesStop k asm.old.items asm.new.items) }
     ensures short { OnOk result (total asm.new.items ≤ total asm.old.items + 530
@@ -397,6 +398,55 @@ fn append_parts(asm: &mut Asm, plan: Plan<'_, '_, '_>, k: usize, first: u32) -> 
     append_way(asm, next, plan.labels.start(first as usize))
 }
 
+/// Appends what opens the record of an alternative and goes on to its first arm.
+#[tactic(auto, using(crate::proofs::Fresh::freshness))]
+fn append_first_arm(
+    asm: &mut Asm,
+    plan: Plan<'_, '_, '_>,
+    k: usize,
+    left: u32,
+    right: u32,
+) -> Result<(), Memory>
+    requires node { k < length plan.graph.now.nodes }
+    requires left { left < length plan.graph.now.nodes }
+    requires right { right < length plan.graph.now.nodes }
+    requires made { first_label + length plan.labels.row.now ≤ asm.old.labels }
+    ensures items { OnOk result (asm.new ≡ extended asm.old
+        (open_alternative_items (slice_index plan.entry.keeps.now k) (front_of right)
+        ++ (Jump (start_of left) ∷ []))) }
+    ensures marks { OnOk result
+        ((l : ℕ) → is_placed asm.old.items l ≡ false → is_placed asm.new.items l ≡ false) }
+    ensures short { OnOk result (total asm.new.items ≤ total asm.old.items + 22) }
+{
+    open_alternative(asm, plan.keep_at(k), plan.labels.front(right as usize))?;
+    asm.jump(plan.labels.start(left as usize))
+}
+
+/// Appends the code of the alternative k behind its start: it opens the record, goes on to the first
+/// arm, and closes the record where that has completed.
+#[tactic(auto, using(crate::proofs::Fresh::freshness))]
+fn append_arms(
+    asm: &mut Asm,
+    plan: Plan<'_, '_, '_>,
+    k: usize,
+    left: u32,
+    right: u32,
+) -> Result<(), Memory>
+    requires node { k < length plan.graph.now.nodes }
+    requires left { left < length plan.graph.now.nodes }
+    requires right { right < length plan.graph.now.nodes }
+    requires made { first_label + length plan.labels.row.now ≤ asm.old.labels }
+    requires stop { is_placed asm.old.items (stop_of k) ≡ false }
+    ensures items { OnOk result (asm.new ≡ extended asm.old
+        (arms (slice_index plan.entry.keeps.now k) k left right)) }
+    ensures marks { OnOk result (PlacesStop k asm.old.items asm.new.items) }
+    ensures short { OnOk result (total asm.new.items ≤ total asm.old.items + 35) }
+{
+    append_first_arm(asm, plan, k, left, right)?;
+    asm.place(plan.labels.stop(k));
+    close_alternative(asm, plan.keep_at(k))
+}
+
 /// Appends the code of node k behind its start, where the node goes on at a label.
 fn append_body(asm: &mut Asm, plan: Plan<'_, '_, '_>, k: usize, exit: Label) -> Result<(), Memory>
     requires node { k < length plan.graph.now.nodes }
@@ -404,8 +454,8 @@ fn append_body(asm: &mut Asm, plan: Plan<'_, '_, '_>, k: usize, exit: Label) -> 
     requires exit { exit < asm.old.labels }
     requires stop { is_placed asm.old.items (stop_of k) ≡ false }
     ensures items { OnOk result (asm.new
-        ≡ extended asm.old (body (list_at (lists_of plan.entry.given.now) k)
-        (list_at (lists_of plan.entry.out.now) k) k exit
+        ≡ extended asm.old (body (table_words (lists_of plan.entry.given.now)
+        (lists_of plan.entry.out.now) plan.entry.keeps.now k) k exit
         (node_at (action_of plan.entry.graph.now) k))) }
     ensures marks { OnOk result (PlacesStop k asm.old.items asm.new.items) }
     ensures short { OnOk result (total asm.new.items ≤ total asm.old.items + 530
@@ -423,6 +473,10 @@ fn append_body(asm: &mut Asm, plan: Plan<'_, '_, '_>, k: usize, exit: Label) -> 
             left,
             right: _,
         } => append_parts(asm, plan, k, left),
+        NodeView::Either { left, right } => {
+            append_arms(asm, plan, k, left, right)?;
+            asm.jump(exit)
+        }
         _ => Ok(()),
     }
 }
@@ -439,8 +493,8 @@ pub(crate) fn append_node(
     requires exit { exit < asm.old.labels }
     requires fresh { AreFresh k asm.old.items }
     ensures items { OnOk result (asm.new
-        ≡ extended asm.old (block (list_at (lists_of plan.entry.given.now) k)
-        (list_at (lists_of plan.entry.out.now) k) k exit
+        ≡ extended asm.old (block (table_words (lists_of plan.entry.given.now)
+        (lists_of plan.entry.out.now) plan.entry.keeps.now k) k exit
         (node_at (action_of plan.entry.graph.now) k))) }
     ensures fresh { OnOk result (AreFresh (k + 1) asm.new.items) }
     ensures short { OnOk result (total asm.new.items ≤ total asm.old.items + 530

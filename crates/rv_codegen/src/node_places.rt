@@ -80,3 +80,14 @@ pub(crate) fn own_escaped<'a>(places: &[NodePlaces<'a>], node: u32) -> &'a [u32]
 {
     places[node as usize].e
 }
+
+/// The first word of the record of each node.
+pub(crate) fn record_words(alloc: Global, places: &[NodePlaces<'_>]) -> Result<Vec<u32>, Memory>
+    ensures { IfOk result (λ keeps. keeps.items ≡ map (λ n. n.keep) (map placed_node places.now)) }
+{
+    let mut keeps = Vec::with_capacity(alloc, places.len())?;
+    for place in places {
+        keeps.push(place.keep)?;
+    }
+    Ok(keeps)
+}

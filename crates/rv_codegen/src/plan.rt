@@ -1,6 +1,6 @@
 //! What the code of an action is made from.
 
-ghost use Rattle.std.specs.Prelude.{◌≡◌, ℕ, ◌+◌, ◌*◌, ◌<◌, [], All, length};
+ghost use Rattle.std.specs.Prelude.{◌≡◌, ℕ, ◌+◌, ◌*◌, ◌<◌, [], All, length, slice_index};
 ghost use Rattle.action_terms.specs.Actions.{node_at};
 ghost use Rattle.action_terms.specs.Meaning.{action_of};
 ghost use Rattle.action_terms.specs.Need.{node_yielder_count};
@@ -32,6 +32,8 @@ pub(crate) struct Plan<'a, 'l, 'd> {
     pub(crate) given: &'d [&'d [u32]],
     /// Where each node leaves what it completes with.
     pub(crate) out: &'d [&'d [u32]],
+    /// The first word of the record of each node, by the number of the node.
+    pub(crate) keeps: &'d [u32],
     /// Where each node goes on, by the number of the node.
     pub(crate) exits: &'a [Label],
     /// The labels of the entries.
@@ -43,6 +45,8 @@ pub(crate) struct Plan<'a, 'l, 'd> {
     ghost out_count: { length out.now ≡ length graph.now.nodes },
     ghost given_reached: { (k : ℕ) → AreReached (list_at (lists_of given.now) k) },
     ghost out_reached: { (k : ℕ) → AreReached (list_at (lists_of out.now) k) },
+    ghost keeps_count: { length keeps.now ≡ length graph.now.nodes },
+    ghost keeps_reached: { (k : ℕ) → slice_index keeps.now k < 33554432 },
     ghost rows: { length labels.row.now ≡ 4 * length graph.now.nodes + 4 },
     ghost count: { length exits.now ≡ length graph.now.nodes },
     ghost goes_on: { exits.now ≡ exits_of (action_of graph.now) },
@@ -66,5 +70,14 @@ impl<'d> Plan<'_, '_, 'd> {
         ensures reached { AreReached result.now }
     {
         self.out[k]
+    }
+
+    /// The first word of the record of node k.
+    pub(crate) fn keep_at(self, k: usize) -> u32
+        requires { k < length self.graph.now.nodes }
+        ensures is { result ≡ slice_index self.entry.keeps.now k }
+        ensures near { result < 33554432 }
+    {
+        self.keeps[k]
     }
 }

@@ -3,8 +3,8 @@ use Rattle.std.proofs.lemmas.List.{length-map}
 use Rattle.action_terms.specs.Meaning.{action_of}
 use Rattle.action_terms.specs.Need.{node_yielder_count}
 use Rattle.action_terms.specs.Nodes.{listed_node}
-use Rattle.rv_codegen.specs.Aliases.{list_at, lists_of}
-use Rattle.rv_codegen.specs.Blocks.{blocks_from, ending}
+use Rattle.rv_codegen.specs.Aliases.{lists_of}
+use Rattle.rv_codegen.specs.Blocks.{blocks_from, ending, table_words}
 use Rattle.rv_codegen.proofs.GraphNodes.{length-action_of}
 use Rattle.rv_codegen.proofs.Emitting.{OnOk-then, both-appended, total-ended}
 use Rattle.rv_codegen.proofs.generation.append_action.Goals as goal
@@ -16,7 +16,7 @@ returns-clause-items c =
     let a = action_of graph in
     let count = length c.nodes.result.now in
     let same : count ≡ length a = sym (length-map c.nodes.result.now listed_node) ∙ ap length c.nodes.ensures.nodes ∙ sym (length-action_of graph) in
-    let blocks = blocks_from (list_at (lists_of plan.given.now)) (list_at (lists_of plan.out.now)) 0 plan.exits.now a in
+    let blocks = blocks_from (table_words (lists_of plan.given.now) (lists_of plan.out.now) plan.keeps.now) 0 plan.exits.now a in
     OnOk-then c.append_ending.result
     (λ e. both-appended c.args.asm.now c.append_nodes.new.asm c.append_ending.new.asm blocks (ending count) (ending (length a)) c.in_ok-append_nodes.ensures.items e (ap ending same))
     c.append_ending.ensures

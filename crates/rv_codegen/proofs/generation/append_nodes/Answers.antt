@@ -3,8 +3,8 @@ use Rattle.std.specs.Prelude.{drop}
 use Rattle.std.proofs.lemmas.List.{length-map}
 use Rattle.action_terms.specs.Nodes.{listed_node}
 use Rattle.action_terms.specs.Meaning.{action_of}
-use Rattle.rv_codegen.specs.Aliases.{list_at, lists_of}
-use Rattle.rv_codegen.specs.Blocks.{blocks_from}
+use Rattle.rv_codegen.specs.Aliases.{lists_of}
+use Rattle.rv_codegen.specs.Blocks.{blocks_from, table_words}
 use Rattle.rv_codegen.proofs.GraphNodes.{length-action_of}
 use Rattle.rv_codegen.proofs.NodesLaws.{blocks_from-next}
 use Rattle.rv_codegen.proofs.Yielders.{yielders-next}
@@ -16,15 +16,14 @@ loop-k-preserved c =
     let graph = c.args.plan.graph.now in
     let a = action_of graph in
     let exits = c.args.plan.exits.now in
-    let given = list_at (lists_of c.args.plan.given.now) in
-    let out = list_at (lists_of c.args.plan.out.now) in
+    let ws = table_words (lists_of c.args.plan.given.now) (lists_of c.args.plan.out.now) c.args.plan.keeps.now in
     let turn = c.loop-k-test.true in
     let within : k < length a = omega (arith, turn, length-map c.nodes-count.result.now listed_node, ap length c.nodes-count.ensures.nodes, length-action_of graph) in
     let appended = c.in_ok-append_node.ensures.items in
     record {
       items =
-          ap (λ s. s.items ++ blocks_from given out (k + 1) exits (drop (k + 1) a)) appended
-          ∙ blocks_from-next given out c.loop-k.asm.items exits a k c.index-plan-k.result within (omega (arith, turn, length-map c.nodes-count.result.now listed_node, ap length c.nodes-count.ensures.nodes, c.args.plan.count))
+          ap (λ s. s.items ++ blocks_from ws (k + 1) exits (drop (k + 1) a)) appended
+          ∙ blocks_from-next ws c.loop-k.asm.items exits a k c.index-plan-k.result within (omega (arith, turn, length-map c.nodes-count.result.now listed_node, ap length c.nodes-count.ensures.nodes, c.args.plan.count))
           ∙ c.loop-k.invariant.items;
       labels = ap (λ s. s.labels) appended ∙ c.loop-k.invariant.labels;
       fresh = c.in_ok-append_node.ensures.fresh;

@@ -1,5 +1,4 @@
-use Rattle.std.proofs.Common.{◌≡◌, ℕ, ◌+◌, ◌*◌, ◌<◌, ◌≤◌, List, IfOk, OnOk, Some, length, map, replicate, ap, subst, ◌∙◌, arith}
-use Rattle.std.specs.Borrow.{Bor}
+use Rattle.std.proofs.Common.{◌≡◌, ℕ, ◌+◌, ◌*◌, ◌≤◌, List, IfOk, OnOk, Some, length, map, replicate, ap, subst, ◌∙◌, arith}
 use Rattle.std.proofs.lemmas.List.{length-map, length-replicate}
 use Rattle.rv_code.specs.Encode.{encode}
 use Rattle.rv_asm.specs.Arrivals.{LabelsStand}
@@ -9,9 +8,9 @@ use Rattle.action_terms.specs.Meaning.{action_of}
 use Rattle.sort_rules.proofs.NodeWalks.{length-nodes}
 use Rattle.frame_layout.specs.Places.{PlacedNode, frames_of, placed_node}
 use Rattle.frame_layout.proofs.GraphParts.{trees-of_graph}
-use Rattle.rv_codegen.specs.Aliases.{given_of, list_at, lists_of, nowhere, out_of, place_at, put_frames}
+use Rattle.rv_codegen.specs.Aliases.{nowhere, put_frames}
 use Rattle.rv_codegen.specs.Measures.{node_count}
-use Rattle.rv_codegen.proofs.Framed.{framed-same, given-table, out-table}
+use Rattle.rv_codegen.proofs.Framed.{AreTables, given-table, keeps-table, out-table, tables-framed}
 use Rattle.rv_codegen.proofs.GraphNodes.{length-action_of}
 use Rattle.rv_codegen.proofs.PuttingPlaces.{length-put_frames, node-within}
 use Rattle.rv_codegen.proofs.generation.assemble_framed.Goals as goal
@@ -20,12 +19,6 @@ pub places_by_number-requires : goal.places_by_number-requires
 places_by_number-requires c = λ f n x m.
     let g = c.args.graph.now in
     omega (arith, node-within (action_of g) c.requires.table.0 (frames_of c.args.layout.now) c.requires.table.2 f n x m, length-nodes g c.nodes-count.result.now c.nodes-count.ensures.nodes)
-
-pub assemble-requires-clause-given_count : goal.assemble-requires-clause-given_count
-assemble-requires-clause-given_count c = omega (arith, c.deref-2.ensures.len, c.in_ok-tables.ensures.given_count)
-
-pub assemble-requires-clause-out_count : goal.assemble-requires-clause-out_count
-assemble-requires-clause-out_count c = omega (arith, c.deref-3.ensures.len, c.in_ok-tables.ensures.out_count)
 
 pub data_tables-requires : goal.data_tables-requires
 data_tables-requires c =
@@ -42,10 +35,11 @@ assemble-requires-clause-given_reached c =
     let fs = frames_of c.args.layout.now in
     let count = length-nodes g c.nodes-count.result.now c.nodes-count.ensures.nodes in
     let same : map placed_node c.deref.result.now ≡ put_frames fs (replicate (length a) nowhere) = ap (map placed_node) c.deref.ensures.value ∙ c.in_ok-places.ensures ∙ ap (λ (n : ℕ). put_frames fs (replicate n nowhere)) count in
-    let given_is = λ (k : ℕ) (less : k < length a). ap (λ (ys : List (Bor (List ℕ))). list_at (lists_of ys) k) c.deref-2.ensures.value ∙ c.in_ok-tables.ensures.given k (omega (arith, less, length-action_of g)) ∙ ap (λ (ns : List PlacedNode). given_of (place_at ns) a k) same in
-    let out_is = λ (k : ℕ) (less : k < length a). ap (λ (ys : List (Bor (List ℕ))). list_at (lists_of ys) k) c.deref-3.ensures.value ∙ c.in_ok-tables.ensures.out k (omega (arith, less, length-action_of g)) ∙ ap (λ (ns : List PlacedNode). out_of (place_at ns) a k) same in
-    given-table a (trees-of_graph g c.nodes-count.ensures.of_an_action) c.requires.table.0 c.requires.table.1 fs c.requires.table.2 c.requires.apart c.deref-2.result.now
-    (omega (arith, c.deref-2.ensures.len, c.in_ok-tables.ensures.given_count, length-action_of g)) given_is
+    let tables = c.in_ok-tables.tables in
+    let made : AreTables a (map placed_node c.deref.result.now) tables.given.items tables.out.items tables.keeps.items =
+    record { given_at = λ k less. c.in_ok-tables.ensures.given k (omega (arith, less, length-action_of g)); out_at = λ k less. c.in_ok-tables.ensures.out k (omega (arith, less, length-action_of g)); keeps_are = c.in_ok-tables.ensures.keeps } in
+    let are = subst (λ (ns : List PlacedNode). AreTables a ns tables.given.items tables.out.items tables.keeps.items) same made in
+    given-table a (trees-of_graph g c.nodes-count.ensures.of_an_action) c.requires.table.0 c.requires.table.1 fs c.requires.table.2 c.requires.apart tables.given.items tables.out.items tables.keeps.items are (omega (arith, c.in_ok-tables.ensures.given_count, length-action_of g))
 
 pub assemble-requires-clause-out_reached : goal.assemble-requires-clause-out_reached
 assemble-requires-clause-out_reached c =
@@ -54,10 +48,24 @@ assemble-requires-clause-out_reached c =
     let fs = frames_of c.args.layout.now in
     let count = length-nodes g c.nodes-count.result.now c.nodes-count.ensures.nodes in
     let same : map placed_node c.deref.result.now ≡ put_frames fs (replicate (length a) nowhere) = ap (map placed_node) c.deref.ensures.value ∙ c.in_ok-places.ensures ∙ ap (λ (n : ℕ). put_frames fs (replicate n nowhere)) count in
-    let given_is = λ (k : ℕ) (less : k < length a). ap (λ (ys : List (Bor (List ℕ))). list_at (lists_of ys) k) c.deref-2.ensures.value ∙ c.in_ok-tables.ensures.given k (omega (arith, less, length-action_of g)) ∙ ap (λ (ns : List PlacedNode). given_of (place_at ns) a k) same in
-    let out_is = λ (k : ℕ) (less : k < length a). ap (λ (ys : List (Bor (List ℕ))). list_at (lists_of ys) k) c.deref-3.ensures.value ∙ c.in_ok-tables.ensures.out k (omega (arith, less, length-action_of g)) ∙ ap (λ (ns : List PlacedNode). out_of (place_at ns) a k) same in
-    out-table a (trees-of_graph g c.nodes-count.ensures.of_an_action) c.requires.table.0 c.requires.table.1 fs c.requires.table.2 c.requires.apart c.deref-3.result.now
-    (omega (arith, c.deref-3.ensures.len, c.in_ok-tables.ensures.out_count, length-action_of g)) out_is
+    let tables = c.in_ok-tables.tables in
+    let made : AreTables a (map placed_node c.deref.result.now) tables.given.items tables.out.items tables.keeps.items =
+    record { given_at = λ k less. c.in_ok-tables.ensures.given k (omega (arith, less, length-action_of g)); out_at = λ k less. c.in_ok-tables.ensures.out k (omega (arith, less, length-action_of g)); keeps_are = c.in_ok-tables.ensures.keeps } in
+    let are = subst (λ (ns : List PlacedNode). AreTables a ns tables.given.items tables.out.items tables.keeps.items) same made in
+    out-table a (trees-of_graph g c.nodes-count.ensures.of_an_action) c.requires.table.0 c.requires.table.1 fs c.requires.table.2 c.requires.apart tables.given.items tables.out.items tables.keeps.items are (omega (arith, c.in_ok-tables.ensures.out_count, length-action_of g))
+
+pub assemble-requires-clause-keeps_reached : goal.assemble-requires-clause-keeps_reached
+assemble-requires-clause-keeps_reached c =
+    let g = c.args.graph.now in
+    let a = action_of g in
+    let fs = frames_of c.args.layout.now in
+    let count = length-nodes g c.nodes-count.result.now c.nodes-count.ensures.nodes in
+    let same : map placed_node c.deref.result.now ≡ put_frames fs (replicate (length a) nowhere) = ap (map placed_node) c.deref.ensures.value ∙ c.in_ok-places.ensures ∙ ap (λ (n : ℕ). put_frames fs (replicate n nowhere)) count in
+    let tables = c.in_ok-tables.tables in
+    let made : AreTables a (map placed_node c.deref.result.now) tables.given.items tables.out.items tables.keeps.items =
+    record { given_at = λ k less. c.in_ok-tables.ensures.given k (omega (arith, less, length-action_of g)); out_at = λ k less. c.in_ok-tables.ensures.out k (omega (arith, less, length-action_of g)); keeps_are = c.in_ok-tables.ensures.keeps } in
+    let are = subst (λ (ns : List PlacedNode). AreTables a ns tables.given.items tables.out.items tables.keeps.items) same made in
+    keeps-table a (trees-of_graph g c.nodes-count.ensures.of_an_action) c.requires.table.0 c.requires.table.1 fs c.requires.table.2 c.requires.apart tables.given.items tables.out.items tables.keeps.items are
 
 pub returns-clause-words : goal.returns-clause-words
 returns-clause-words c =
@@ -66,9 +74,11 @@ returns-clause-words c =
     let fs = frames_of c.args.layout.now in
     let count = length-nodes g c.nodes-count.result.now c.nodes-count.ensures.nodes in
     let same : map placed_node c.deref.result.now ≡ put_frames fs (replicate (length a) nowhere) = ap (map placed_node) c.deref.ensures.value ∙ c.in_ok-places.ensures ∙ ap (λ (n : ℕ). put_frames fs (replicate n nowhere)) count in
-    let given_is = λ (k : ℕ) (less : k < length a). ap (λ (ys : List (Bor (List ℕ))). list_at (lists_of ys) k) c.deref-2.ensures.value ∙ c.in_ok-tables.ensures.given k (omega (arith, less, length-action_of g)) ∙ ap (λ (ns : List PlacedNode). given_of (place_at ns) a k) same in
-    let out_is = λ (k : ℕ) (less : k < length a). ap (λ (ys : List (Bor (List ℕ))). list_at (lists_of ys) k) c.deref-3.ensures.value ∙ c.in_ok-tables.ensures.out k (omega (arith, less, length-action_of g)) ∙ ap (λ (ns : List PlacedNode). out_of (place_at ns) a k) same in
-    let framed = framed-same a fs c.args.capacity.stack c.args.capacity.units (list_at (lists_of c.deref-2.result.now)) (list_at (lists_of c.deref-3.result.now)) given_is out_is in
+    let tables = c.in_ok-tables.tables in
+    let made : AreTables a (map placed_node c.deref.result.now) tables.given.items tables.out.items tables.keeps.items =
+    record { given_at = λ k less. c.in_ok-tables.ensures.given k (omega (arith, less, length-action_of g)); out_at = λ k less. c.in_ok-tables.ensures.out k (omega (arith, less, length-action_of g)); keeps_are = c.in_ok-tables.ensures.keeps } in
+    let are = subst (λ (ns : List PlacedNode). AreTables a ns tables.given.items tables.out.items tables.keeps.items) same made in
+    let framed = tables-framed a fs tables.given.items tables.out.items tables.keeps.items are c.args.capacity.stack c.args.capacity.units in
     subst (λ (items : List Item). IfOk c.assemble.result (λ code. map Some code.words.items ≡ map encode (code_of items))) framed c.assemble.ensures.words
 
 pub returns-clause-labels : goal.returns-clause-labels
@@ -78,9 +88,11 @@ returns-clause-labels c =
     let fs = frames_of c.args.layout.now in
     let count = length-nodes g c.nodes-count.result.now c.nodes-count.ensures.nodes in
     let same : map placed_node c.deref.result.now ≡ put_frames fs (replicate (length a) nowhere) = ap (map placed_node) c.deref.ensures.value ∙ c.in_ok-places.ensures ∙ ap (λ (n : ℕ). put_frames fs (replicate n nowhere)) count in
-    let given_is = λ (k : ℕ) (less : k < length a). ap (λ (ys : List (Bor (List ℕ))). list_at (lists_of ys) k) c.deref-2.ensures.value ∙ c.in_ok-tables.ensures.given k (omega (arith, less, length-action_of g)) ∙ ap (λ (ns : List PlacedNode). given_of (place_at ns) a k) same in
-    let out_is = λ (k : ℕ) (less : k < length a). ap (λ (ys : List (Bor (List ℕ))). list_at (lists_of ys) k) c.deref-3.ensures.value ∙ c.in_ok-tables.ensures.out k (omega (arith, less, length-action_of g)) ∙ ap (λ (ns : List PlacedNode). out_of (place_at ns) a k) same in
-    let framed = framed-same a fs c.args.capacity.stack c.args.capacity.units (list_at (lists_of c.deref-2.result.now)) (list_at (lists_of c.deref-3.result.now)) given_is out_is in
+    let tables = c.in_ok-tables.tables in
+    let made : AreTables a (map placed_node c.deref.result.now) tables.given.items tables.out.items tables.keeps.items =
+    record { given_at = λ k less. c.in_ok-tables.ensures.given k (omega (arith, less, length-action_of g)); out_at = λ k less. c.in_ok-tables.ensures.out k (omega (arith, less, length-action_of g)); keeps_are = c.in_ok-tables.ensures.keeps } in
+    let are = subst (λ (ns : List PlacedNode). AreTables a ns tables.given.items tables.out.items tables.keeps.items) same made in
+    let framed = tables-framed a fs tables.given.items tables.out.items tables.keeps.items are c.args.capacity.stack c.args.capacity.units in
     subst (λ (items : List Item). OnOk c.assemble.result (LabelsStand items)) framed c.assemble.ensures.labels
 
 pub returns-clause-short : goal.returns-clause-short
@@ -90,7 +102,9 @@ returns-clause-short c =
     let fs = frames_of c.args.layout.now in
     let count = length-nodes g c.nodes-count.result.now c.nodes-count.ensures.nodes in
     let same : map placed_node c.deref.result.now ≡ put_frames fs (replicate (length a) nowhere) = ap (map placed_node) c.deref.ensures.value ∙ c.in_ok-places.ensures ∙ ap (λ (n : ℕ). put_frames fs (replicate n nowhere)) count in
-    let given_is = λ (k : ℕ) (less : k < length a). ap (λ (ys : List (Bor (List ℕ))). list_at (lists_of ys) k) c.deref-2.ensures.value ∙ c.in_ok-tables.ensures.given k (omega (arith, less, length-action_of g)) ∙ ap (λ (ns : List PlacedNode). given_of (place_at ns) a k) same in
-    let out_is = λ (k : ℕ) (less : k < length a). ap (λ (ys : List (Bor (List ℕ))). list_at (lists_of ys) k) c.deref-3.ensures.value ∙ c.in_ok-tables.ensures.out k (omega (arith, less, length-action_of g)) ∙ ap (λ (ns : List PlacedNode). out_of (place_at ns) a k) same in
-    let framed = framed-same a fs c.args.capacity.stack c.args.capacity.units (list_at (lists_of c.deref-2.result.now)) (list_at (lists_of c.deref-3.result.now)) given_is out_is in
+    let tables = c.in_ok-tables.tables in
+    let made : AreTables a (map placed_node c.deref.result.now) tables.given.items tables.out.items tables.keeps.items =
+    record { given_at = λ k less. c.in_ok-tables.ensures.given k (omega (arith, less, length-action_of g)); out_at = λ k less. c.in_ok-tables.ensures.out k (omega (arith, less, length-action_of g)); keeps_are = c.in_ok-tables.ensures.keeps } in
+    let are = subst (λ (ns : List PlacedNode). AreTables a ns tables.given.items tables.out.items tables.keeps.items) same made in
+    let framed = tables-framed a fs tables.given.items tables.out.items tables.keeps.items are c.args.capacity.stack c.args.capacity.units in
     subst (λ (items : List Item). OnOk c.assemble.result (total items ≤ 4098 + 530 * node_count a)) framed c.assemble.ensures.short

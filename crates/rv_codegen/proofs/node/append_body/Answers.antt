@@ -1,7 +1,10 @@
-use Rattle.std.proofs.Common.{◌≡◌, ◌<◌, true, length, subst, arith}
+use Rattle.std.proofs.Common.{◌≡◌, ◌<◌, true, false, length, ap, sym, subst, arith}
 use Rattle.action_terms.specs.Meaning.{action_of}
 use Rattle.action_terms.specs.Need.{node_yielder_count}
+use Rattle.rv_asm.specs.Assembly.{is_placed, total}
 use Rattle.rv_codegen.specs.Built.{is_built_node}
+use Rattle.rv_codegen.proofs.Emitting.{OnOk-then}
+use Rattle.rv_codegen.proofs.Fresh.{fresh-jump, total-jump}
 use Rattle.rv_codegen.proofs.GraphNodes.{length-action_of}
 use Rattle.rv_codegen.proofs.Unbuilt.{never_unbuilt}
 use Rattle.rv_codegen.proofs.node.append_body.Goals as goal
@@ -14,3 +17,15 @@ append_primitive-requires-clause-built c =
 
 pub append_primitive-requires-clause-few : goal.append_primitive-requires-clause-few
 append_primitive-requires-clause-few c = subst (λ n. node_yielder_count n < 65536) c.in-Simple.ensures.node (c.args.plan.few c.args.k)
+
+pub returns-in_ok-append_arms-in-Either-clause-marks : goal.returns-in_ok-append_arms-in-Either-clause-marks
+returns-in_ok-append_arms-in-Either-clause-marks c =
+    OnOk-then c.jump.result
+    (λ e l ne h. subst (λ z. is_placed z.items l ≡ false) (sym e) (fresh-jump c.append_arms.new.asm.items c.args.exit l (c.in_ok-append_arms-in-Either.ensures.marks l ne h)))
+    c.jump.ensures.ok
+
+pub returns-in_ok-append_arms-in-Either-clause-short : goal.returns-in_ok-append_arms-in-Either-clause-short
+returns-in_ok-append_arms-in-Either-clause-short c =
+    OnOk-then c.jump.result
+    (λ e. omega (arith, ap (λ z. total z.items) e, total-jump c.append_arms.new.asm.items c.args.exit, c.in_ok-append_arms-in-Either.ensures.short))
+    c.jump.ensures.ok
