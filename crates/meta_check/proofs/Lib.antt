@@ -19,4 +19,5 @@ pub mod KindRules
 pub mod Starts
 pub mod Filling
 pub mod Keys
+pub mod DeclaredItems
 pub mod EquationLaws

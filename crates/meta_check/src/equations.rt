@@ -87,8 +87,8 @@ fn parts_of<'t>(arena: &'t Bump, pattern: &[PatternPart<'t>]) -> Result<&'t [Par
     Ok(into_bump_slice(parts))
 }
 
-// The least alternative that a pattern equals.
-fn alternative_of<'t>(
+/// The least alternative that a pattern equals.
+pub fn alternative_of<'t>(
     arena: &'t Bump,
     equation: &Equation<'t>,
     functions: &BTreeMap<&'t [u8], usize>,
