@@ -2,3 +2,16 @@ pub mod Identifiers
 pub mod WholeMeanings
 pub mod FoundEquations
 pub mod Fitting
+pub mod Joins
+pub mod HeldTrees
+pub mod Standing
+pub mod VariableParts
+pub mod Numerals
+pub mod EquationTable
+pub mod Roots
+pub mod FilledItems
+pub mod NextNodes
+pub mod Turns
+pub mod FunctionNumbers
+pub mod Noting
+pub mod Expansions

@@ -20,16 +20,9 @@ use Rattle.meta_terms.specs.PlainItems.{PlainPatternPart, PlainEquation}
 use Rattle.meta_terms.specs.Templates.{Label, ActionNode, YielderNode, ActionTokenOf, YielderTokenOf, Applied, ValueOf}
 use Rattle.meta_terms.specs.Templates as template
 use Rattle.meta_check.specs.Checked.{PlainDescription}
+use Rattle.equation_expand.specs.Kept.{HasWholeTemplates, HaveForms}
 use Rattle.equation_expand.specs.Meaning.{Gap, Meaning, NoEquation, LargeNumeral, Part, Word, Phrase, equation_among, equation_of, is_equation_for, part_of, lexeme_of, named, named_by, valued, valued_by, applied, node_filled, joined, filled, equation_filled, meaning, parts_of, number_of_function}
 use Rattle.equation_expand.proofs.Identifiers.{identifier-is-token}
-
--- the template of each equation is one whole action
-abbrev pub HasWholeTemplates : List PlainEquation → Type 0
-HasWholeTemplates es = All (λ (e : PlainEquation). template.fills (AnAction ∷ []) e.action ≡ true) es
-
--- identifiers and numerals have their forms
-abbrev pub HaveForms : List PlainLexeme → Type 0
-HaveForms ls = All (λ (l : PlainLexeme). IsTrue (has_form l.kind l.bytes)) ls
 
 -- ---- what is put in
 

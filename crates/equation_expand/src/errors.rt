@@ -2,6 +2,7 @@
 ghost use Rattle.std.specs.Prelude.{◌≡◌};
 ghost use Rattle.equation_expand.specs.declared.errors.ExpandError.TheVariants as error;
 
+use acg_base::Memory;
 use std::alloc::{AllocError, AllocFailed};
 use thiserror::Error;
 
@@ -50,6 +51,14 @@ impl<T: Drop> From<AllocFailed<T>> for ExpandError {
     ghost from_gives = { λ _ e. e ≡ error.Memory };
 
     fn from(_error: AllocFailed<T>) -> ExpandError {
+        ExpandError::Memory
+    }
+}
+
+impl From<Memory> for ExpandError {
+    ghost from_gives = { λ _ e. e ≡ error.Memory };
+
+    fn from(_error: Memory) -> ExpandError {
         ExpandError::Memory
     }
 }

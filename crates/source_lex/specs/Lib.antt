@@ -5,3 +5,4 @@ pub mod ScanErrors
 pub mod Numbered
 pub mod Trees
 pub mod Numbers
+pub mod Uniform
