@@ -176,6 +176,29 @@ fn data_of_64_places(rt: HostRuntime) -> Result<(), Fail> {
     Ok(())
 }
 
+// The same data, with which an escape comes to a handler whose words are as far.
+#[test]
+fn caught_data_of_64_places(rt: HostRuntime) -> Result<(), Fail> {
+    let mut action = Vec::from_slice(rt.alloc(), b"give (1, 2)")?;
+    for _turn in 0..5 {
+        action.extend_from_slice(b" then give (them, them)")?;
+    }
+    for _turn in 0..32 {
+        action.extend_from_slice(b" then regive")?;
+    }
+    action.extend_from_slice(b" then (escape trap ((send the given integer # 1)")?;
+    action.extend_from_slice(b" and (send the given integer # 64)))")?;
+    assert!(rt;
+        acts(
+            rt.alloc(),
+            &action,
+            b"stack 1048576 units 262144 factor 5080\n1\n2\ncompleted\n",
+            Status::Done,
+        )?
+    );
+    Ok(())
+}
+
 // Actions with alternatives, what is printed behind the words of the header, and the status.
 const ALTERNATIVES: [(&[u8], &[u8], Status); 12] = [
     (
@@ -305,6 +328,99 @@ fn commitments_within_alternatives(rt: HostRuntime) -> Result<(), Fail> {
             &action,
             b"stack 1048576 units 262144 factor 424\ncompleted\n",
             Status::Done,
+        )?
+    );
+    Ok(())
+}
+
+// Actions with traps, what is printed behind the words of the header, and the status.
+const TRAPS: [(&[u8], &[u8], Status); 13] = [
+    (
+        b"(escape with 7) trap (send the given integer)",
+        b"496\n7\ncompleted\n",
+        Status::Done,
+    ),
+    (b"escape with 7", b"496\nescaped\n", Status::Escaped),
+    (
+        b"((fail or escape) trap fail) or send 2",
+        b"448\n2\ncompleted\n",
+        Status::Done,
+    ),
+    (
+        b"(((send 1 or complete) trap complete) and then fail) or send 2",
+        b"448\n1\nfailed\n",
+        Status::Failed,
+    ),
+    (
+        b"(escape trap send 1) and then send 2",
+        b"448\n1\n2\ncompleted\n",
+        Status::Done,
+    ),
+    (
+        b"((send 1 and then escape) trap fail) or send 2",
+        b"448\n1\nfailed\n",
+        Status::Failed,
+    ),
+    (
+        b"(complete trap send 1) and then escape",
+        b"448\nescaped\n",
+        Status::Escaped,
+    ),
+    (
+        b"(escape with (1, 2)) trap (send difference(the given integer # 1, the given integer # 2))",
+        b"688\n-1\ncompleted\n",
+        Status::Done,
+    ),
+    (
+        b"((escape with 1) trap (escape with 2)) trap (send the given integer)",
+        b"496\n2\ncompleted\n",
+        Status::Done,
+    ),
+    (
+        b"(give 3) then (escape trap (send the given integer))",
+        b"496\n3\ncompleted\n",
+        Status::Done,
+    ),
+    (
+        b"(escape with integer-quotient(1, 0)) trap (send 5)",
+        b"592\nfailed\n",
+        Status::Failed,
+    ),
+    (
+        b"(((commit trap complete) and then escape) trap fail) or send 2",
+        b"448\nfailed\n",
+        Status::Failed,
+    ),
+    (
+        b"((fail or escape) and then send 1) trap (send 2)",
+        b"448\n2\ncompleted\n",
+        Status::Done,
+    ),
+];
+
+#[test]
+fn traps(rt: HostRuntime) -> Result<(), Fail> {
+    for (action, behind, status) in TRAPS {
+        let mut printed = Vec::from_slice(rt.alloc(), b"stack 1048576 units 262144 factor ")?;
+        printed.extend_from_slice(behind)?;
+        assert!(rt; acts(rt.alloc(), action, &printed, status)?);
+    }
+    Ok(())
+}
+
+// Traps within the first parts of others, each of whose handlers escapes again.
+#[test]
+fn traps_within_first_parts(rt: HostRuntime) -> Result<(), Fail> {
+    let mut action = Vec::new(rt.alloc());
+    repeated(&mut action, b"(", 20000)?;
+    action.extend_from_slice(b"escape")?;
+    repeated(&mut action, b" trap escape)", 20000)?;
+    assert!(rt;
+        acts(
+            rt.alloc(),
+            &action,
+            b"stack 1048576 units 262144 factor 424\nescaped\n",
+            Status::Escaped,
         )?
     );
     Ok(())

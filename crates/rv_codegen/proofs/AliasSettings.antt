@@ -22,6 +22,7 @@ abbrev pub data_places : Action → (ℕ → PlacedNode) → (words : ℕ → �
 data_places a p words = record {
   given = given_of p a;
   out = out_of p a;
+  escaped = λ k. (p k).escaped;
   bound = no_slots;
   bound_out = no_slots;
   BindsAt = NoTokens;

@@ -32,32 +32,37 @@ use Rattle.rv_codegen.specs.Built.{is_built_node}
 use Rattle.rv_codegen.proofs.AliasLengths.{length-out_of}
 use Rattle.rv_codegen.proofs.AliasPlaces.{HasOwnWords, given-not_out, given-within, out-once, out-within}
 use Rattle.rv_codegen.proofs.AliasRows.{given-row}
-use Rattle.rv_codegen.proofs.AliasRules.{Passes, both-given_left, both-given_right, both-joined, either-given, either-out, phases-given_left, phases-given_right, phases-joined, then-ends, then-given_right}
+use Rattle.rv_codegen.proofs.AliasRules.{Passes, both-given_left, both-given_right, both-joined, either-given, either-out, phases-given_left, phases-given_right, phases-joined, trapping-given_left, then-ends, then-given_right}
 use Rattle.rv_codegen.proofs.Alternating.{Alternative}
 use Rattle.rv_codegen.proofs.AliasSettings.{alias-placed, both-stays, data_places, phases-stays, same-frame}
 use Rattle.rv_codegen.proofs.Around.{InOrder, Shares}
-use Rattle.rv_codegen.proofs.CaughtPlaces.{given-caught}
+use Rattle.rv_codegen.proofs.CaughtPlaces.{escaped-caught, given-caught}
 use Rattle.rv_codegen.proofs.EitherCode.{alternative-stands}
 use Rattle.rv_codegen.proofs.Ending.{none-long}
-use Rattle.rv_codegen.proofs.ExitLaws.{HasTree, PartExits, both-exits, either-exits, phases-exits, root-exit}
+use Rattle.rv_codegen.proofs.ExitLaws.{HasTree, PartExits, both-exits, either-exits, phases-exits, root-exit, trapping-exits}
 use Rattle.rv_codegen.proofs.Failing.{LaidArms, LaidRecords}
 use Rattle.rv_codegen.proofs.Holding.{Apart}
-use Rattle.rv_codegen.proofs.LayoutWords.{in-fits, keep-reached, keep-within, layout-words, words-reached, words-within}
-use Rattle.rv_codegen.proofs.NodeParts.{IsNode, IsPartOf, KeepsRecord, part-node}
+use Rattle.rv_codegen.proofs.LayoutWords.{in-fits, keep-reached, keep-within, layout-words, escaped-row, words-reached, words-some, words-within}
+use Rattle.rv_codegen.proofs.NodeParts.{IsNode, IsPartOf, IsTailOf, KeepsRecord, part-node}
+use Rattle.rv_codegen.proofs.EscapingWith.{EscapesPlaces}
+use Rattle.rv_codegen.proofs.PlacedData.{escapes-places}
 use Rattle.rv_codegen.proofs.PuttingPlaces.{put-by_number}
-use Rattle.rv_codegen.proofs.RestPoints.{Laid, DataLaid, PhasePlaces, LaidPhases, LaidBoth}
+use Rattle.rv_codegen.proofs.RestPoints.{Laid, Starting, DataLaid, PhasePlaces, LaidPhases, LaidBoth}
 use Rattle.rv_codegen.proofs.Settings.{Way, Bodies, Setting, code, point, front, start, frame_words, node_words}
 use Rattle.rv_codegen.proofs.SendEntry.{send_code}
+use Rattle.rv_codegen.proofs.SharedEnds.{handler-fills, handler-written, trap-where}
+use Rattle.rv_codegen.proofs.TrapCodes.{trap-stands}
+use Rattle.rv_codegen.proofs.Trapping.{LaidTrap, LaidTraps, TrapCode}
 use Rattle.rv_codegen.proofs.Standing.{Stood, NodeStands, opens, action-stands}
 use Rattle.rv_codegen.proofs.Suited.{runs-in_shape}
 use Rattle.rv_codegen.proofs.SuitedEnds.{tree-completes}
 use Rattle.rv_codegen.proofs.SuitedTails.{EndsAs, either-ends, ends-as}
-use Rattle.rv_codegen.proofs.SuitedPlaces.{out-length, out-width, suits}
+use Rattle.rv_codegen.proofs.SuitedPlaces.{escaped-width, given-width, out-length, out-width, suits}
 use Rattle.rv_codegen.proofs.Turns.{Compiled}
 use Rattle.rv_codegen.proofs.Unbound.{joins-none, chains-none}
 use Rattle.rv_prelude.specs.Items.{entries_from}
 use Rattle.rv_prelude.proofs.Cursors.{Cursor}
-use Rattle.rv_prelude.proofs.Entered.{Entry as EntryAt, fails, fails-out, escapes-out}
+use Rattle.rv_prelude.proofs.Entered.{Entry as EntryAt, escapes, escapes-out, fails, fails-out}
 use Rattle.rv_codegen.proofs.Walk.{way-stands}
 
 -- an action whose nodes have code and make a tree
@@ -167,13 +172,13 @@ module _ (x : Subject) (fs : List Frame) (ok : IsCompilable x.action) (framed : 
       inl (o.front ∙ sym o.start, omega (arith, lt))
 
   -- the start of a node with parts leads to that of its first part
-  start-leads : (k l : ℕ) (n : Node) → IsNode n → NodeStands s.items (node_words s) s.exits k n → k < length x.action → body (node_words s k) k (get_or s.exits k 0) n ≡ goes (start_of (suc k)) (start_of l) → Way (code s) (start s k) (start s l)
+  start-leads : (k l : ℕ) (n : Node) → IsNode n → NodeStands s.items (node_words s) s.exits k n → k < length x.action → body (node_words s) k (get_or s.exits k 0) n ≡ goes (start_of (suc k)) (start_of l) → Way (code s) (start s k) (start s l)
   start-leads k l n node stands lt is =
       let c = subst (λ b. Cursor s.items stands.place (b ++ (opening (suc k) ++ stands.behind))) is stands.opened.cursor in
       way-stands s stands.place (start_of k) (start_of (suc k)) (start_of l) (opening (suc k) ++ stands.behind) stands.opened.start c (λ c'. (opens s.items labels (suc k) stands.place stands.behind c').start) (omega (arith, lt))
 
   -- the parts of a node with two parts are performed in order
-  in-order : (k l r : ℕ) (n : Node) → node_at x.action k ≡ n → IsNode n → IsPartOf n r → body (node_words s k) k (get_or s.exits k 0) n ≡ goes (start_of (suc k)) (start_of l) → PartExits x.action ok.tree k l r (front_of r) → Apart (s.places.Writes r) (s.places.out l) → InOrder s k l r
+  in-order : (k l r : ℕ) (n : Node) → node_at x.action k ≡ n → IsNode n → IsPartOf n r → body (node_words s) k (get_or s.exits k 0) n ≡ goes (start_of (suc k)) (start_of l) → PartExits x.action ok.tree k l r (front_of r) → Apart (s.places.Writes r) (s.places.out l) → InOrder s k l r
   in-order k l r n e some part is exits stays =
       let node : IsNode (node_at x.action k) = subst IsNode (sym e) some in
       let second = part-there k r (subst (λ m. IsPartOf m r) (sym e) part) in
@@ -241,7 +246,6 @@ module _ (x : Subject) (fs : List Frame) (ok : IsCompilable x.action) (framed : 
     row = λ k. given-row x.action ok.trees x.table fs framed.layout framed.apart ns by_number k;
     caught = λ k h. given-caught s ok.trees p (words_at fs) own (λ j. given-row x.action ok.trees x.table fs framed.layout framed.apart ns by_number j) k (within k h);
     unbound = λ k. refl;
-    escaped = λ k. (p k).escaped;
     suits = λ steps frames k d b w node reached. suits x.action ok.trees x.table fs framed.layout framed.apart ns by_number framed.admissible input steps frames k (within k node) d b w reached;
     fits = λ steps frames n t w m e u node own_tree reached step ends. tree-completes x.action x.table framed.admissible input steps frames n t w m e u own_tree reached step ends;
     fills = λ n e u node fits. fits.given ∙ sym (out-length x.action ok.trees x.table fs framed.layout framed.apart ns by_number n (within n node));
@@ -332,24 +336,72 @@ module _ (x : Subject) (fs : List Frame) (ok : IsCompilable x.action) (framed : 
         failed_exits = ending-at failed_label 1 there.failed;
       }
 
+  trapping-there : (k l r : ℕ) → node_at x.action k ≡ Trapping l r → PartExits x.action ok.tree k l r (stop_of k)
+  trapping-there k l r e = trapping-exits x.action ok.tree k l r (node-there k (Trapping l r) e tt)
+
+  trap-laid : (k l r : ℕ) → node_at x.action k ≡ Trapping l r → LaidTrap s k l r
+  trap-laid k l r e =
+      let there : k < length x.action = within k (subst IsNode (sym e) tt) in
+      let ends = trap-where x.action ok.trees x.table fs framed.layout framed.apart ns by_number framed.admissible k l r there e in
+      record {
+        left_given = trapping-given_left x.action ok.trees p k l r e;
+        left_bound = refl;
+        left_out = ends.0;
+        left_bound_out = refl;
+        left_binds = λ token h. h;
+        right_bound = refl;
+        tail = record { tail = subst (λ m. IsTailOf m r) (sym e) refl; exit_is = ap (point s) (trapping-there k l r e).second; ends = ends.1; ends_bound = refl; table = λ token h. h };
+        few = given-width x.action ok.trees x.table fs framed.layout framed.apart ns by_number r;
+        written = λ o m. handler-written x.action ok.trees x.table fs framed.layout framed.apart ns by_number framed.admissible (words_at fs) k l r o e m;
+      }
+
+  trap-code : (k l r : ℕ) → node_at x.action k ≡ Trapping l r → TrapCode s k l r
+  trap-code k l r e =
+      let node : IsNode (node_at x.action k) = subst IsNode (sym e) tt in
+      let stands = subst (NodeStands s.items (node_words s) s.exits k) e (each k node) in
+      trap-stands s whole-laid labels k l r (keep-reached x.action ok.trees x.table fs framed.layout framed.apart ns by_number k) (ap (point s) (trapping-there k l r e).first) stands.place stands.opened.start (opening (suc k) ++ stands.behind) stands.opened.cursor
+
+  trapped-laid : LaidTraps s
+  trapped-laid =
+      let e = entries_from 0 in
+      let there = stood.entered in
+      record {
+        records = records;
+        traps = trap-laid;
+        codes = trap-code;
+        escapes = escapes s.items e x.stack x.units there whole-laid.small;
+        escapes_out = escapes-out s.items e x.stack x.units there whole-laid.small;
+        escaped_exits = ending-at escaped_label 2 there.escaped;
+        fills = λ steps frames n l r b d w node reached. handler-fills x.action ok.trees x.table fs framed.layout framed.apart ns by_number framed.admissible input steps frames n l r b d w node reached;
+      }
+
+  rows-laid : (x' : Starting s) → EscapesPlaces s trapped-laid.records.laid x' (s.places.escaped x'.k)
+  rows-laid x' =
+      let k = x'.k in
+      let there : k < length x.action = within k x'.runs.here.node in
+      let few : length (p k).escaped ≤ s.widest = escaped-width x.action ok.trees x.table fs framed.layout framed.apart ns by_number k there in
+      let some = words-some x.action ok.trees x.table fs framed.layout framed.apart ns by_number k there in
+      escapes-places s ok.trees p (words_at fs) own trapped-laid.records.laid x' there (words-reached x.action ok.trees x.table fs framed.layout framed.apart ns by_number k there)
+      (escaped-row x.action ok.trees x.table fs framed.layout framed.apart ns by_number k there) few (omega (arith, some))
+      (escaped-caught s ok.trees p (words_at fs) own (λ j lt. escaped-row x.action ok.trees x.table fs framed.layout framed.apart ns by_number j lt) k there)
+
   pub compiled : Compiled s
   compiled =
       let e = entries_from 0 in
       let there = stood.entered in
       record {
-        records = records;
+        traps = trapped-laid;
         alternatives = alternatives;
         labels = labels;
         each = each;
         built = λ k h. ok.built k (node_at x.action k) (here k h);
+        rows = rows-laid;
         numbers = ok.numbers;
         few = ok.few;
         within = λ k h. omega (arith, within k h);
         uncalled = λ n c h. h;
         completed = subst (λ i. Has (code s) (address_of (spot s.items i)) (far_jump (spot s.items i) (spot s.items completed_label))) (sym (root-exit x.action ok.tree ok.some)) stood.completed;
         completed_exits = ending-at completed_label 0 there.completed;
-        escapes_out = escapes-out s.items e x.stack x.units there whole-laid.small;
-        escaped_exits = ending-at escaped_label 2 there.escaped;
         send = subst (λ n. Has (code s) (address_of n) send_code) (sym there.send.is) there.send.stands;
       }
 

@@ -8,7 +8,7 @@ use Rattle.rv_asm.specs.declared.item.Item.{Item}
 use Rattle.rv_asm.specs.declared.item.Item.TheVariants.{Plain, Mark, Jump, Address}
 use Rattle.rv_asm.proofs.Labels.{total-append}
 use Rattle.rv_yield.proofs.ItemLaws.{IsShort, placed-unmarked}
-use Rattle.rv_codegen.specs.Blocks.{end_label, joint_of, front_of, start_of, stop_of, opening, ending, address_items}
+use Rattle.rv_codegen.specs.Blocks.{end_label, front_of, start_of, stop_of, joint_of, opening, ending, address_items}
 use Rattle.rv_codegen.specs.Marks.{extended, AreFresh, PlacesStop}
 use Rattle.rv_codegen.proofs.Fresh.{fresh-mark, fresh-plain, fresh-jump, fresh-opening, total-jump, total-plain}
 use Rattle.rv_codegen.proofs.FrameAddresses.{length-address}
@@ -21,31 +21,27 @@ OnOk-then (Err e) f a = tt
 abbrev marked : Listing → ℕ → Listing
 marked s l = record s { items = s.items ++ Mark l ∷ [] }
 
-module _ (s s1 s2 : Listing) (k a b : ℕ) (fresh : AreFresh k s.items) (first : s1 ≡ marked s a) (a_is : a ≡ joint_of k) (b_is : b ≡ front_of k) where
-  -- the second mark of an opening, and the third
-  pub front-fresh : is_placed s1.items b ≡ false
-  front-fresh =
+module _ (s s1 : Listing) (k a b : ℕ) (fresh : AreFresh k s.items) (first : s1 ≡ marked s a) (a_is : a ≡ front_of k) (b_is : b ≡ start_of k) where
+  -- the second mark of an opening
+  pub start-fresh : is_placed s1.items b ≡ false
+  start-fresh =
       let h : is_placed (s.items ++ Mark a ∷ []) b ≡ false = fresh-mark s.items a b (λ e. omega arith) (fresh b (inr (omega arith))) in
       subst (λ z. is_placed z.items b ≡ false) (sym first) h
 
-  pub start-fresh : s2 ≡ marked s1 b → (d : ℕ) → d ≡ start_of k → is_placed s2.items d ≡ false
-  start-fresh second d d_is =
-      let h : is_placed (s.items ++ Mark a ∷ []) d ≡ false = fresh-mark s.items a d (λ e. omega arith) (fresh d (inr (omega arith))) in
-      let g : is_placed s1.items d ≡ false = subst (λ z. is_placed z.items d ≡ false) (sym first) h in
-      subst (λ z. is_placed z.items d ≡ false) (sym second) (fresh-mark s1.items b d (λ e. omega arith) g)
-
-  -- the three marks are the opening
-  pub opened : s2 ≡ marked s1 b → (s3 : Listing) (d : ℕ) → d ≡ start_of k → s3 ≡ marked s2 d → s3 ≡ record s { items = s.items ++ opening k }
-  opened second s3 d d_is third =
-      let all : s3 ≡ marked (marked (marked s a) b) d = third ∙ ap (λ z. marked z d) (second ∙ ap (λ z. marked z b) first) in
-      let flat : ((s.items ++ Mark a ∷ []) ++ Mark b ∷ []) ++ Mark d ∷ [] ≡ s.items ++ (Mark a ∷ Mark b ∷ Mark d ∷ []) =
-      append_assoc (s.items ++ Mark a ∷ []) (Mark b ∷ []) (Mark d ∷ []) ∙ append_assoc s.items (Mark a ∷ []) (Mark b ∷ Mark d ∷ []) in
-      let named : Mark a ∷ Mark b ∷ Mark d ∷ [] ≡ opening k = cc in
+  -- the two marks are the opening
+  pub opened : (s2 : Listing) → s2 ≡ marked s1 b → s2 ≡ record s { items = s.items ++ opening k }
+  opened s2 second =
+      let all : s2 ≡ marked (marked s a) b = second ∙ ap (λ z. marked z b) first in
+      let flat : (s.items ++ Mark a ∷ []) ++ Mark b ∷ [] ≡ s.items ++ (Mark a ∷ Mark b ∷ []) = append_assoc s.items (Mark a ∷ []) (Mark b ∷ []) in
+      let named : Mark a ∷ Mark b ∷ [] ≡ opening k = cc in
       all ∙ ap (λ l. record s { items = l }) (flat ∙ ap (λ l. s.items ++ l) named)
 
--- behind an opening the node's stop is still to be placed, and there is as much code as before
+-- behind an opening the node's stop and its joint are still to be placed, and there is as much code as before
 pub stop-fresh : (s s1 : Listing) (k : ℕ) → AreFresh k s.items → s1 ≡ record s { items = s.items ++ opening k } → is_placed s1.items (stop_of k) ≡ false
 stop-fresh s s1 k fresh e = subst (λ z. is_placed z.items (stop_of k) ≡ false) (sym e) (fresh-opening s.items k (stop_of k) fresh (inr (omega arith)))
+
+pub joint-fresh : (s s1 : Listing) (k : ℕ) → AreFresh k s.items → s1 ≡ record s { items = s.items ++ opening k } → is_placed s1.items (joint_of k) ≡ false
+joint-fresh s s1 k fresh e = subst (λ z. is_placed z.items (joint_of k) ≡ false) (sym e) (fresh-opening s.items k (joint_of k) fresh (inr (omega arith)))
 
 pub total-opened : (s s1 : Listing) (k : ℕ) → s1 ≡ record s { items = s.items ++ opening k } → total s1.items ≡ total s.items
 total-opened s s1 k e = ap (λ z. total z.items) e ∙ total-append s.items (opening k) ∙ omega arith
@@ -83,7 +79,7 @@ mark-short s s1 l e = ap (λ z. total z.items) e ∙ total-append s.items (Mark 
 -- instructions and a jump
 module _ (s s1 s2 : Listing) (is : List Inst) (m : ℕ) (first : s1 ≡ appended s is) (second : s2 ≡ record s1 { items = s1.items ++ Jump m ∷ [] }) where
   pub jumping-keeps : (k : ℕ) → PlacesStop k s.items s2.items
-  jumping-keeps k l ne h =
+  jumping-keeps k l ne nj h =
       subst (λ z. is_placed z.items l ≡ false) (sym second) (fresh-jump s1.items m l (subst (λ z. is_placed z.items l ≡ false) (sym first) (fresh-plain s.items is l h)))
 
   pub jumping-short : total s2.items ≡ total s.items + length is + 2
@@ -112,7 +108,7 @@ module _ (s s1 s2 : Listing) (piece : List Item) (limit m : ℕ) (short : IsShor
   piece-short = omega (arith, mark-short s1 s2 m second, ap (λ z. total z.items) first, total-append s.items piece, short.few)
 
   pub piece-keeps : (k : ℕ) → m ≡ stop_of k → PlacesStop k s.items s2.items
-  piece-keeps k is l ne h =
+  piece-keeps k is l ne nj h =
       let kept : is_placed s1.items l ≡ false = ap (λ z. is_placed z.items l) first ∙ placed-unmarked s.items piece l short.unmarked ∙ h in
       mark-keeps s1 s2 m l second (λ e. ne (sym (sym is ∙ e))) kept
 

@@ -76,7 +76,7 @@ module _ (s : Setting) where
         }
 
     -- so it does where its code goes on at once
-    ends-goes : (p : Primitive) (n : Step) → node_at s.action x.k ≡ Simple p → performed p x.d x.b x.world ≡ n → closures_of p ≡ [] → n.made ≡ [] → n.tree ≡ done → world_after n.effect x.world ≡ x.world → Region s x.runs.here.words (chains_after (commits n.effect) x.runs.here.chains) → LabelsStand s.items → start_of x.k < s.labels → NodeStands s.items (node_words s) s.exits x.k (Simple p) → body (node_words s x.k) x.k (get_or s.exits x.k 0) (Simple p) ≡ leaves x.k (get_or s.exits x.k 0) → StartGoesOn s x
+    ends-goes : (p : Primitive) (n : Step) → node_at s.action x.k ≡ Simple p → performed p x.d x.b x.world ≡ n → closures_of p ≡ [] → n.made ≡ [] → n.tree ≡ done → world_after n.effect x.world ≡ x.world → Region s x.runs.here.words (chains_after (commits n.effect) x.runs.here.chains) → LabelsStand s.items → start_of x.k < s.labels → NodeStands s.items (node_words s) s.exits x.k (Simple p) → body (node_words s) x.k (get_or s.exits x.k 0) (Simple p) ≡ leaves x.k (get_or s.exits x.k 0) → StartGoesOn s x
     ends-goes p n e is none_made none_in tree same region labels within stands code_is =
         let cursor = subst (λ b. Cursor s.items stands.place (b ++ (opening (suc x.k) ++ stands.behind))) code_is stands.opened.cursor in
         let way = leaves-stand labels x.k stands.place (start_of x.k) stands.behind stands.opened.start (omega arith) within cursor in

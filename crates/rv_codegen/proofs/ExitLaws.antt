@@ -1,9 +1,9 @@
--- Where nodes go on: the first part of a node at the front of the second, or at the stop of an alternative, and the second where the node does.
+-- Where nodes go on: the first part of a node at the front of the second, or at the stop of an alternative or of a trap, and the second where the node does.
 use Rattle.std.proofs.Common.{◌≡◌, ◌≢◌, ℕ, zero, suc, ◌+◌, ◌*◌, ◌<◌, ◌≤◌, List, [], ◌∷◌, length, get_or, set, replicate, Some, refl, sym, ap, ◌∙◌, arith, inl, inr, length-set, get_or-set_same, add-zero, add-one, drop}
 use Rattle.std.proofs.lemmas.List.{get_or-set_other, get_or-replicate, length-replicate, drop_more, get_or_default}
 use Rattle.std.proofs.lemmas.Option.{slice_get-get_or}
 use Rattle.std.specs.Prelude.{slice_get, All}
-use Rattle.action_terms.specs.Actions.{Join, Chain, Node, Both, Phases, Either, Stray, Action, node_or_stray, node_at}
+use Rattle.action_terms.specs.Actions.{Join, Chain, Node, Both, Phases, Either, Trapping, Stray, Action, node_or_stray, node_at}
 use Rattle.rv_codegen.specs.Blocks.{first_label, front_of, stop_of, with_exits, exits_from, exits_of}
 use Rattle.rv_codegen.proofs.NodeParts.{IsPartOf}
 
@@ -12,6 +12,7 @@ abbrev pub PartsApart : Node → Type 0
 PartsApart (Both j l r) = l ≢ r
 PartsApart (Phases q l r) = l ≢ r
 PartsApart (Either l r) = l ≢ r
+PartsApart (Trapping l r) = l ≢ r
 PartsApart _ = Unit {0}
 
 -- the parts of an action's nodes make a tree: each is a node behind its own, and of one node alone
@@ -25,6 +26,7 @@ length-with_exits : (n : Node) (k : ℕ) (exits : List ℕ) → length (with_exi
 length-with_exits (Both j l r) k exits = length-set (set exits l (front_of r)) r (get_or exits k 0) ∙ length-set exits l (front_of r)
 length-with_exits (Phases q l r) k exits = length-set (set exits l (front_of r)) r (get_or exits k 0) ∙ length-set exits l (front_of r)
 length-with_exits (Either l r) k exits = length-set (set exits l (stop_of k)) r (get_or exits k 0) ∙ length-set exits l (stop_of k)
+length-with_exits (Trapping l r) k exits = length-set (set exits l (stop_of k)) r (get_or exits k 0) ∙ length-set exits l (stop_of k)
 length-with_exits _ k exits = refl
 
 -- a node leaves what isn't its part
@@ -34,6 +36,8 @@ with_exits-other (Both j l r) k c exits h =
 with_exits-other (Phases q l r) k c exits h =
     get_or-set_other (set exits l (front_of r)) r c (get_or exits k 0) 0 (λ e. h (inr (sym e))) ∙ get_or-set_other exits l c (front_of r) 0 (λ e. h (inl (sym e)))
 with_exits-other (Either l r) k c exits h =
+    get_or-set_other (set exits l (stop_of k)) r c (get_or exits k 0) 0 (λ e. h (inr (sym e))) ∙ get_or-set_other exits l c (stop_of k) 0 (λ e. h (inl (sym e)))
+with_exits-other (Trapping l r) k c exits h =
     get_or-set_other (set exits l (stop_of k)) r c (get_or exits k 0) 0 (λ e. h (inr (sym e))) ∙ get_or-set_other exits l c (stop_of k) 0 (λ e. h (inl (sym e)))
 with_exits-other _ k c exits h = refl
 
@@ -118,6 +122,9 @@ module _ (a : Action) (tree : HasTree a) where
   pub either-exits : (k l r : ℕ) → slice_get a k ≡ Some (Either l r) → PartExits k l r (stop_of k)
   either-exits k l r e = part-exits k l r (stop_of k) (Either l r) e (inl refl) (inr refl) (tree.apart k (Either l r) e) (λ then. refl)
 
+  pub trapping-exits : (k l r : ℕ) → slice_get a k ≡ Some (Trapping l r) → PartExits k l r (stop_of k)
+  trapping-exits k l r e = part-exits k l r (stop_of k) (Trapping l r) e (inl refl) (inr refl) (tree.apart k (Trapping l r) e) (λ then. refl)
+
   pub root-exit : 0 < length a → get_or (exits_of a) 0 0 ≡ front_of (length a)
   root-exit some =
       exits_from-other a 0 0 at_first (λ j n e p. let z = tree.after j 0 n e p in omega arith) ∙ get_or-replicate (length a) 0 (front_of (length a)) 0 some
@@ -149,6 +156,7 @@ with_exits-below : (n : Node) (count bound k : ℕ) (exits : List ℕ) → first
 with_exits-below (Both j l r) count bound k exits le own parts h = two-below bound l r (front_of r) (get_or exits k 0) exits (omega (arith, parts r (inr refl))) (h k) h
 with_exits-below (Phases q l r) count bound k exits le own parts h = two-below bound l r (front_of r) (get_or exits k 0) exits (omega (arith, parts r (inr refl))) (h k) h
 with_exits-below (Either l r) count bound k exits le own parts h = two-below bound l r (stop_of k) (get_or exits k 0) exits (omega arith) (h k) h
+with_exits-below (Trapping l r) count bound k exits le own parts h = two-below bound l r (stop_of k) (get_or exits k 0) exits (omega arith) (h k) h
 with_exits-below _ count bound k exits le own parts h = h
 
 exits_from-below : (a : Action) (count bound k : ℕ) (exits : List ℕ) → first_label + 1 + 4 * count ≤ bound → k + length a ≤ count → ((j c : ℕ) (n : Node) → slice_get a j ≡ Some n → IsPartOf n c → c < count) → AreBelow bound exits → AreBelow bound (exits_from k a exits)

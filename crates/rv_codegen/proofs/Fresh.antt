@@ -5,7 +5,7 @@ use Rattle.rv_asm.specs.Assembly.{is_placed, total}
 use Rattle.rv_asm.specs.declared.item.Item.{Item}
 use Rattle.rv_asm.specs.declared.item.Item.TheVariants.{Plain, Mark, Jump, BranchTo, Address}
 use Rattle.rv_asm.proofs.Labels.{total-append}
-use Rattle.rv_codegen.specs.Blocks.{end_label, joint_of, front_of, start_of, stop_of, opening}
+use Rattle.rv_codegen.specs.Blocks.{end_label, front_of, start_of, stop_of, joint_of, opening}
 use Rattle.rv_codegen.specs.Marks.{AreFresh, PlacesStop}
 
 pub is_placed-append : (a b : List Item) (l : ℕ) → is_placed a l ≡ false → is_placed b l ≡ false → is_placed (a ++ b) l ≡ false
@@ -42,23 +42,22 @@ fresh-address items d m l h = is_placed-append items (Address d m ∷ []) l h re
 pub fresh-plain : (items : List Item) (is : List Inst) (l : ℕ) → is_placed items l ≡ false → is_placed (items ++ map Plain is) l ≡ false
 fresh-plain items is l h = is_placed-append items (map Plain is) l h (is_placed-plain is l)
 
--- behind the marks of node k its own stop, the end of the code and the labels of later nodes are still to be placed
+-- behind the marks of node k its own stop and joint, the end of the code and the labels of later nodes are still to be placed
 pub fresh-opening : (items : List Item) (k l : ℕ) → AreFresh k items → (l ≡ end_label) ⊎ (stop_of k ≤ l) → is_placed (items ++ opening k) l ≡ false
 fresh-opening items k l fresh h =
-    let below : (l ≡ end_label) ⊎ (joint_of k ≤ l) = ⊎_elim (λ b. inl b) (λ b. inr (omega arith)) h in
-    let a : joint_of k ≢ l = ⊎_elim (λ b. omega arith) (λ b. omega arith) h in
+    let below : (l ≡ end_label) ⊎ (front_of k ≤ l) = ⊎_elim (λ b. inl b) (λ b. inr (omega arith)) h in
     let b : front_of k ≢ l = ⊎_elim (λ b. omega arith) (λ b. omega arith) h in
     let c : start_of k ≢ l = ⊎_elim (λ b. omega arith) (λ b. omega arith) h in
-    let e1 : eqb (joint_of k) l ≡ false = ne_eqb _ _ a in
     let e2 : eqb (front_of k) l ≡ false = ne_eqb _ _ b in
     let e3 : eqb (start_of k) l ≡ false = ne_eqb _ _ c in
-    is_placed-append items (opening k) l (fresh l below) (rw (e1, e2, e3) refl)
+    is_placed-append items (opening k) l (fresh l below) (rw (e2, e3) refl)
 
 -- behind a node's code the end of the code and the labels of later nodes are still to be placed
 pub fresh-behind : (items items' : List Item) (k : ℕ) → AreFresh k items → PlacesStop k (items ++ opening k) items' → AreFresh (k + 1) items'
 fresh-behind items items' k fresh places l h =
     let other : l ≢ stop_of k = ⊎_elim (λ b. omega arith) (λ b. omega arith) h in
-    places l other (fresh-opening items k l fresh (⊎_elim (λ b. inl b) (λ b. inr (omega arith)) h))
+    let next : l ≢ joint_of k = ⊎_elim (λ b. omega arith) (λ b. omega arith) h in
+    places l other next (fresh-opening items k l fresh (⊎_elim (λ b. inl b) (λ b. inr (omega arith)) h))
 
 pub total-jump : (items : List Item) (m : ℕ) → total (items ++ Jump m ∷ []) ≡ total items + 2
 total-jump items m = total-append items (Jump m ∷ [])

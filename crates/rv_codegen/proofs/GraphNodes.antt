@@ -74,6 +74,7 @@ read-apart g k kind.Hence n names = second-behind (part_at n 0) (part_at n 1) na
 read-apart g k kind.Moreover n names = second-behind (part_at n 0) (part_at n 1) names.1
 read-apart g k kind.Before n names = second-behind (part_at n 0) (part_at n 1) names.1
 read-apart g k kind.Or n names = second-behind (part_at n 0) (part_at n 1) names.1
+read-apart g k kind.Trap n names = second-behind (part_at n 0) (part_at n 1) names.1
 read-apart g k _ n names = tt
 
 -- the nodes of a graph's action make a tree

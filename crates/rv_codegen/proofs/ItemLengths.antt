@@ -1,7 +1,11 @@
 -- How many instructions the code of data has, and that it places no label.
-use Rattle.std.proofs.Common.{ℕ, ◌*◌, ◌<◌, List, [], ◌∷◌, length, take, drop, map, arith, length-take, length-drop}
+use Rattle.std.proofs.Common.{ℕ, ◌*◌, ◌<◌, ◌≤◌, List, [], ◌∷◌, length, take, drop, map, arith, length-append, length-take, length-drop}
 use Rattle.std.proofs.lemmas.List.Elements.{All-drop, All-take}
 use Rattle.rv_asm.specs.declared.item.Item.TheVariants.{Plain}
+use Rattle.rv_code.specs.declared.instruction.Inst.TheVariants.{Op}
+use Rattle.rv_code.specs.declared.instruction.OpOp.TheVariants.{Add}
+use Rattle.rv_asm.specs.Pieces.{load_constant}
+use Rattle.rv_asm.proofs.Constants.{length-load_constant}
 use Rattle.rv_asm.proofs.Sending.{total-plain}
 use Rattle.action_terms.specs.Actions.{Item, Single, Them, Yielder}
 use Rattle.action_terms.specs.Need.{items_yielder_count, yielder_count}
@@ -10,7 +14,7 @@ use Rattle.rv_yield.specs.YielderCode.{load_items, store_items, stored_items}
 use Rattle.rv_yield.proofs.ItemLaws.{AreQuiet, IsShort, none-short, quiet-append, quiet-load, quiet-store, short-append, unmarked-plain, value-short}
 use Rattle.rv_yield.proofs.Stored.{length-store}
 use Rattle.rv_yield.proofs.Targets.{some-count}
-use Rattle.rv_codegen.specs.GivenItems.{give_items, move_items, moves_items, single_items}
+use Rattle.rv_codegen.specs.GivenItems.{give_items, move_items, moves_items, point_items, single_items}
 use Rattle.rv_codegen.specs.ItemCode.{AreReached}
 use Rattle.rv_codegen.proofs.MovedWords.{length-moves}
 
@@ -51,3 +55,8 @@ give-short given out l (Single y ∷ is) near_given near_out =
     short-append (520 * yielder_count y) (520 * items_yielder_count is) (520 * items_yielder_count (Single y ∷ is)) _ _ (omega arith) (single-short given out l y) (give-short given (drop 1 out) l is near_given (drop-reached 1 out near_out))
 give-short given out l (Them ∷ is) near_given near_out =
     short-append 512 (520 * items_yielder_count is) (520 * items_yielder_count (Them ∷ is)) _ _ (omega arith) (moves-short given (take (length given) out) near_given (take-reached (length given) out near_out)) (give-short given (drop (length given) out) l is near_given (drop-reached (length given) out near_out))
+
+-- the address of a row
+pub length-point : (os : List ℕ) → length (point_items os) ≤ 9
+length-point [] = omega arith
+length-point (o ∷ os) = omega (arith, length-append (load_constant 10 (8 * o)) (Op Add 10 10 2 ∷ []), length-load_constant 10 (8 * o))

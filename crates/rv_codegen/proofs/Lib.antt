@@ -83,3 +83,12 @@ pub mod PlacedData
 pub mod EscapingItems
 pub mod CaughtPlaces
 pub mod SuitedTails
+pub mod CaughtWords
+pub mod RecordWords
+pub mod Trapping
+pub mod TrapDone
+pub mod TrapFound
+pub mod Catching
+pub mod SharedEnds
+pub mod TrapCodes
+pub mod CaughtCode

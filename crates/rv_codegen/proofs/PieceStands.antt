@@ -22,7 +22,7 @@ module _ (s : Setting) (k : ℕ) (piece : List Item) where
     pub leave : Way (code s) (stop s k) (exit s k)
     pub behind_failure : (failure s).place < (start s k).place
 
-  pub piece-stands : Laid s → LabelsStand s.items → stop_of k < s.labels → (node : Node) → body (node_words s k) k (get_or s.exits k 0) node ≡ (piece ++ Mark (stop_of k) ∷ []) ++ leaves k (get_or s.exits k 0) → NodeStands s.items (node_words s) s.exits k node → PieceStands
+  pub piece-stands : Laid s → LabelsStand s.items → stop_of k < s.labels → (node : Node) → body (node_words s) k (get_or s.exits k 0) node ≡ (piece ++ Mark (stop_of k) ∷ []) ++ leaves k (get_or s.exits k 0) → NodeStands s.items (node_words s) s.exits k node → PieceStands
   piece-stands laid labels within_labels node is at =
       let n = at.place in
       let here : spot s.items (start_of k) ≡ n = at.opened.start in

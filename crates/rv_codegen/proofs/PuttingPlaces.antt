@@ -1,7 +1,8 @@
 -- The places of nodes, each put at its number.
 use Rattle.std.proofs.Common.{◌≡◌, ℕ, zero, suc, ◌+◌, ◌<◌, List, [], ◌∷◌, ◌++◌, append_assoc, drop, get_or, length, map, set, refl, sym, ap, subst, ◌∙◌, arith, inl, inr, get_or-set_other, get_or-set_same, length-set}
 use Rattle.std.proofs.lemmas.Bool.Decides.{eqb_tells}
-use Rattle.std.proofs.lemmas.List.{drop_more, map-set}
+use Rattle.std.specs.Borrow.{Bor}
+use Rattle.std.proofs.lemmas.List.{drop_more, map-append, map-set}
 use Rattle.std.specs.Prelude.{filter, nat_eq, true}
 use Rattle.action_terms.specs.Actions.{Action}
 use Rattle.action_terms.specs.Performances.{OneOf, Here, Later}
@@ -16,7 +17,7 @@ use Rattle.frame_layout.specs.Places.{Frame, PlacedNode, frame_of, placed_node}
 use Rattle.frame_layout.specs.Layouts.{IsFrame, IsLayout}
 use Rattle.frame_layout.proofs.NodeLists.{filter-member, node_numbers-range}
 use Rattle.frame_layout.proofs.Words.{range-member}
-use Rattle.rv_codegen.specs.Aliases.{AreByNumber, ArePut, nowhere, place_at, put_each, put_frames}
+use Rattle.rv_codegen.specs.Aliases.{AreByNumber, ArePut, lists_of, nowhere, place_at, put_each, put_frames}
 use Rattle.rv_codegen.proofs.LayoutWords.{Rising, filter-rising, member-mapped, one-frame, one-with_key}
 
 -- what a read past the end of a list of places gives
@@ -53,6 +54,15 @@ pub keeps-next : (places : List NodePlaces) (ks : List ℕ) (i : ℕ) (d : NodeP
 keeps-next places ks i d less =
     append_assoc ks ((get_or places i d).keep ∷ []) (map (λ (n : PlacedNode). n.keep) (map placed_node (drop (i + 1) places)))
     ∙ ap (λ (ps : List NodePlaces). ks ++ map (λ (n : PlacedNode). n.keep) (map placed_node ps)) (sym (drop_more places i d less))
+
+-- one row more
+pub rows-next : (places : List NodePlaces) (rows : List (Bor (List ℕ))) (i : ℕ) (d : NodePlaces) → i < length places
+    → lists_of (rows ++ (get_or places i d).e ∷ []) ++ map (λ (n : PlacedNode). n.escaped) (map placed_node (drop (i + 1) places)) ≡ lists_of rows ++ map (λ (n : PlacedNode). n.escaped) (map placed_node (drop i places))
+rows-next places rows i d less =
+    let behind = map (λ (n : PlacedNode). n.escaped) (map placed_node (drop (i + 1) places)) in
+    ap (λ (xs : List (List ℕ)). xs ++ behind) (map-append (λ (x : Bor (List ℕ)). x.now) rows ((get_or places i d).e ∷ []))
+    ∙ append_assoc (lists_of rows) ((get_or places i d).e.now ∷ []) behind
+    ∙ ap (λ (ps : List NodePlaces). lists_of rows ++ map (λ (n : PlacedNode). n.escaped) (map placed_node ps)) (sym (drop_more places i d less))
 
 -- one procedure more
 pub put-procedure : (procedures : List Procedure) (before after : List PlacedNode) (i : ℕ) (d : Procedure) → i < length procedures

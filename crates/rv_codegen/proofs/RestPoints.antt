@@ -156,8 +156,7 @@ module _ (s : Setting) where
     -- no bindings are left
     pub unbound : (k : ℕ) → s.places.bound_out k ≡ []
     -- what the code of a node counts on, with the words of what it escapes with
-    pub escaped : ℕ → List ℕ
-    pub suits : (steps : List Step) (fs : List Frame) (k : ℕ) (d : Data) (b : Binds) (w : World) → IsNode (node_at s.action k) → Reaches s.action s.input steps (plug fs (Run k d b)) w → SuitsAt s.action s.places.out escaped k d b w
+    pub suits : (steps : List Step) (fs : List Frame) (k : ℕ) (d : Data) (b : Binds) (w : World) → IsNode (node_at s.action k) → Reaches s.action s.input steps (plug fs (Run k d b)) w → SuitsAt s.action s.places.out s.places.escaped k d b w
     -- a node completes as the sorts let it, and so with as many data as it has words for them
     pub fits : (steps : List Step) (fs : List Frame) (n : ℕ) (t : Tree) (w : World) (m : Step) (e : Data) (u : Binds) → IsNode (node_at s.action n) → IsTreeOf n t → Reaches s.action s.input steps (plug fs t) w → OneOf m (open_steps s.action w t) → m.tree ≡ Ended (Done e u) → s.Ends n e u
     pub fills : (n : ℕ) (e : Data) (u : Binds) → IsNode (node_at s.action n) → s.Ends n e u → length e ≡ length (s.places.out n)

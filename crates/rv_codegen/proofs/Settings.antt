@@ -66,6 +66,8 @@ pub record DataPlaces : Type 1 where
   -- the data that a node is given, and those that it leaves
   pub given : ℕ → List ℕ
   pub out : ℕ → List ℕ
+  -- where it puts those that it escapes with
+  pub escaped : ℕ → List ℕ
   -- the bindings that it receives, and those that it leaves
   pub bound : ℕ → List Slot
   pub bound_out : ℕ → List Slot
@@ -152,7 +154,7 @@ escape s = point s escape_label
 
 -- the words of the frame that the code of a node names
 abbrev pub node_words : Setting → ℕ → NodeWords
-node_words s k = record { given = s.places.given k; out = s.places.out k; keep = s.places.keep k }
+node_words s k = record { given = s.places.given k; out = s.places.out k; escaped = s.places.escaped k; keep = s.places.keep k }
 
 -- the words of the frame in which a node is performed
 abbrev pub frame_words : Setting → ℕ → ℕ

@@ -10,11 +10,10 @@ use Rattle.action_terms.specs.Actions.{Node, Action}
 use Rattle.rv_prelude.specs.Items.{entries_from, first_items, ends_items, fail_items, escape_items, calls_items, entries_items, prelude_items}
 use Rattle.rv_prelude.proofs.Cursors.{Cursor, cursor-start, cursor-within, over, over-mark, over-jump, mark-at, jump-stands, regroup}
 use Rattle.rv_prelude.proofs.Entered.{Stood as Entered, prelude-stands}
-use Rattle.rv_codegen.specs.Blocks.{NodeWords, completed_label, fail_label, start_label, end_label, joint_of, front_of, start_of, opening, block, blocks_from, ending, exits_of, action_items, body}
+use Rattle.rv_codegen.specs.Blocks.{NodeWords, completed_label, fail_label, start_label, end_label, front_of, start_of, opening, block, blocks_from, ending, exits_of, action_items, body}
 
 -- the labels of a node's opening stand before what follows it
 pub record Opened (items : List Item) (k n : ℕ) (rest : List Item) : Type 0 where
-  pub joint : spot items (joint_of k) ≡ n
   pub front : spot items (front_of k) ≡ n
   pub start : spot items (start_of k) ≡ n
   pub cursor : Cursor items n rest
@@ -23,19 +22,17 @@ pub record Opened (items : List Item) (k n : ℕ) (rest : List Item) : Type 0 wh
 pub record NodeStands (items : List Item) (ws : ℕ → NodeWords) (exits : List ℕ) (k : ℕ) (node : Node) : Type 0 where
   pub place : ℕ
   pub behind : List Item
-  pub opened : Opened items k place (body (ws k) k (get_or exits k 0) node ++ (opening (suc k) ++ behind))
+  pub opened : Opened items k place (body ws k (get_or exits k 0) node ++ (opening (suc k) ++ behind))
   pub behind_failure : spot items fail_label < place
 
 module _ (items : List Item) (labels : LabelsStand items) where
   pub opens : (k n : ℕ) (rest : List Item) → Cursor items n (opening k ++ rest) → Opened items k n rest
   opens k n rest c =
-      let c1 = over-mark items n (joint_of k) (Mark (front_of k) ∷ Mark (start_of k) ∷ rest) c in
-      let c2 = over-mark items n (front_of k) (Mark (start_of k) ∷ rest) c1 in
+      let c1 = over-mark items n (front_of k) (Mark (start_of k) ∷ rest) c in
       record {
-        joint = mark-at items labels n (joint_of k) (Mark (front_of k) ∷ Mark (start_of k) ∷ rest) c;
-        front = mark-at items labels n (front_of k) (Mark (start_of k) ∷ rest) c1;
-        start = mark-at items labels n (start_of k) rest c2;
-        cursor = over-mark items n (start_of k) rest c2;
+        front = mark-at items labels n (front_of k) (Mark (start_of k) ∷ rest) c;
+        start = mark-at items labels n (start_of k) rest c1;
+        cursor = over-mark items n (start_of k) rest c1;
       }
 
   module _ (ws : ℕ → NodeWords) (exits : List ℕ) where
@@ -55,14 +52,14 @@ module _ (items : List Item) (labels : LabelsStand items) where
     all-stand : (a : Action) (k n : ℕ) → Cursor items n (blocks_from ws k exits a ++ ending (k + length a)) → spot items fail_label < n → AllStand k a
     all-stand [] k n c within = λ j x e. absurd (cc)
     all-stand (x ∷ a) k n c within =
-        let b = block (ws k) k (get_or exits k 0) x in
+        let b = block ws k (get_or exits k 0) x in
         let next : suc k + length a ≡ k + suc (length a) = omega arith in
         let tail = blocks_from ws (suc k) exits a ++ ending (suc k + length a) in
         let c0 : Cursor items n (b ++ tail) =
         subst (λ m. Cursor items n (b ++ (blocks_from ws (suc k) exits a ++ ending m))) (sym next) (subst (Cursor items n) (append_assoc b (blocks_from ws (suc k) exits a) (ending (k + suc (length a)))) c) in
         let start = begins a (suc k) in
         let c1 : Cursor items n (b ++ (opening (suc k) ++ start.behind)) = subst (λ t. Cursor items n (b ++ t)) start.is c0 in
-        let c2 : Cursor items n (opening k ++ (body (ws k) k (get_or exits k 0) x ++ (opening (suc k) ++ start.behind))) = subst (Cursor items n) (append_assoc (opening k) (body (ws k) k (get_or exits k 0) x) (opening (suc k) ++ start.behind)) c1 in
+        let c2 : Cursor items n (opening k ++ (body ws k (get_or exits k 0) x ++ (opening (suc k) ++ start.behind))) = subst (Cursor items n) (append_assoc (opening k) (body ws k (get_or exits k 0) x) (opening (suc k) ++ start.behind)) c1 in
         let this : NodeStands items ws exits k x = record { place = n; behind = start.behind; opened = opens k n _ c2; behind_failure = within } in
         in_turn this (all-stand a (suc k) (n + total b) (over items n b tail c0) (omega (arith, within)))
       where

@@ -1,32 +1,27 @@
 -- The machine performs the action: from each rest point a stretch of code leads to the next, or to the exit.
-use Rattle.std.proofs.Common.{◌≡◌, ℕ, ◌+◌, ◌<◌, true, false, List, [], ◌∷◌, get_or, length, refl, sym, ap, ◌∙◌, subst, arith, inl, inr, append-nil}
-use Rattle.std.proofs.Math.Nat.{mul-le-mul_left}
+use Rattle.std.proofs.Common.{◌≡◌, ℕ, ◌+◌, ◌<◌, true, false, List, [], ◌∷◌, get_or, refl, sym, ap, ◌∙◌, subst, arith, inl, inr}
 use Rattle.rv_asm.specs.Arrivals.{LabelsStand}
 use Rattle.rv_asm.specs.Assembly.{address_of, far_jump}
-use Rattle.rv_asm.specs.DataWords.{Heap}
 use Rattle.rv_asm.specs.Pieces.{exit_with}
 use Rattle.rv_asm.specs.WordMachine.{WordState, Has}
 use Rattle.rv_asm.proofs.Calls.{before_exit, before_exit-runs, exit-stops}
 use Rattle.rv_asm.proofs.Moments.{quiet-stop}
 use Rattle.rv_asm.proofs.Stretches.{then-runs}
 use Rattle.action_terms.specs.Information.{Binds, Data, World}
-use Rattle.action_terms.specs.Actions.{Complete, Failing, Escape, Commit, Regive, Give, Check, Send, Node, Simple, Furthermore, Both, Phases, Either, Trapping, node_at}
+use Rattle.action_terms.specs.Actions.{Complete, Failing, Escape, EscapeWith, Commit, Regive, Give, Check, Send, Node, Simple, Furthermore, Both, Phases, Either, Trapping, node_at}
 use Rattle.action_terms.specs.Literals.{NodeFits, NumbersFit}
 use Rattle.action_terms.specs.Acting.{Done, Esc, Fail, Tree, Run, Ended}
 use Rattle.action_terms.specs.Need.{items_yielder_count, node_yielder_count}
 use Rattle.action_terms.specs.Performances.{messages_bytes}
 use Rattle.action_terms.specs.Steps.{Step}
 use Rattle.action_terms.specs.Frames.{Frame, InCalled, InParLeft, InParRight, InFirst, InSecond, InOr, InCut, InTrap, InOver, InTail, plug}
-use Rattle.action_terms.proofs.Parts.{Reaches, EachPasses, reaches-rise}
-use Rattle.rv_codegen.specs.Blocks.{completed_label, escaped_label, escape_label, send_label, stop_of}
+use Rattle.action_terms.proofs.Parts.{Reaches}
+use Rattle.rv_codegen.specs.Blocks.{completed_label, send_label, stop_of}
 use Rattle.rv_codegen.specs.Built.{is_built_node}
-use Rattle.rv_prelude.specs.EntryRuns.{EscapesOut}
-use Rattle.rv_prelude.specs.PieceRuns.{HasRegion}
-use Rattle.rv_prelude.specs.Region.{Chains}
 use Rattle.rv_prelude.proofs.Jumps.{jumped, jump-runs}
 use Rattle.rv_codegen.proofs.Alternating.{Alternative, or-starts}
 use Rattle.rv_codegen.proofs.ArmsDone.{or-done, cut-done}
-use Rattle.rv_codegen.proofs.Around.{Around}
+use Rattle.rv_codegen.proofs.Catching.{escapes-go}
 use Rattle.rv_codegen.proofs.Checking.{IsCheckable, check-goes}
 use Rattle.rv_codegen.proofs.Completions.{tail-done}
 use Rattle.rv_codegen.proofs.Configurations.{Configuration, depth, performances}
@@ -34,27 +29,32 @@ use Rattle.rv_codegen.proofs.BuiltItems.{items-built, items-make_none}
 use Rattle.rv_codegen.proofs.Committing.{commit-goes}
 use Rattle.rv_codegen.proofs.Ending.{complete-goes, fail-goes}
 use Rattle.rv_codegen.proofs.Escaping.{escape-goes}
-use Rattle.rv_codegen.proofs.DataTurns.{gives-goes, regives-goes}
-use Rattle.rv_codegen.proofs.Failing.{LaidRecords, fails-go}
+use Rattle.rv_codegen.proofs.DataTurns.{escapes_with-goes, gives-goes, regives-goes}
+use Rattle.rv_codegen.proofs.EscapingWith.{EscapesPlaces}
+use Rattle.rv_codegen.proofs.Failing.{fails-go}
 use Rattle.rv_codegen.proofs.InputLeft.{Left}
 use Rattle.rv_codegen.proofs.Joins.{both-start, left-done, right-done}
 use Rattle.rv_codegen.proofs.NodeParts.{IsNode}
 use Rattle.rv_codegen.proofs.NumberWords.{node-fits}
 use Rattle.rv_codegen.proofs.Phases.{phases-start, first-done, second-done}
-use Rattle.rv_codegen.proofs.RestPoints.{Laid, RestsAt, RunsAt, DoneAt, EscapesAt, IsAt, GoesOn, Starting, StartGoesOn, near}
+use Rattle.rv_codegen.proofs.RestPoints.{Laid, RestsAt, RunsAt, DoneAt, IsAt, GoesOn, Starting, StartGoesOn, near}
 use Rattle.rv_codegen.proofs.SendEntry.{send_code}
 use Rattle.rv_codegen.proofs.Sending.{IsSendable, send-goes}
 use Rattle.rv_codegen.proofs.Settings.{Setting, code, point, start, exit, node_words}
+use Rattle.rv_codegen.proofs.TrapDone.{trap-done}
+use Rattle.rv_codegen.proofs.Trapping.{LaidTraps, trap-starts}
 use Rattle.rv_codegen.proofs.Standing.{NodeStands}
 
 module _ (s : Setting) where
   -- the nodes are of kinds that are built, their code stands, and so do the exits and the entry that sends
   pub record Compiled : Type 0 where
-    pub records : LaidRecords s
+    pub traps : LaidTraps s
     pub alternatives : (n l r : ℕ) → node_at s.action n ≡ Either l r → Alternative s n l r
     pub labels : LabelsStand s.items
     pub each : (k : ℕ) → IsNode (node_at s.action k) → NodeStands s.items (node_words s) s.exits k (node_at s.action k)
     pub built : (k : ℕ) → IsNode (node_at s.action k) → is_built_node (node_at s.action k) ≡ true
+    -- the words of what a node escapes with are apart from what it is given, in a row, and in its frame
+    pub rows : (x : Starting s) → EscapesPlaces s traps.records.laid x (s.places.escaped x.k)
     pub numbers : NumbersFit s.action
     pub few : (k : ℕ) → node_yielder_count (node_at s.action k) < 65536
     pub within : (k : ℕ) → IsNode (node_at s.action k) → stop_of k < s.labels
@@ -62,13 +62,11 @@ module _ (s : Setting) where
     pub uncalled : (n c : ℕ) → s.procedures.calls n c → ⊥
     pub completed : Has (code s) (address_of (exit s 0).place) (far_jump (exit s 0).place (point s completed_label).place)
     pub completed_exits : Has (code s) (address_of (point s completed_label).place) (exit_with 0)
-    pub escapes_out : EscapesOut escape_label escaped_label s.items
-    pub escaped_exits : Has (code s) (address_of (point s escaped_label).place) (exit_with 2)
     pub send : Has (code s) (address_of (point s send_label).place) send_code
 
   module _ (it : Compiled) where
-    laid : Laid s
-    laid = it.records.laid
+    abbrev laid : Laid s
+    laid = it.traps.records.laid
 
     unbuilt : (n : ℕ) (m : Node) → node_at s.action n ≡ m → IsNode m → is_built_node m ≡ false → ⊥
     unbuilt n m e there not =
@@ -86,6 +84,10 @@ module _ (s : Setting) where
         let few : items_yielder_count is < 65536 = subst (λ n. node_yielder_count n < 65536) e (it.few x.k) in
         let fits : NodeFits (Simple (Give is)) = subst NodeFits e (node-fits s.action x.k it.numbers) in
         gives-goes s laid x is e (items-built is b fits few) (items-make_none is b) it.labels (it.within x.k x.runs.here.node) stands
+    run-goes x (Simple (EscapeWith is)) e stands b =
+        let few : items_yielder_count is < 65536 = subst (λ n. node_yielder_count n < 65536) e (it.few x.k) in
+        let fits : NodeFits (Simple (EscapeWith is)) = subst NodeFits e (node-fits s.action x.k it.numbers) in
+        escapes_with-goes s laid x is e (items-built is b fits few) (items-make_none is b) (it.rows x) stands
     run-goes x (Simple Escape) e stands b = escape-goes s laid x e stands
     run-goes x (Simple Failing) e stands b = fail-goes s laid x e stands
     run-goes x (Simple (Check y)) e stands b =
@@ -96,50 +98,9 @@ module _ (s : Setting) where
         send-goes s laid it.send x y e ok it.labels (it.within x.k x.runs.here.node) stands
     run-goes x (Both j l r) e stands b = both-start s laid x j l r e
     run-goes x (Phases q l r) e stands b = phases-start s laid x q l r e
-    run-goes x (Either l r) e stands b = or-starts s it.records it.alternatives x l r e
+    run-goes x (Either l r) e stands b = or-starts s it.traps.records it.alternatives x l r e
+    run-goes x (Trapping l r) e stands b = trap-starts s it.traps x l r e
     run-goes x _ e stands b = absurd (let r : false ≡ true = b in cc)
-
-    -- ---- no trap is open: an escape passes all frames, and the run ends where the whole action has escaped
-
-    escape-passes : (e : Data) (heap : Heap) (words : List ℕ) (fs : List Frame) (f k : ℕ) (c : Chains) → Around s heap words fs f k c → EachPasses (Esc e) fs × (c.trap ≡ 0)
-    escape-passes e heap words [] f k c h = (tt, h.3)
-    escape-passes e heap words (InParLeft n y ∷ fs) f k c h = let r = escape-passes e heap words fs f n c h.1 in ((tt, r.0), r.1)
-    escape-passes e heap words (InParRight n x ∷ fs) f k c h = let r = escape-passes e heap words fs f n c h.1 in ((tt, r.0), r.1)
-    escape-passes e heap words (InFirst n d b ∷ fs) f k c h = let r = escape-passes e heap words fs f n c h.1 in ((tt, r.0), r.1)
-    escape-passes e heap words (InSecond n d b ∷ fs) f k c h = let r = escape-passes e heap words fs f n c h.1 in ((tt, r.0), r.1)
-    escape-passes e heap words (InOr k2 d b ∷ fs) f k c h = let r = escape-passes e heap words fs f h.0 h.1 h.3 in ((tt, r.0), ap (λ z. z.trap) h.2.same ∙ r.1)
-    escape-passes e heap words (InCut ∷ fs) f k c h = let r = escape-passes e heap words fs f h.0 c h.3 in ((tt, r.0), r.1)
-    escape-passes e heap words (InTrap n b ∷ fs) f k c h = absurd (unbuilt n (Trapping k h.1.r) h.1.node tt refl)
-    escape-passes e heap words (InTail n ∷ fs) f k c h = let r = escape-passes e heap words fs f n c h.1 in ((tt, r.0), r.1)
-    escape-passes e heap words (InCalled c' ∷ fs) f k c h = let r = escape-passes e heap words fs h.1 h.0 c h.3 in ((tt, r.0), r.1)
-    escape-passes e heap words (InOver b ∷ fs) f k c h = let r = escape-passes e heap words fs f h.0 c h.2 in ((tt, r.0), r.1)
-
-    escapes-goes : (steps : List Step) (fs : List Frame) (e : Data) (w : World) (state : WordState) (rank : ℕ) → state.output ≡ messages_bytes w.output → EscapesAt s steps w.cells rank state fs e → Reaches s.action s.input steps (plug fs (Ended (Esc e))) w → GoesOn s rank state (record { steps = steps; frames = fs; focus = Ended (Esc e); world = w })
-    escapes-goes steps fs e w state rank shown x reached =
-        let passes = escape-passes e x.here.heap x.here.words fs x.here.f x.k x.here.chains x.here.around in
-        let size : length state.words ≡ s.count = ap length x.here.stands.words_are ∙ x.here.region.size in
-        let region : HasRegion s.base state = record { aligned = laid.aligned; below = omega (arith, laid.below, size); front = omega (arith, laid.some, size); region = x.here.stands.region } in
-        let none : get_or state.words 2 0 ≡ 0 = ap (λ ws. get_or ws 2 0) x.here.stands.words_are ∙ x.here.region.trap ∙ passes.1 in
-        let g = (it.escapes_out s.base state (record { here = x.at; region = region }) none).0 in
-        let has : Has (code s) g.end.pc (exit_with 2) = subst (λ q. Has (code s) q (exit_with 2)) (sym g.at) it.escaped_exits in
-        let last = before_exit s.base (code s) 2 g.end in
-        let risen = reaches-rise s.action s.input steps fs [] (Esc e) w passes.0 (subst (λ y. Reaches s.action s.input steps (plug y (Ended (Esc e))) w) (sym (append-nil fs)) reached) in
-        let more = mul-le-mul_left s.factor risen.more in
-        inr
-        (quiet-stop s.base (code s) (performances s) depth (IsAt s) state (record { steps = steps; frames = fs; focus = Ended (Esc e); world = w })
-        (record {
-          count = g.instructions + 2;
-          to = last;
-          last = record { steps = risen.all; frames = []; focus = Ended (Esc e); world = w };
-          exit = 2;
-          runs = then-runs s.base (code s) g.instructions 2 state g.end last g.leads.words (before_exit-runs s.base (code s) 2 g.end (omega arith) has);
-          quiet = g.output;
-          output = g.output ∙ shown;
-          exits = exit-stops s.base (code s) 2 g.end (omega arith) has;
-          reached = risen.reached;
-          ends = inl (refl, refl);
-          paid = omega (arith, s.ample, more, g.few);
-        }))
 
     -- ---- a part has completed, by what stands around it
 
@@ -174,9 +135,9 @@ module _ (s : Setting) where
     done-goes steps (InParRight n y ∷ fs) w state rank d b shown left x r = right-done s laid n y (record { steps = steps; frames = fs; d = d; b = b; world = w; rank = rank; state = state; shown = shown; left = left; done = x; reached = r })
     done-goes steps (InFirst n d0 b0 ∷ fs) w state rank d b shown left x r = first-done s laid n d0 b0 (record { steps = steps; frames = fs; d = d; b = b; world = w; rank = rank; state = state; shown = shown; left = left; done = x; reached = r })
     done-goes steps (InSecond n d1 b1 ∷ fs) w state rank d b shown left x r = second-done s laid n d1 b1 (record { steps = steps; frames = fs; d = d; b = b; world = w; rank = rank; state = state; shown = shown; left = left; done = x; reached = r })
-    done-goes steps (InOr k2 d0 b0 ∷ fs) w state rank d b shown left x r = or-done s it.records it.alternatives k2 d0 b0 (record { steps = steps; frames = fs; d = d; b = b; world = w; rank = rank; state = state; shown = shown; left = left; done = x; reached = r })
-    done-goes steps (InCut ∷ fs) w state rank d b shown left x r = cut-done s it.records it.alternatives (record { steps = steps; frames = fs; d = d; b = b; world = w; rank = rank; state = state; shown = shown; left = left; done = x; reached = r })
-    done-goes steps (InTrap n b0 ∷ fs) w state rank d b shown left x r = absurd (unbuilt n (Trapping x.k x.here.around.1.r) x.here.around.1.node tt refl)
+    done-goes steps (InOr k2 d0 b0 ∷ fs) w state rank d b shown left x r = or-done s it.traps.records it.alternatives k2 d0 b0 (record { steps = steps; frames = fs; d = d; b = b; world = w; rank = rank; state = state; shown = shown; left = left; done = x; reached = r })
+    done-goes steps (InCut ∷ fs) w state rank d b shown left x r = cut-done s it.traps.records it.alternatives (record { steps = steps; frames = fs; d = d; b = b; world = w; rank = rank; state = state; shown = shown; left = left; done = x; reached = r })
+    done-goes steps (InTrap n b0 ∷ fs) w state rank d b shown left x r = trap-done s it.traps n b0 (record { steps = steps; frames = fs; d = d; b = b; world = w; rank = rank; state = state; shown = shown; left = left; done = x; reached = r })
     done-goes steps (InTail n ∷ fs) w state rank d b shown left x r = tail-done s laid n (record { steps = steps; frames = fs; d = d; b = b; world = w; rank = rank; state = state; shown = shown; left = left; done = x; reached = r })
     done-goes steps (InCalled c ∷ fs) w state rank d b shown left x r = absurd (it.uncalled x.here.around.0 c x.here.around.2.may)
     done-goes steps (InOver b0 ∷ fs) w state rank d b shown left x r = absurd (unbuilt x.here.around.0 (Furthermore x.k) x.here.around.1.node tt refl)
@@ -193,6 +154,6 @@ module _ (s : Setting) where
             subst (λ q. GoesOn s q state (record { steps = steps; frames = fs; focus = Run k d b; world = w })) (sym rests.rank_is)
             (run-goes x (node_at s.action k) refl (it.each k rests.here.node) (it.built k rests.here.node))
         go steps fs (Ended (Done d b)) w rests shown left r = done-goes steps fs w state rank d b shown left rests r
-        go steps fs (Ended Fail) w rests shown left r = fails-go s it.records steps fs w state shown left rank rests r
-        go steps fs (Ended (Esc e)) w rests shown left r = escapes-goes steps fs e w state rank shown rests r
+        go steps fs (Ended Fail) w rests shown left r = fails-go s it.traps.records steps fs w state shown left rank rests r
+        go steps fs (Ended (Esc e)) w rests shown left r = escapes-go s it.traps steps fs e w state shown left rank rests r
         go steps fs _ w rests shown left r = absurd rests

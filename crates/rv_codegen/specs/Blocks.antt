@@ -1,5 +1,5 @@
 -- The items that the code of an action is assembled from.
-use Rattle.std.specs.Prelude.{ℕ, suc, ◌+◌, ◌*◌, nat_eq, nat_lt, if◌then◌else◌, true, List, [], ◌∷◌, ◌++◌, map, pos, slice_index, slice_set, replicate, length}
+use Rattle.std.specs.Prelude.{ℕ, suc, ◌*◌, nat_eq, nat_lt, if◌then◌else◌, true, List, [], ◌∷◌, ◌++◌, map, pos, slice_index, slice_set, replicate, length}
 use Rattle.rv_code.specs.declared.instruction.Inst.{Inst}
 use Rattle.rv_code.specs.declared.instruction.Inst.TheVariants.{Op, OpImm}
 use Rattle.rv_code.specs.declared.instruction.OpOp.TheVariants.{Add}
@@ -8,7 +8,7 @@ use Rattle.rv_asm.specs.Conventions.{frame_register}
 use Rattle.rv_asm.specs.Pieces.{load_constant}
 use Rattle.rv_asm.specs.declared.item.Item.{Item}
 use Rattle.rv_asm.specs.declared.item.Item.TheVariants.{Plain, Mark, Jump, Address}
-use Rattle.action_terms.specs.Actions.{Yielder, Item as DataItem, Complete, Failing, Escape, Commit, Regive, Give, Check, Send, Node, Simple, Both, Phases, Either, Action}
+use Rattle.action_terms.specs.Actions.{Yielder, Item as DataItem, Complete, Failing, Escape, EscapeWith, Commit, Regive, Give, Check, Send, Node, Simple, Both, Phases, Either, Trapping, Action}
 use Rattle.rv_yield.specs.Conditions.{condition_items}
 use Rattle.rv_yield.specs.Registers.{first_register}
 use Rattle.rv_yield.specs.YielderCode.{value_items}
@@ -16,72 +16,19 @@ use Rattle.rv_prelude.specs.Items.{entries_from, prelude_items}
 use Rattle.rv_prelude.specs.Pieces.{commit, close_alternative, open_alternative_items}
 use Rattle.frame_layout.specs.Places.{Frame, PlacedNode}
 use Rattle.rv_codegen.specs.Aliases.{given_of, list_at, out_of, places_in}
-use Rattle.rv_codegen.specs.GivenItems.{give_items, moves_items}
-
--- ---- labels: first those of the prelude, `entries_from 0`
-
--- the end of a run whose action has completed
-abbrev pub completed_label : ℕ
-completed_label = 0
-
--- the end of one whose action has failed
-abbrev pub failed_label : ℕ
-failed_label = 1
-
--- the end of one whose action has escaped
-abbrev pub escaped_label : ℕ
-escaped_label = 2
-
--- the entry for failures
-abbrev pub fail_label : ℕ
-fail_label = 4
-
--- the entry for escapes
-abbrev pub escape_label : ℕ
-escape_label = 5
-
--- the entry that sends
-abbrev pub send_label : ℕ
-send_label = 7
-
--- where the first instructions arrive
-abbrev pub start_label : ℕ
-start_label = 10
-
--- the end of the code
-abbrev pub end_label : ℕ
-end_label = 11
-
--- how many labels there are before those of nodes
-abbrev pub first_label : ℕ
-first_label = 12
-
--- A node has four labels, in the order in which they stand.
-
--- where the part before node k ends in code
-abbrev pub joint_of : ℕ → ℕ
-joint_of k = first_label + 4 * k
-
--- where the part before node k goes on
-abbrev pub front_of : ℕ → ℕ
-front_of k = first_label + 1 + 4 * k
-
--- where node k starts
-abbrev pub start_of : ℕ → ℕ
-start_of k = first_label + 2 + 4 * k
-
--- the place behind what node k calls, or behind the first arm of the alternative k
-abbrev pub stop_of : ℕ → ℕ
-stop_of k = first_label + 3 + 4 * k
+pub use Rattle.rv_codegen.specs.NodeLabels.{completed_label, failed_label, escaped_label, fail_label, escape_label, send_label, start_label, end_label, first_label, front_of, start_of, stop_of, joint_of}
+use Rattle.rv_codegen.specs.TrapItems.{traps}
+use Rattle.rv_codegen.specs.GivenItems.{escape_with_items, give_items, moves_items}
 
 -- ---- nodes
 
 -- the labels where nodes go on once they have completed, by the number of the node: the first part of a node goes on at the
--- front of the second, that of an alternative at the stop of its node, and the second where the node does
+-- front of the second, that of an alternative or of a trap at the stop of its node, and the second where the node does
 abbrev pub with_exits : Node → ℕ → List ℕ → List ℕ
 with_exits (Both j l r) k exits = slice_set (slice_set exits l (front_of r)) r (slice_index exits k)
 with_exits (Phases q l r) k exits = slice_set (slice_set exits l (front_of r)) r (slice_index exits k)
 with_exits (Either l r) k exits = slice_set (slice_set exits l (stop_of k)) r (slice_index exits k)
+with_exits (Trapping l r) k exits = slice_set (slice_set exits l (stop_of k)) r (slice_index exits k)
 with_exits _ k exits = exits
 
 -- so it is for the nodes from number k on
@@ -137,40 +84,47 @@ arms keep k l r =
     (open_alternative_items keep (front_of r) ++ (Jump (start_of l) ∷ []))
     ++ (Mark (stop_of k) ∷ map Plain (close_alternative keep))
 
--- the words of a frame that the code of a node names: where it finds its data, where it leaves them, and the first word of its record
+-- escapes with the data of items, which are put in a row
+abbrev pub escapes_with : (given escaped : List ℕ) → List DataItem → List Item
+escapes_with given escaped is = escape_with_items given escaped fail_label is ++ Jump escape_label ∷ []
+
+-- the words of a frame that the code of a node names: where it finds its data, where it leaves them, where it puts those that it escapes with, and the first word of its record
 pub record NodeWords : Type 0 where
   pub given : List ℕ
   pub out : List ℕ
+  pub escaped : List ℕ
   pub keep : ℕ
 
 -- the code of node k behind its start, where the node goes on at a label
-abbrev pub body : NodeWords → (k exit : ℕ) → Node → List Item
+abbrev pub body : (ℕ → NodeWords) → (k exit : ℕ) → Node → List Item
 body ws k exit (Simple Complete) = leaves k exit
 body ws k exit (Simple Commit) = commits k ++ leaves k exit
-body ws k exit (Simple Regive) = regives ws.given ws.out k ++ leaves k exit
-body ws k exit (Simple (Give is)) = gives ws.given ws.out k is ++ leaves k exit
+body ws k exit (Simple Regive) = regives (ws k).given (ws k).out k ++ leaves k exit
+body ws k exit (Simple (Give is)) = gives (ws k).given (ws k).out k is ++ leaves k exit
 body ws k exit (Simple Failing) = Jump fail_label ∷ []
-body ws k exit (Simple Escape) = escapes ws.given
-body ws k exit (Simple (Check y)) = checks ws.given k y ++ leaves k exit
-body ws k exit (Simple (Send y)) = sends ws.given k y ++ leaves k exit
+body ws k exit (Simple Escape) = escapes (ws k).given
+body ws k exit (Simple (EscapeWith is)) = escapes_with (ws k).given (ws k).escaped is
+body ws k exit (Simple (Check y)) = checks (ws k).given k y ++ leaves k exit
+body ws k exit (Simple (Send y)) = sends (ws k).given k y ++ leaves k exit
 body ws k exit (Both j l r) = goes (start_of (suc k)) (start_of l)
 body ws k exit (Phases q l r) = goes (start_of (suc k)) (start_of l)
-body ws k exit (Either l r) = arms ws.keep k l r ++ (Jump exit ∷ [])
+body ws k exit (Either l r) = arms (ws k).keep k l r ++ (Jump exit ∷ [])
+body ws k exit (Trapping l r) = traps (ws k).keep k exit l r (ws r).given
 body ws k exit _ = []
 
 -- the marks before the body of node k
 abbrev pub opening : (k : ℕ) → List Item
-opening k = Mark (joint_of k) ∷ Mark (front_of k) ∷ Mark (start_of k) ∷ []
+opening k = Mark (front_of k) ∷ Mark (start_of k) ∷ []
 
 -- the code of node k
-abbrev pub block : NodeWords → (k exit : ℕ) → Node → List Item
+abbrev pub block : (ℕ → NodeWords) → (k exit : ℕ) → Node → List Item
 block ws k exit n = opening k ++ body ws k exit n
 
 -- the code of the nodes from number k on, by the words of nodes
 abbrev pub blocks_from : (ℕ → NodeWords) → (k : ℕ) → List ℕ → Action → List Item
 blocks_from ws k exits [] = []
 blocks_from ws k exits (n ∷ a) =
-    block (ws k) k (slice_index exits k) n ++ blocks_from ws (suc k) exits a
+    block ws k (slice_index exits k) n ++ blocks_from ws (suc k) exits a
 
 -- ---- all of the code
 
@@ -185,12 +139,12 @@ action_items ws stack units a =
 
 -- the words that some places have for the nodes of an action
 abbrev pub placed_words : (ℕ → PlacedNode) → Action → ℕ → NodeWords
-placed_words p a k = record { given = given_of p a k; out = out_of p a k; keep = (p k).keep }
+placed_words p a k = record { given = given_of p a k; out = out_of p a k; escaped = (p k).escaped; keep = (p k).keep }
 
 -- the same, with the places that these frames have
 abbrev pub framed_items : Action → List Frame → (stack units : ℕ) → List Item
 framed_items a fs stack units = action_items (placed_words (places_in a fs) a) stack units a
 
 -- the words that tables have for nodes, by their numbers
-abbrev pub table_words : (given out : List (List ℕ)) → (keeps : List ℕ) → ℕ → NodeWords
-table_words given out keeps k = record { given = list_at given k; out = list_at out k; keep = slice_index keeps k }
+abbrev pub table_words : (given out escaped : List (List ℕ)) → (keeps : List ℕ) → ℕ → NodeWords
+table_words given out escaped keeps k = record { given = list_at given k; out = list_at out k; escaped = list_at escaped k; keep = slice_index keeps k }

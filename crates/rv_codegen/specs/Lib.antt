@@ -1,8 +1,11 @@
 pub mod Measures
 pub mod RightImage
+pub mod NodeLabels
 pub mod Blocks
 pub mod Marks
 pub mod Built
 pub mod Aliases
 pub mod GivenItems
 pub mod ItemCode
+pub mod CaughtItems
+pub mod TrapItems

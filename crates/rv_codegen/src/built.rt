@@ -51,7 +51,9 @@ fn is_built_primitive(graph: &Graph<'_>, needs: &[usize], primitive: PrimitiveVi
         | PrimitiveView::Regive
         | PrimitiveView::Failing
         | PrimitiveView::Escape => true,
-        PrimitiveView::Give { items } => are_built(graph, needs, items),
+        PrimitiveView::Give { items } | PrimitiveView::EscapeWith { items } => {
+            are_built(graph, needs, items)
+        }
         PrimitiveView::Check { yielder } | PrimitiveView::Send { yielder } => {
             registers_of(graph, needs, yielder).is_some()
         }
@@ -67,7 +69,10 @@ fn is_built(graph: &Graph<'_>, needs: &[usize], k: usize) -> bool
 {
     match graph.view(k) {
         NodeView::Simple(primitive) => is_built_primitive(graph, needs, primitive),
-        NodeView::Both { .. } | NodeView::Phases { .. } | NodeView::Either { .. } => true,
+        NodeView::Both { .. }
+        | NodeView::Phases { .. }
+        | NodeView::Either { .. }
+        | NodeView::Trapping { .. } => true,
         _ => false,
     }
 }

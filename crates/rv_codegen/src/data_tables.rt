@@ -6,7 +6,7 @@ ghost use Rattle.frame_layout.specs.Places.{placed_node};
 ghost use Rattle.rv_codegen.specs.Aliases.{back_places, front_places, given_in, given_of, handed_to, list_at, lists_of, out_in, out_of, place_at, whole_places};
 ghost use Rattle.sort_rules.specs.Procedures.{parts_at};
 
-use crate::node_places::{own_escaped, own_given, own_out, record_words};
+use crate::node_places::{escaped_rows, own_escaped, own_given, own_out, record_words};
 use acg_base::Memory;
 use action_terms::{Chain, Graph, NodeView};
 use frame_layout::NodePlaces;
@@ -189,6 +189,8 @@ pub(crate) struct DataTables<'a> {
     pub(crate) given: Vec<&'a [u32]>,
     /// Where each leaves what it completes with.
     pub(crate) out: Vec<&'a [u32]>,
+    /// Where each puts what it escapes with.
+    pub(crate) escaped: Vec<&'a [u32]>,
     /// The first word of the record of each.
     pub(crate) keeps: Vec<u32>,
 }
@@ -202,6 +204,7 @@ pub(crate) fn data_tables<'a>(
     requires { length places.now ≡ length graph.now.nodes }
     ensures given_count { IfOk result (λ t. vec_len t.given ≡ length graph.now.nodes) }
     ensures out_count { IfOk result (λ t. vec_len t.out ≡ length graph.now.nodes) }
+    ensures escaped_count { IfOk result (λ t. vec_len t.escaped ≡ length graph.now.nodes) }
     ensures keeps_count { IfOk result (λ t. vec_len t.keeps ≡ length graph.now.nodes) }
     ensures given { IfOk result (λ t. (k : ℕ) → k < length graph.now.nodes
         → list_at (lists_of t.given.items) k
@@ -209,10 +212,13 @@ pub(crate) fn data_tables<'a>(
     ensures out { IfOk result (λ t. (k : ℕ) → k < length graph.now.nodes
         → list_at (lists_of t.out.items) k
         ≡ out_of (place_at (map placed_node places.now)) (action_of graph.now) k) }
+    ensures escaped { IfOk result (λ t. lists_of t.escaped.items
+        ≡ map (λ n. n.escaped) (map placed_node places.now)) }
     ensures keeps { IfOk result (λ t. t.keeps.items
         ≡ map (λ n. n.keep) (map placed_node places.now)) }
 {
     let keeps = record_words(alloc, places)?;
+    let escaped = escaped_rows(alloc, places)?;
     let count = graph.nodes().len();
     let mut given = Vec::with_capacity(alloc, count)?;
     let mut out = Vec::with_capacity(alloc, count)?;
@@ -224,5 +230,10 @@ pub(crate) fn data_tables<'a>(
         pass_givens(&mut given, places, graph, node);
         pass_outs(&mut out, places, graph, node);
     }
-    Ok(DataTables { given, out, keeps })
+    Ok(DataTables {
+        given,
+        out,
+        escaped,
+        keeps,
+    })
 }

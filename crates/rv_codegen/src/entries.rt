@@ -73,7 +73,6 @@ pub(crate) fn append_opening(asm: &mut Asm, labels: NodeLabels<'_>, k: usize)
     requires fresh { AreFresh k asm.old.items }
     ensures { asm.new ≡ extended asm.old (opening k) }
 {
-    asm.place(labels.joint(k));
     asm.place(labels.front(k));
     asm.place(labels.start(k));
 }

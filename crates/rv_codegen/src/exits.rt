@@ -11,7 +11,8 @@ use action_terms::{Graph, NodeView};
 use rv_asm::Label;
 use std::alloc::Global;
 
-/// Has the first part of node k go on at the front of the second, or at the stop of an alternative,
+/// Has the first part of node k go on at the front of the second, or at the stop of an alternative
+/// or of a trap,
 /// and the second where the node does.
 fn set_exits(exits: &mut Vec<Label>, labels: NodeLabels<'_>, graph: &Graph<'_>, k: usize)
     requires node { k < length graph.now.nodes }
@@ -36,7 +37,7 @@ fn set_exits(exits: &mut Vec<Label>, labels: NodeLabels<'_>, graph: &Graph<'_>, 
             exits[left as usize] = labels.front(right as usize);
             exits[right as usize] = exit;
         }
-        NodeView::Either { left, right } => {
+        NodeView::Either { left, right } | NodeView::Trapping { left, right } => {
             let behind = exits[k];
             exits[left as usize] = labels.stop(k);
             exits[right as usize] = behind;

@@ -45,7 +45,8 @@ fn append_nodes(asm: &mut Asm, plan: Plan<'_, '_, '_>) -> Result<(), Memory>
     requires fresh { AreFresh 0 asm.old.items }
     ensures items { OnOk result (asm.new
         ≡ extended asm.old (blocks_from (table_words (lists_of plan.entry.given.now)
-        (lists_of plan.entry.out.now) plan.entry.keeps.now) 0 plan.entry.exits.now
+        (lists_of plan.entry.out.now) (lists_of plan.entry.escaped.now)
+        plan.entry.keeps.now) 0 plan.entry.exits.now
         (action_of plan.entry.graph.now))) }
     ensures fresh { OnOk result (AreFresh (length plan.entry.graph.now.nodes) asm.new.items) }
     ensures short { OnOk result
@@ -65,7 +66,8 @@ fn append_action(asm: &mut Asm, plan: Plan<'_, '_, '_>) -> Result<(), Memory>
     requires fresh { AreFresh 0 asm.old.items }
     ensures items { OnOk result (asm.new ≡ extended asm.old
         (blocks_from (table_words (lists_of plan.entry.given.now)
-        (lists_of plan.entry.out.now) plan.entry.keeps.now) 0 plan.entry.exits.now
+        (lists_of plan.entry.out.now) (lists_of plan.entry.escaped.now)
+        plan.entry.keeps.now) 0 plan.entry.exits.now
         (action_of plan.entry.graph.now)
         ++ ending (length (action_of plan.entry.graph.now)))) }
     ensures short { OnOk result (total asm.new.items
@@ -86,20 +88,23 @@ fn assemble(
     requires built { unbuilt (action_of graph.now) ≡ [] }
     requires given_count { vec_len tables.now.given ≡ length graph.now.nodes }
     requires out_count { vec_len tables.now.out ≡ length graph.now.nodes }
+    requires escaped_count { vec_len tables.now.escaped ≡ length graph.now.nodes }
     requires keeps_count { vec_len tables.now.keeps ≡ length graph.now.nodes }
     requires given_reached { (k : ℕ) → AreReached (list_at (lists_of tables.now.given.items) k) }
     requires out_reached { (k : ℕ) → AreReached (list_at (lists_of tables.now.out.items) k) }
+    requires escaped_reached { (k : ℕ)
+        → AreReached (list_at (lists_of tables.now.escaped.items) k) }
     requires keeps_reached { (k : ℕ) → slice_index tables.now.keeps.items k < 33554432 }
     requires stack { (1 ≤ capacity.stack) × (capacity.stack ≤ 16777216) }
     requires units { (1 ≤ capacity.units) × (capacity.units ≤ 4194304) }
     ensures words { IfOk result (λ code. map Some code.words.items
         ≡ map encode (code_of (action_items (table_words (lists_of tables.now.given.items)
-        (lists_of tables.now.out.items) tables.now.keeps.items) capacity.stack capacity.units (action_of graph.now)))) }
+        (lists_of tables.now.out.items) (lists_of tables.now.escaped.items) tables.now.keeps.items) capacity.stack capacity.units (action_of graph.now)))) }
     ensures labels { OnOk result (LabelsStand (action_items (table_words (lists_of tables.now.given.items)
-        (lists_of tables.now.out.items) tables.now.keeps.items) capacity.stack capacity.units (action_of graph.now))) }
+        (lists_of tables.now.out.items) (lists_of tables.now.escaped.items) tables.now.keeps.items) capacity.stack capacity.units (action_of graph.now))) }
     ensures short { OnOk result
         (total (action_items (table_words (lists_of tables.now.given.items)
-        (lists_of tables.now.out.items) tables.now.keeps.items) capacity.stack capacity.units (action_of graph.now))
+        (lists_of tables.now.out.items) (lists_of tables.now.escaped.items) tables.now.keeps.items) capacity.stack capacity.units (action_of graph.now))
         ≤ 4098 + 530 * node_count (action_of graph.now)) }
     ensures numbers { OnOk result (NumbersFit (action_of graph.now)) }
 {
@@ -117,6 +122,7 @@ fn assemble(
         labels,
         given: &tables.given,
         out: &tables.out,
+        escaped: &tables.escaped,
         keeps: &tables.keeps,
         exits: &exits,
         entries: &entries,

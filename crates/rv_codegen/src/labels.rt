@@ -1,7 +1,7 @@
 //! The labels of nodes, four for each.
 
 ghost use Rattle.std.specs.Prelude.{◌≡◌, ℕ, ◌+◌, ◌*◌, ◌<◌, IfOk, OnOk, length, vec_len, slice_index};
-ghost use Rattle.rv_codegen.specs.Blocks.{first_label, joint_of, front_of, start_of, stop_of};
+ghost use Rattle.rv_codegen.specs.Blocks.{first_label, front_of, start_of, stop_of, joint_of};
 
 use acg_base::Memory;
 use rv_asm::{Asm, Label};
@@ -15,20 +15,12 @@ pub(crate) struct NodeLabels<'a> {
 }
 
 impl NodeLabels<'_> {
-    /// Where the part before node k ends in code.
-    pub(crate) fn joint(self, k: usize) -> Label
-        requires { 4 * k + 3 < length self.row.now }
-        ensures { result ≡ joint_of k }
-    {
-        self.row[4 * k]
-    }
-
     /// Where the part before node k goes on.
     pub(crate) fn front(self, k: usize) -> Label
         requires { 4 * k + 3 < length self.row.now }
         ensures { result ≡ front_of k }
     {
-        self.row[4 * k + 1]
+        self.row[4 * k]
     }
 
     /// Where node k starts.
@@ -36,13 +28,21 @@ impl NodeLabels<'_> {
         requires { 4 * k + 3 < length self.row.now }
         ensures { result ≡ start_of k }
     {
-        self.row[4 * k + 2]
+        self.row[4 * k + 1]
     }
 
     /// The place behind what node k calls.
     pub(crate) fn stop(self, k: usize) -> Label
         requires { 4 * k + 3 < length self.row.now }
         ensures { result ≡ stop_of k }
+    {
+        self.row[4 * k + 2]
+    }
+
+    /// Where the trap k copies what was caught for its handler.
+    pub(crate) fn joint(self, k: usize) -> Label
+        requires { 4 * k + 3 < length self.row.now }
+        ensures { result ≡ joint_of k }
     {
         self.row[4 * k + 3]
     }

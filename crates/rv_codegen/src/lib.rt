@@ -8,6 +8,7 @@ mod data_tables;
 mod entries;
 mod exits;
 mod generation;
+mod handlers;
 mod labels;
 mod node;
 mod node_places;

@@ -10,13 +10,15 @@ ghost use Rattle.action_terms.specs.Need.{items_yielder_count, node_yielder_coun
 ghost use Rattle.action_terms.specs.Numbering.{node_limit};
 ghost use Rattle.rv_prelude.specs.Pieces.{open_alternative_items};
 ghost use Rattle.rv_yield.specs.Registers.{is_built};
-ghost use Rattle.rv_codegen.specs.Blocks.{first_label, front_of, start_of, stop_of, goes, leaves, address_items, escapes, commits, gives, regives, checks, sends, arms, body, block, table_words};
+ghost use Rattle.rv_codegen.specs.Blocks.{fail_label, first_label, front_of, start_of, stop_of, joint_of, goes, leaves, address_items, escapes, escapes_with, commits, gives, regives, checks, sends, arms, body, block, table_words};
 ghost use Rattle.rv_codegen.specs.Aliases.{list_at, lists_of};
+ghost use Rattle.rv_codegen.specs.GivenItems.{escape_with_items, point_items};
 ghost use Rattle.rv_codegen.specs.Marks.{extended, AreFresh, PlacesStop};
 ghost use Rattle.rv_codegen.specs.Built.{are_built, is_built_node};
 
 use crate::data::{append_data, append_them};
 use crate::entries::{ARGUMENT, FRAME, RETURN, append_opening};
+use crate::handlers::{append_handler, append_trapped};
 use crate::plan::Plan;
 use acg_base::Memory;
 use action_terms::{NodeView, PrimitiveView};
@@ -87,6 +89,84 @@ fn append_escape(asm: &mut Asm, plan: Plan<'_, '_, '_>, k: usize) -> Result<(), 
     let first = first_word(plan.given_at(k));
     append_address(asm, first)?;
     asm.jump(plan.entries.escape)
+}
+
+/// Appends what puts the address of the first of some words of the frame into the register of
+/// arguments, or that of the frame where there are none.
+fn append_point(asm: &mut Asm, words: &[u32]) -> Result<(), Memory>
+    requires { All (λ o. o < 33554432) words.now }
+    ensures { OnOk result (asm.new ≡ extended asm.old (map Plain (point_items words.now))) }
+{
+    if words.is_empty() {
+        return asm.emit(Inst::OpImm {
+            op: OpImmOp::Addi,
+            rd: ARGUMENT,
+            rs1: FRAME,
+            imm: 0,
+        });
+    }
+    load_constant(asm, ARGUMENT, 8 * u64::from(words[0]))?;
+    asm.emit(Inst::Op {
+        op: OpOp::Add,
+        rd: ARGUMENT,
+        rs1: ARGUMENT,
+        rs2: FRAME,
+    })
+}
+
+/// Appends what puts the data that node k escapes with in a row, and the row's address into the
+/// register of arguments. Where one of the items yields nothing, that goes to the entry for
+/// failures.
+fn append_row(asm: &mut Asm, plan: Plan<'_, '_, '_>, k: usize, items: &[u32]) -> Result<(), Memory>
+    requires node { k < length plan.graph.now.nodes }
+    requires made { first_label + length plan.labels.row.now ≤ asm.old.labels }
+    requires items { AreItems plan.graph.now.yielders items.now }
+    requires built { are_built (items_at plan.graph.now.yielders items.now) ≡ true }
+    requires few { items_yielder_count (items_at plan.graph.now.yielders items.now) < node_limit }
+    ensures items { OnOk result (asm.new ≡ extended asm.old
+        (escape_with_items (list_at (lists_of plan.entry.given.now) k)
+        (list_at (lists_of plan.entry.escaped.now) k) fail_label
+        (items_at plan.entry.graph.now.yielders items.now))) }
+    ensures marks { OnOk result
+        ((l : ℕ) → is_placed asm.old.items l ≡ false → is_placed asm.new.items l ≡ false) }
+    ensures short { OnOk result (total asm.new.items ≤ total asm.old.items + 9
+        + 520 * items_yielder_count (items_at plan.entry.graph.now.yielders items.now)) }
+{
+    let escaped = plan.escaped_at(k);
+    let nothing = plan.entries.fail;
+    let source = Source {
+        graph: plan.graph,
+        needs: plan.needs,
+        given: plan.given_at(k),
+        nothing,
+    };
+    append_data(plan.alloc, asm, &source, escaped, items)?;
+    append_point(asm, escaped)
+}
+
+/// Appends what escapes with the data of items.
+fn append_escape_with(
+    asm: &mut Asm,
+    plan: Plan<'_, '_, '_>,
+    k: usize,
+    items: &[u32],
+) -> Result<(), Memory>
+    requires node { k < length plan.graph.now.nodes }
+    requires made { first_label + length plan.labels.row.now ≤ asm.old.labels }
+    requires items { AreItems plan.graph.now.yielders items.now }
+    requires built { are_built (items_at plan.graph.now.yielders items.now) ≡ true }
+    requires few { items_yielder_count (items_at plan.graph.now.yielders items.now) < node_limit }
+    ensures items { OnOk result (asm.new ≡ extended asm.old
+        (escapes_with (list_at (lists_of plan.entry.given.now) k)
+        (list_at (lists_of plan.entry.escaped.now) k)
+        (items_at plan.entry.graph.now.yielders items.now))) }
+    ensures marks { OnOk result (PlacesStop k asm.old.items asm.new.items) }
+    ensures short { OnOk result (total asm.new.items ≤ total asm.old.items + 11
+        + 520 * items_yielder_count (items_at plan.entry.graph.now.yielders items.now)) }
+{
+    let entry = plan.entries.escape;
+    append_row(asm, plan, k, items)?;
+    asm.jump(entry)
 }
 
 /// Appends what leaves data where node k does. Where one of their items yields nothing, that goes
@@ -363,7 +443,8 @@ fn append_primitive(
     requires stop { is_placed asm.old.items (stop_of k) ≡ false }
     ensures items { OnOk result (asm.new ≡ extended asm.old
         (body (table_words (lists_of plan.entry.given.now)
-        (lists_of plan.entry.out.now) plan.entry.keeps.now k) k exit
+        (lists_of plan.entry.out.now) (lists_of plan.entry.escaped.now)
+        plan.entry.keeps.now) k exit
         (Simple (primitive_viewed plan.entry.graph.now.yielders primitive.entry)))) }
     ensures marks { OnOk result (PlacesStop k asm.old.items asm.new.items) }
     ensures short { OnOk result (total asm.new.items ≤ total asm.old.items + 530
@@ -377,6 +458,7 @@ fn append_primitive(
         PrimitiveView::Give { items } => append_giving(asm, plan, k, exit, items),
         PrimitiveView::Failing => asm.jump(plan.entries.fail),
         PrimitiveView::Escape => append_escape(asm, plan, k),
+        PrimitiveView::EscapeWith { items } => append_escape_with(asm, plan, k, items),
         PrimitiveView::Check { yielder } => append_checking(asm, plan, k, exit, yielder),
         PrimitiveView::Send { yielder } => append_sending(asm, plan, k, exit, yielder),
         _ => Ok(()),
@@ -453,9 +535,11 @@ fn append_body(asm: &mut Asm, plan: Plan<'_, '_, '_>, k: usize, exit: Label) -> 
     requires made { first_label + length plan.labels.row.now ≤ asm.old.labels }
     requires exit { exit < asm.old.labels }
     requires stop { is_placed asm.old.items (stop_of k) ≡ false }
+    requires joint { is_placed asm.old.items (joint_of k) ≡ false }
     ensures items { OnOk result (asm.new
         ≡ extended asm.old (body (table_words (lists_of plan.entry.given.now)
-        (lists_of plan.entry.out.now) plan.entry.keeps.now k) k exit
+        (lists_of plan.entry.out.now) (lists_of plan.entry.escaped.now)
+        plan.entry.keeps.now) k exit
         (node_at (action_of plan.entry.graph.now) k))) }
     ensures marks { OnOk result (PlacesStop k asm.old.items asm.new.items) }
     ensures short { OnOk result (total asm.new.items ≤ total asm.old.items + 530
@@ -477,6 +561,11 @@ fn append_body(asm: &mut Asm, plan: Plan<'_, '_, '_>, k: usize, exit: Label) -> 
             append_arms(asm, plan, k, left, right)?;
             asm.jump(exit)
         }
+        NodeView::Trapping { left, right } => {
+            append_trapped(asm, plan, k, left)?;
+            asm.jump(exit)?;
+            append_handler(asm, plan, k, right)
+        }
         _ => Ok(()),
     }
 }
@@ -494,7 +583,8 @@ pub(crate) fn append_node(
     requires fresh { AreFresh k asm.old.items }
     ensures items { OnOk result (asm.new
         ≡ extended asm.old (block (table_words (lists_of plan.entry.given.now)
-        (lists_of plan.entry.out.now) plan.entry.keeps.now k) k exit
+        (lists_of plan.entry.out.now) (lists_of plan.entry.escaped.now)
+        plan.entry.keeps.now) k exit
         (node_at (action_of plan.entry.graph.now) k))) }
     ensures fresh { OnOk result (AreFresh (k + 1) asm.new.items) }
     ensures short { OnOk result (total asm.new.items ≤ total asm.old.items + 530

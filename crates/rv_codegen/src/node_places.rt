@@ -2,7 +2,7 @@
 ghost use Rattle.std.specs.Prelude.{◌≡◌, ◌<◌, IfOk, ℕ, length, map, replicate, vec_len};
 ghost use Rattle.frame_layout.specs.Places.{Frame, PlacedNode, frames_of, placed_node};
 ghost use Rattle.action_terms.specs.Performances.{OneOf};
-ghost use Rattle.rv_codegen.specs.Aliases.{nowhere, place_at, put_each, put_frames};
+ghost use Rattle.rv_codegen.specs.Aliases.{lists_of, nowhere, place_at, put_each, put_frames};
 
 use acg_base::Memory;
 use frame_layout::{Layout, NodePlaces};
@@ -90,4 +90,19 @@ pub(crate) fn record_words(alloc: Global, places: &[NodePlaces<'_>]) -> Result<V
         keeps.push(place.keep)?;
     }
     Ok(keeps)
+}
+
+/// Where each node puts what it escapes with.
+pub(crate) fn escaped_rows<'a>(
+    alloc: Global,
+    places: &[NodePlaces<'a>],
+) -> Result<Vec<&'a [u32]>, Memory>
+    ensures { IfOk result (λ rows. lists_of rows.items
+        ≡ map (λ n. n.escaped) (map placed_node places.now)) }
+{
+    let mut rows = Vec::with_capacity(alloc, places.len())?;
+    for place in places {
+        rows.push(place.e)?;
+    }
+    Ok(rows)
 }

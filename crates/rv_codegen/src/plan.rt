@@ -32,6 +32,8 @@ pub(crate) struct Plan<'a, 'l, 'd> {
     pub(crate) given: &'d [&'d [u32]],
     /// Where each node leaves what it completes with.
     pub(crate) out: &'d [&'d [u32]],
+    /// Where each node puts what it escapes with, by the number of the node.
+    pub(crate) escaped: &'d [&'d [u32]],
     /// The first word of the record of each node, by the number of the node.
     pub(crate) keeps: &'d [u32],
     /// Where each node goes on, by the number of the node.
@@ -45,6 +47,8 @@ pub(crate) struct Plan<'a, 'l, 'd> {
     ghost out_count: { length out.now ≡ length graph.now.nodes },
     ghost given_reached: { (k : ℕ) → AreReached (list_at (lists_of given.now) k) },
     ghost out_reached: { (k : ℕ) → AreReached (list_at (lists_of out.now) k) },
+    ghost escaped_count: { length escaped.now ≡ length graph.now.nodes },
+    ghost escaped_reached: { (k : ℕ) → AreReached (list_at (lists_of escaped.now) k) },
     ghost keeps_count: { length keeps.now ≡ length graph.now.nodes },
     ghost keeps_reached: { (k : ℕ) → slice_index keeps.now k < 33554432 },
     ghost rows: { length labels.row.now ≡ 4 * length graph.now.nodes + 4 },
@@ -70,6 +74,15 @@ impl<'d> Plan<'_, '_, 'd> {
         ensures reached { AreReached result.now }
     {
         self.out[k]
+    }
+
+    /// Where node k puts what it escapes with.
+    pub(crate) fn escaped_at(self, k: usize) -> &'d [u32]
+        requires { k < length self.graph.now.nodes }
+        ensures is { result.now ≡ list_at (lists_of self.entry.escaped.now) k }
+        ensures reached { AreReached result.now }
+    {
+        self.escaped[k]
     }
 
     /// The first word of the record of node k.

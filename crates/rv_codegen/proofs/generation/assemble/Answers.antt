@@ -24,14 +24,15 @@ returns-clause-words c =
     let graph = c.args.graph.now in
     let a = action_of graph in
     let tables = c.args.tables.now in
-    let ws = table_words (lists_of tables.given.items) (lists_of tables.out.items) tables.keeps.items in
+    let ws = table_words (lists_of tables.given.items) (lists_of tables.out.items) (lists_of tables.escaped.items) tables.keeps.items in
     let stack = c.args.capacity.stack in
     let units = c.args.capacity.units in
-    let exits : c.deref-6.result.now ≡ exits_of a = ap (λ xs. xs) c.deref-6.ensures.value ∙ c.in_ok-exits.ensures.exits in
-    let named : blocks_from (table_words (lists_of c.deref-3.result.now) (lists_of c.deref-4.result.now) c.deref-5.result.now) 0 c.deref-6.result.now a ++ ending (length a) ≡ blocks_from ws 0 (exits_of a) a ++ ending (length a) =
-    ap (λ (ys : List (Bor (List ℕ))). blocks_from (table_words (lists_of ys) (lists_of c.deref-4.result.now) c.deref-5.result.now) 0 c.deref-6.result.now a ++ ending (length a)) c.deref-3.ensures.value
-    ∙ ap (λ (ys : List (Bor (List ℕ))). blocks_from (table_words (lists_of tables.given.items) (lists_of ys) c.deref-5.result.now) 0 c.deref-6.result.now a ++ ending (length a)) c.deref-4.ensures.value
-    ∙ ap (λ (ks : List ℕ). blocks_from (table_words (lists_of tables.given.items) (lists_of tables.out.items) ks) 0 c.deref-6.result.now a ++ ending (length a)) c.deref-5.ensures.value
+    let exits : c.deref-7.result.now ≡ exits_of a = ap (λ xs. xs) c.deref-7.ensures.value ∙ c.in_ok-exits.ensures.exits in
+    let named : blocks_from (table_words (lists_of c.deref-3.result.now) (lists_of c.deref-4.result.now) (lists_of c.deref-5.result.now) c.deref-6.result.now) 0 c.deref-7.result.now a ++ ending (length a) ≡ blocks_from ws 0 (exits_of a) a ++ ending (length a) =
+    ap (λ (ys : List (Bor (List ℕ))). blocks_from (table_words (lists_of ys) (lists_of c.deref-4.result.now) (lists_of c.deref-5.result.now) c.deref-6.result.now) 0 c.deref-7.result.now a ++ ending (length a)) c.deref-3.ensures.value
+    ∙ ap (λ (ys : List (Bor (List ℕ))). blocks_from (table_words (lists_of tables.given.items) (lists_of ys) (lists_of c.deref-5.result.now) c.deref-6.result.now) 0 c.deref-7.result.now a ++ ending (length a)) c.deref-4.ensures.value
+    ∙ ap (λ (ys : List (Bor (List ℕ))). blocks_from (table_words (lists_of tables.given.items) (lists_of tables.out.items) (lists_of ys) c.deref-6.result.now) 0 c.deref-7.result.now a ++ ending (length a)) c.deref-5.ensures.value
+    ∙ ap (λ (ks : List ℕ). blocks_from (table_words (lists_of tables.given.items) (lists_of tables.out.items) (lists_of tables.escaped.items) ks) 0 c.deref-7.result.now a ++ ending (length a)) c.deref-6.ensures.value
     ∙ ap (λ (es : List ℕ). blocks_from ws 0 es a ++ ending (length a)) exits in
     let whole : c.append_action.new.asm.items ≡ action_items ws stack units a = whole-code (prelude_items (entries_from 0) stack units) c.append_prelude.new.asm c.make_labels.new.asm c.append_action.new.asm start_label _ _ (ap (λ z. z.items) c.in_ok-entries.ensures.asm) (ap (λ z. z.items) c.in_ok-row.ensures.asm) c.in_ok-append_action.ensures.items named in
     subst (λ items. IfOk c.finish.result (λ code. map Some code.words.items ≡ map encode (code_of items))) whole c.finish.ensures.words
@@ -41,14 +42,15 @@ returns-clause-labels c =
     let graph = c.args.graph.now in
     let a = action_of graph in
     let tables = c.args.tables.now in
-    let ws = table_words (lists_of tables.given.items) (lists_of tables.out.items) tables.keeps.items in
+    let ws = table_words (lists_of tables.given.items) (lists_of tables.out.items) (lists_of tables.escaped.items) tables.keeps.items in
     let stack = c.args.capacity.stack in
     let units = c.args.capacity.units in
-    let exits : c.deref-6.result.now ≡ exits_of a = ap (λ xs. xs) c.deref-6.ensures.value ∙ c.in_ok-exits.ensures.exits in
-    let named : blocks_from (table_words (lists_of c.deref-3.result.now) (lists_of c.deref-4.result.now) c.deref-5.result.now) 0 c.deref-6.result.now a ++ ending (length a) ≡ blocks_from ws 0 (exits_of a) a ++ ending (length a) =
-    ap (λ (ys : List (Bor (List ℕ))). blocks_from (table_words (lists_of ys) (lists_of c.deref-4.result.now) c.deref-5.result.now) 0 c.deref-6.result.now a ++ ending (length a)) c.deref-3.ensures.value
-    ∙ ap (λ (ys : List (Bor (List ℕ))). blocks_from (table_words (lists_of tables.given.items) (lists_of ys) c.deref-5.result.now) 0 c.deref-6.result.now a ++ ending (length a)) c.deref-4.ensures.value
-    ∙ ap (λ (ks : List ℕ). blocks_from (table_words (lists_of tables.given.items) (lists_of tables.out.items) ks) 0 c.deref-6.result.now a ++ ending (length a)) c.deref-5.ensures.value
+    let exits : c.deref-7.result.now ≡ exits_of a = ap (λ xs. xs) c.deref-7.ensures.value ∙ c.in_ok-exits.ensures.exits in
+    let named : blocks_from (table_words (lists_of c.deref-3.result.now) (lists_of c.deref-4.result.now) (lists_of c.deref-5.result.now) c.deref-6.result.now) 0 c.deref-7.result.now a ++ ending (length a) ≡ blocks_from ws 0 (exits_of a) a ++ ending (length a) =
+    ap (λ (ys : List (Bor (List ℕ))). blocks_from (table_words (lists_of ys) (lists_of c.deref-4.result.now) (lists_of c.deref-5.result.now) c.deref-6.result.now) 0 c.deref-7.result.now a ++ ending (length a)) c.deref-3.ensures.value
+    ∙ ap (λ (ys : List (Bor (List ℕ))). blocks_from (table_words (lists_of tables.given.items) (lists_of ys) (lists_of c.deref-5.result.now) c.deref-6.result.now) 0 c.deref-7.result.now a ++ ending (length a)) c.deref-4.ensures.value
+    ∙ ap (λ (ys : List (Bor (List ℕ))). blocks_from (table_words (lists_of tables.given.items) (lists_of tables.out.items) (lists_of ys) c.deref-6.result.now) 0 c.deref-7.result.now a ++ ending (length a)) c.deref-5.ensures.value
+    ∙ ap (λ (ks : List ℕ). blocks_from (table_words (lists_of tables.given.items) (lists_of tables.out.items) (lists_of tables.escaped.items) ks) 0 c.deref-7.result.now a ++ ending (length a)) c.deref-6.ensures.value
     ∙ ap (λ (es : List ℕ). blocks_from ws 0 es a ++ ending (length a)) exits in
     let whole : c.append_action.new.asm.items ≡ action_items ws stack units a = whole-code (prelude_items (entries_from 0) stack units) c.append_prelude.new.asm c.make_labels.new.asm c.append_action.new.asm start_label _ _ (ap (λ z. z.items) c.in_ok-entries.ensures.asm) (ap (λ z. z.items) c.in_ok-row.ensures.asm) c.in_ok-append_action.ensures.items named in
     subst (λ items. OnOk c.finish.result (LabelsStand items)) whole c.finish.ensures.labels
@@ -58,14 +60,15 @@ returns-clause-short c =
     let graph = c.args.graph.now in
     let a = action_of graph in
     let tables = c.args.tables.now in
-    let ws = table_words (lists_of tables.given.items) (lists_of tables.out.items) tables.keeps.items in
+    let ws = table_words (lists_of tables.given.items) (lists_of tables.out.items) (lists_of tables.escaped.items) tables.keeps.items in
     let stack = c.args.capacity.stack in
     let units = c.args.capacity.units in
-    let exits : c.deref-6.result.now ≡ exits_of a = ap (λ xs. xs) c.deref-6.ensures.value ∙ c.in_ok-exits.ensures.exits in
-    let named : blocks_from (table_words (lists_of c.deref-3.result.now) (lists_of c.deref-4.result.now) c.deref-5.result.now) 0 c.deref-6.result.now a ++ ending (length a) ≡ blocks_from ws 0 (exits_of a) a ++ ending (length a) =
-    ap (λ (ys : List (Bor (List ℕ))). blocks_from (table_words (lists_of ys) (lists_of c.deref-4.result.now) c.deref-5.result.now) 0 c.deref-6.result.now a ++ ending (length a)) c.deref-3.ensures.value
-    ∙ ap (λ (ys : List (Bor (List ℕ))). blocks_from (table_words (lists_of tables.given.items) (lists_of ys) c.deref-5.result.now) 0 c.deref-6.result.now a ++ ending (length a)) c.deref-4.ensures.value
-    ∙ ap (λ (ks : List ℕ). blocks_from (table_words (lists_of tables.given.items) (lists_of tables.out.items) ks) 0 c.deref-6.result.now a ++ ending (length a)) c.deref-5.ensures.value
+    let exits : c.deref-7.result.now ≡ exits_of a = ap (λ xs. xs) c.deref-7.ensures.value ∙ c.in_ok-exits.ensures.exits in
+    let named : blocks_from (table_words (lists_of c.deref-3.result.now) (lists_of c.deref-4.result.now) (lists_of c.deref-5.result.now) c.deref-6.result.now) 0 c.deref-7.result.now a ++ ending (length a) ≡ blocks_from ws 0 (exits_of a) a ++ ending (length a) =
+    ap (λ (ys : List (Bor (List ℕ))). blocks_from (table_words (lists_of ys) (lists_of c.deref-4.result.now) (lists_of c.deref-5.result.now) c.deref-6.result.now) 0 c.deref-7.result.now a ++ ending (length a)) c.deref-3.ensures.value
+    ∙ ap (λ (ys : List (Bor (List ℕ))). blocks_from (table_words (lists_of tables.given.items) (lists_of ys) (lists_of c.deref-5.result.now) c.deref-6.result.now) 0 c.deref-7.result.now a ++ ending (length a)) c.deref-4.ensures.value
+    ∙ ap (λ (ys : List (Bor (List ℕ))). blocks_from (table_words (lists_of tables.given.items) (lists_of tables.out.items) (lists_of ys) c.deref-6.result.now) 0 c.deref-7.result.now a ++ ending (length a)) c.deref-5.ensures.value
+    ∙ ap (λ (ks : List ℕ). blocks_from (table_words (lists_of tables.given.items) (lists_of tables.out.items) (lists_of tables.escaped.items) ks) 0 c.deref-7.result.now a ++ ending (length a)) c.deref-6.ensures.value
     ∙ ap (λ (es : List ℕ). blocks_from ws 0 es a ++ ending (length a)) exits in
     let whole : c.append_action.new.asm.items ≡ action_items ws stack units a = whole-code (prelude_items (entries_from 0) stack units) c.append_prelude.new.asm c.make_labels.new.asm c.append_action.new.asm start_label _ _ (ap (λ z. z.items) c.in_ok-entries.ensures.asm) (ap (λ z. z.items) c.in_ok-row.ensures.asm) c.in_ok-append_action.ensures.items named in
     let many : total c.make_labels.new.asm.items ≤ 4096 = omega (arith, c.in_ok-entries.ensures.short, ap (λ z. total z.items) c.in_ok-row.ensures.asm) in
@@ -75,7 +78,7 @@ returns-clause-short c =
 pub invariant_of-plan-clause-made : goal.invariant_of-plan-clause-made
 invariant_of-plan-clause-made c =
     let graph = c.args.graph.now in
-    exits-made (action_of graph) (tree-of-graph graph c.nodes-count.ensures.of_an_action) c.deref-6.result.now _ (ap (λ xs. xs) c.deref-6.ensures.value ∙ c.in_ok-exits.ensures.exits) (omega (arith, c.in_ok-row.ensures.len, c.deref.ensures.len, length-map c.nodes-count.result.now listed_node, ap length c.nodes-count.ensures.nodes, length-action_of graph))
+    exits-made (action_of graph) (tree-of-graph graph c.nodes-count.ensures.of_an_action) c.deref-7.result.now _ (ap (λ xs. xs) c.deref-7.ensures.value ∙ c.in_ok-exits.ensures.exits) (omega (arith, c.in_ok-row.ensures.len, c.deref.ensures.len, length-map c.nodes-count.result.now listed_node, ap length c.nodes-count.ensures.nodes, length-action_of graph))
 
 pub invariant_of-plan-clause-few : goal.invariant_of-plan-clause-few
 invariant_of-plan-clause-few c = node-few c.args.graph.now c.nodes-count.ensures.of_an_action
@@ -93,4 +96,7 @@ pub invariant_of-plan-clause-out_reached : goal.invariant_of-plan-clause-out_rea
 invariant_of-plan-clause-out_reached c = λ k. subst (λ (ys : List (Bor (List ℕ))). AreReached (list_at (lists_of ys) k)) (sym c.deref-4.ensures.value) (c.requires.out_reached k)
 
 pub invariant_of-plan-clause-keeps_reached : goal.invariant_of-plan-clause-keeps_reached
-invariant_of-plan-clause-keeps_reached c = λ k. subst (λ (ks : List ℕ). slice_index ks k < 33554432) (sym c.deref-5.ensures.value) (c.requires.keeps_reached k)
+invariant_of-plan-clause-keeps_reached c = λ k. subst (λ (ks : List ℕ). slice_index ks k < 33554432) (sym c.deref-6.ensures.value) (c.requires.keeps_reached k)
+
+pub invariant_of-plan-clause-escaped_reached : goal.invariant_of-plan-clause-escaped_reached
+invariant_of-plan-clause-escaped_reached c = λ k. subst (λ (ys : List (Bor (List ℕ))). AreReached (list_at (lists_of ys) k)) (sym c.deref-5.ensures.value) (c.requires.escaped_reached k)

@@ -10,8 +10,8 @@ use Rattle.frame_layout.specs.Places.{PlacedNode, frames_of, placed_node}
 use Rattle.frame_layout.proofs.GraphParts.{trees-of_graph}
 use Rattle.rv_codegen.specs.Aliases.{nowhere, put_frames}
 use Rattle.rv_codegen.specs.Measures.{node_count}
-use Rattle.rv_codegen.proofs.Framed.{AreTables, given-table, keeps-table, out-table, tables-framed}
-use Rattle.rv_codegen.proofs.GraphNodes.{length-action_of}
+use Rattle.rv_codegen.proofs.Framed.{AreTables, escaped-table, given-table, keeps-table, out-table, tables-framed}
+use Rattle.rv_codegen.proofs.GraphNodes.{length-action_of, tree-of-graph}
 use Rattle.rv_codegen.proofs.PuttingPlaces.{length-put_frames, node-within}
 use Rattle.rv_codegen.proofs.generation.assemble_framed.Goals as goal
 
@@ -36,10 +36,10 @@ assemble-requires-clause-given_reached c =
     let count = length-nodes g c.nodes-count.result.now c.nodes-count.ensures.nodes in
     let same : map placed_node c.deref.result.now ≡ put_frames fs (replicate (length a) nowhere) = ap (map placed_node) c.deref.ensures.value ∙ c.in_ok-places.ensures ∙ ap (λ (n : ℕ). put_frames fs (replicate n nowhere)) count in
     let tables = c.in_ok-tables.tables in
-    let made : AreTables a (map placed_node c.deref.result.now) tables.given.items tables.out.items tables.keeps.items =
-    record { given_at = λ k less. c.in_ok-tables.ensures.given k (omega (arith, less, length-action_of g)); out_at = λ k less. c.in_ok-tables.ensures.out k (omega (arith, less, length-action_of g)); keeps_are = c.in_ok-tables.ensures.keeps } in
-    let are = subst (λ (ns : List PlacedNode). AreTables a ns tables.given.items tables.out.items tables.keeps.items) same made in
-    given-table a (trees-of_graph g c.nodes-count.ensures.of_an_action) c.requires.table.0 c.requires.table.1 fs c.requires.table.2 c.requires.apart tables.given.items tables.out.items tables.keeps.items are (omega (arith, c.in_ok-tables.ensures.given_count, length-action_of g))
+    let made : AreTables a (map placed_node c.deref.result.now) tables.given.items tables.out.items tables.escaped.items tables.keeps.items =
+    record { given_at = λ k less. c.in_ok-tables.ensures.given k (omega (arith, less, length-action_of g)); out_at = λ k less. c.in_ok-tables.ensures.out k (omega (arith, less, length-action_of g)); escaped_are = c.in_ok-tables.ensures.escaped; keeps_are = c.in_ok-tables.ensures.keeps } in
+    let are = subst (λ (ns : List PlacedNode). AreTables a ns tables.given.items tables.out.items tables.escaped.items tables.keeps.items) same made in
+    given-table a (trees-of_graph g c.nodes-count.ensures.of_an_action) c.requires.table.0 c.requires.table.1 fs c.requires.table.2 c.requires.apart tables.given.items tables.out.items tables.escaped.items tables.keeps.items are (omega (arith, c.in_ok-tables.ensures.given_count, length-action_of g))
 
 pub assemble-requires-clause-out_reached : goal.assemble-requires-clause-out_reached
 assemble-requires-clause-out_reached c =
@@ -49,10 +49,23 @@ assemble-requires-clause-out_reached c =
     let count = length-nodes g c.nodes-count.result.now c.nodes-count.ensures.nodes in
     let same : map placed_node c.deref.result.now ≡ put_frames fs (replicate (length a) nowhere) = ap (map placed_node) c.deref.ensures.value ∙ c.in_ok-places.ensures ∙ ap (λ (n : ℕ). put_frames fs (replicate n nowhere)) count in
     let tables = c.in_ok-tables.tables in
-    let made : AreTables a (map placed_node c.deref.result.now) tables.given.items tables.out.items tables.keeps.items =
-    record { given_at = λ k less. c.in_ok-tables.ensures.given k (omega (arith, less, length-action_of g)); out_at = λ k less. c.in_ok-tables.ensures.out k (omega (arith, less, length-action_of g)); keeps_are = c.in_ok-tables.ensures.keeps } in
-    let are = subst (λ (ns : List PlacedNode). AreTables a ns tables.given.items tables.out.items tables.keeps.items) same made in
-    out-table a (trees-of_graph g c.nodes-count.ensures.of_an_action) c.requires.table.0 c.requires.table.1 fs c.requires.table.2 c.requires.apart tables.given.items tables.out.items tables.keeps.items are (omega (arith, c.in_ok-tables.ensures.out_count, length-action_of g))
+    let made : AreTables a (map placed_node c.deref.result.now) tables.given.items tables.out.items tables.escaped.items tables.keeps.items =
+    record { given_at = λ k less. c.in_ok-tables.ensures.given k (omega (arith, less, length-action_of g)); out_at = λ k less. c.in_ok-tables.ensures.out k (omega (arith, less, length-action_of g)); escaped_are = c.in_ok-tables.ensures.escaped; keeps_are = c.in_ok-tables.ensures.keeps } in
+    let are = subst (λ (ns : List PlacedNode). AreTables a ns tables.given.items tables.out.items tables.escaped.items tables.keeps.items) same made in
+    out-table a (trees-of_graph g c.nodes-count.ensures.of_an_action) c.requires.table.0 c.requires.table.1 fs c.requires.table.2 c.requires.apart tables.given.items tables.out.items tables.escaped.items tables.keeps.items are (omega (arith, c.in_ok-tables.ensures.out_count, length-action_of g))
+
+pub assemble-requires-clause-escaped_reached : goal.assemble-requires-clause-escaped_reached
+assemble-requires-clause-escaped_reached c =
+    let g = c.args.graph.now in
+    let a = action_of g in
+    let fs = frames_of c.args.layout.now in
+    let count = length-nodes g c.nodes-count.result.now c.nodes-count.ensures.nodes in
+    let same : map placed_node c.deref.result.now ≡ put_frames fs (replicate (length a) nowhere) = ap (map placed_node) c.deref.ensures.value ∙ c.in_ok-places.ensures ∙ ap (λ (n : ℕ). put_frames fs (replicate n nowhere)) count in
+    let tables = c.in_ok-tables.tables in
+    let made : AreTables a (map placed_node c.deref.result.now) tables.given.items tables.out.items tables.escaped.items tables.keeps.items =
+    record { given_at = λ k less. c.in_ok-tables.ensures.given k (omega (arith, less, length-action_of g)); out_at = λ k less. c.in_ok-tables.ensures.out k (omega (arith, less, length-action_of g)); escaped_are = c.in_ok-tables.ensures.escaped; keeps_are = c.in_ok-tables.ensures.keeps } in
+    let are = subst (λ (ns : List PlacedNode). AreTables a ns tables.given.items tables.out.items tables.escaped.items tables.keeps.items) same made in
+    escaped-table a (trees-of_graph g c.nodes-count.ensures.of_an_action) c.requires.table.0 c.requires.table.1 fs c.requires.table.2 c.requires.apart tables.given.items tables.out.items tables.escaped.items tables.keeps.items are (omega (arith, c.in_ok-tables.ensures.escaped_count, length-action_of g))
 
 pub assemble-requires-clause-keeps_reached : goal.assemble-requires-clause-keeps_reached
 assemble-requires-clause-keeps_reached c =
@@ -62,10 +75,10 @@ assemble-requires-clause-keeps_reached c =
     let count = length-nodes g c.nodes-count.result.now c.nodes-count.ensures.nodes in
     let same : map placed_node c.deref.result.now ≡ put_frames fs (replicate (length a) nowhere) = ap (map placed_node) c.deref.ensures.value ∙ c.in_ok-places.ensures ∙ ap (λ (n : ℕ). put_frames fs (replicate n nowhere)) count in
     let tables = c.in_ok-tables.tables in
-    let made : AreTables a (map placed_node c.deref.result.now) tables.given.items tables.out.items tables.keeps.items =
-    record { given_at = λ k less. c.in_ok-tables.ensures.given k (omega (arith, less, length-action_of g)); out_at = λ k less. c.in_ok-tables.ensures.out k (omega (arith, less, length-action_of g)); keeps_are = c.in_ok-tables.ensures.keeps } in
-    let are = subst (λ (ns : List PlacedNode). AreTables a ns tables.given.items tables.out.items tables.keeps.items) same made in
-    keeps-table a (trees-of_graph g c.nodes-count.ensures.of_an_action) c.requires.table.0 c.requires.table.1 fs c.requires.table.2 c.requires.apart tables.given.items tables.out.items tables.keeps.items are
+    let made : AreTables a (map placed_node c.deref.result.now) tables.given.items tables.out.items tables.escaped.items tables.keeps.items =
+    record { given_at = λ k less. c.in_ok-tables.ensures.given k (omega (arith, less, length-action_of g)); out_at = λ k less. c.in_ok-tables.ensures.out k (omega (arith, less, length-action_of g)); escaped_are = c.in_ok-tables.ensures.escaped; keeps_are = c.in_ok-tables.ensures.keeps } in
+    let are = subst (λ (ns : List PlacedNode). AreTables a ns tables.given.items tables.out.items tables.escaped.items tables.keeps.items) same made in
+    keeps-table a (trees-of_graph g c.nodes-count.ensures.of_an_action) c.requires.table.0 c.requires.table.1 fs c.requires.table.2 c.requires.apart tables.given.items tables.out.items tables.escaped.items tables.keeps.items are
 
 pub returns-clause-words : goal.returns-clause-words
 returns-clause-words c =
@@ -75,10 +88,10 @@ returns-clause-words c =
     let count = length-nodes g c.nodes-count.result.now c.nodes-count.ensures.nodes in
     let same : map placed_node c.deref.result.now ≡ put_frames fs (replicate (length a) nowhere) = ap (map placed_node) c.deref.ensures.value ∙ c.in_ok-places.ensures ∙ ap (λ (n : ℕ). put_frames fs (replicate n nowhere)) count in
     let tables = c.in_ok-tables.tables in
-    let made : AreTables a (map placed_node c.deref.result.now) tables.given.items tables.out.items tables.keeps.items =
-    record { given_at = λ k less. c.in_ok-tables.ensures.given k (omega (arith, less, length-action_of g)); out_at = λ k less. c.in_ok-tables.ensures.out k (omega (arith, less, length-action_of g)); keeps_are = c.in_ok-tables.ensures.keeps } in
-    let are = subst (λ (ns : List PlacedNode). AreTables a ns tables.given.items tables.out.items tables.keeps.items) same made in
-    let framed = tables-framed a fs tables.given.items tables.out.items tables.keeps.items are c.args.capacity.stack c.args.capacity.units in
+    let made : AreTables a (map placed_node c.deref.result.now) tables.given.items tables.out.items tables.escaped.items tables.keeps.items =
+    record { given_at = λ k less. c.in_ok-tables.ensures.given k (omega (arith, less, length-action_of g)); out_at = λ k less. c.in_ok-tables.ensures.out k (omega (arith, less, length-action_of g)); escaped_are = c.in_ok-tables.ensures.escaped; keeps_are = c.in_ok-tables.ensures.keeps } in
+    let are = subst (λ (ns : List PlacedNode). AreTables a ns tables.given.items tables.out.items tables.escaped.items tables.keeps.items) same made in
+    let framed = tables-framed a (tree-of-graph g c.nodes-count.ensures.of_an_action) fs tables.given.items tables.out.items tables.escaped.items tables.keeps.items are c.args.capacity.stack c.args.capacity.units in
     subst (λ (items : List Item). IfOk c.assemble.result (λ code. map Some code.words.items ≡ map encode (code_of items))) framed c.assemble.ensures.words
 
 pub returns-clause-labels : goal.returns-clause-labels
@@ -89,10 +102,10 @@ returns-clause-labels c =
     let count = length-nodes g c.nodes-count.result.now c.nodes-count.ensures.nodes in
     let same : map placed_node c.deref.result.now ≡ put_frames fs (replicate (length a) nowhere) = ap (map placed_node) c.deref.ensures.value ∙ c.in_ok-places.ensures ∙ ap (λ (n : ℕ). put_frames fs (replicate n nowhere)) count in
     let tables = c.in_ok-tables.tables in
-    let made : AreTables a (map placed_node c.deref.result.now) tables.given.items tables.out.items tables.keeps.items =
-    record { given_at = λ k less. c.in_ok-tables.ensures.given k (omega (arith, less, length-action_of g)); out_at = λ k less. c.in_ok-tables.ensures.out k (omega (arith, less, length-action_of g)); keeps_are = c.in_ok-tables.ensures.keeps } in
-    let are = subst (λ (ns : List PlacedNode). AreTables a ns tables.given.items tables.out.items tables.keeps.items) same made in
-    let framed = tables-framed a fs tables.given.items tables.out.items tables.keeps.items are c.args.capacity.stack c.args.capacity.units in
+    let made : AreTables a (map placed_node c.deref.result.now) tables.given.items tables.out.items tables.escaped.items tables.keeps.items =
+    record { given_at = λ k less. c.in_ok-tables.ensures.given k (omega (arith, less, length-action_of g)); out_at = λ k less. c.in_ok-tables.ensures.out k (omega (arith, less, length-action_of g)); escaped_are = c.in_ok-tables.ensures.escaped; keeps_are = c.in_ok-tables.ensures.keeps } in
+    let are = subst (λ (ns : List PlacedNode). AreTables a ns tables.given.items tables.out.items tables.escaped.items tables.keeps.items) same made in
+    let framed = tables-framed a (tree-of-graph g c.nodes-count.ensures.of_an_action) fs tables.given.items tables.out.items tables.escaped.items tables.keeps.items are c.args.capacity.stack c.args.capacity.units in
     subst (λ (items : List Item). OnOk c.assemble.result (LabelsStand items)) framed c.assemble.ensures.labels
 
 pub returns-clause-short : goal.returns-clause-short
@@ -103,8 +116,8 @@ returns-clause-short c =
     let count = length-nodes g c.nodes-count.result.now c.nodes-count.ensures.nodes in
     let same : map placed_node c.deref.result.now ≡ put_frames fs (replicate (length a) nowhere) = ap (map placed_node) c.deref.ensures.value ∙ c.in_ok-places.ensures ∙ ap (λ (n : ℕ). put_frames fs (replicate n nowhere)) count in
     let tables = c.in_ok-tables.tables in
-    let made : AreTables a (map placed_node c.deref.result.now) tables.given.items tables.out.items tables.keeps.items =
-    record { given_at = λ k less. c.in_ok-tables.ensures.given k (omega (arith, less, length-action_of g)); out_at = λ k less. c.in_ok-tables.ensures.out k (omega (arith, less, length-action_of g)); keeps_are = c.in_ok-tables.ensures.keeps } in
-    let are = subst (λ (ns : List PlacedNode). AreTables a ns tables.given.items tables.out.items tables.keeps.items) same made in
-    let framed = tables-framed a fs tables.given.items tables.out.items tables.keeps.items are c.args.capacity.stack c.args.capacity.units in
+    let made : AreTables a (map placed_node c.deref.result.now) tables.given.items tables.out.items tables.escaped.items tables.keeps.items =
+    record { given_at = λ k less. c.in_ok-tables.ensures.given k (omega (arith, less, length-action_of g)); out_at = λ k less. c.in_ok-tables.ensures.out k (omega (arith, less, length-action_of g)); escaped_are = c.in_ok-tables.ensures.escaped; keeps_are = c.in_ok-tables.ensures.keeps } in
+    let are = subst (λ (ns : List PlacedNode). AreTables a ns tables.given.items tables.out.items tables.escaped.items tables.keeps.items) same made in
+    let framed = tables-framed a (tree-of-graph g c.nodes-count.ensures.of_an_action) fs tables.given.items tables.out.items tables.escaped.items tables.keeps.items are c.args.capacity.stack c.args.capacity.units in
     subst (λ (items : List Item). OnOk c.assemble.result (total items ≤ 4098 + 530 * node_count a)) framed c.assemble.ensures.short

@@ -28,7 +28,7 @@ returns-clause-items c =
 pub returns-clause-marks : goal.returns-clause-marks
 returns-clause-marks c =
     OnOk-then c.close_alternative.result
-    (λ same l ne h. same l ∙ mark-keeps c.append_first_arm.new.asm c.place.new.self c.stop.result l c.place.ensures (λ e. ne (cc)) (c.in_ok-append_first_arm.ensures.marks l h))
+    (λ same l ne nj h. same l ∙ mark-keeps c.append_first_arm.new.asm c.place.new.self c.stop.result l c.place.ensures (λ e. ne (cc)) (c.in_ok-append_first_arm.ensures.marks l h))
     c.close_alternative.ensures.placed
 
 pub returns-clause-short : goal.returns-clause-short

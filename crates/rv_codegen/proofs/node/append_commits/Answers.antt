@@ -12,7 +12,7 @@ returns-clause-items c =
     ∙ ap (λ m. record asm { items = asm.items ++ (map Plain commit ++ Mark m ∷ []) }) c.stop.ensures
 
 pub returns-clause-marks : goal.returns-clause-marks
-returns-clause-marks c = λ l ne h.
+returns-clause-marks c = λ l ne nj h.
     mark-keeps c.commit.new.asm c.place.new.self c.stop.result l c.place.ensures (λ e. ne (cc))
     (plain-keeps c.args.asm.now c.commit.new.asm commit l c.in_ok-commit.ensures.ok h)
 

@@ -1,11 +1,14 @@
 use Rattle.std.proofs.Common.{arith, subst}
 use Rattle.rv_codegen.specs.Marks.{PlacesStop}
-use Rattle.rv_codegen.proofs.Emitting.{OnOk-then, stop-fresh, total-opened}
+use Rattle.rv_codegen.proofs.Emitting.{OnOk-then, joint-fresh, stop-fresh, total-opened}
 use Rattle.rv_codegen.proofs.Fresh.{fresh-behind}
 use Rattle.rv_codegen.proofs.node.append_node.Goals as goal
 
 pub append_body-requires-clause-stop : goal.append_body-requires-clause-stop
 append_body-requires-clause-stop c = stop-fresh c.args.asm.now c.append_opening.new.asm c.args.k c.requires.fresh c.append_opening.ensures
+
+pub append_body-requires-clause-joint : goal.append_body-requires-clause-joint
+append_body-requires-clause-joint c = joint-fresh c.args.asm.now c.append_opening.new.asm c.args.k c.requires.fresh c.append_opening.ensures
 
 pub returns-clause-fresh : goal.returns-clause-fresh
 returns-clause-fresh c =

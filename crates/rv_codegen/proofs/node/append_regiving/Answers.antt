@@ -14,7 +14,7 @@ returns-clause-items c =
 
 pub returns-clause-marks : goal.returns-clause-marks
 returns-clause-marks c =
-    OnOk-then c.append_way.result (λ m l ne h. m c.args.k l ne (c.in_ok-append_regives.ensures.marks l ne h)) c.append_way.ensures.marks
+    OnOk-then c.append_way.result (λ m l ne nj h. m c.args.k l ne nj (c.in_ok-append_regives.ensures.marks l ne nj h)) c.append_way.ensures.marks
 
 pub returns-clause-short : goal.returns-clause-short
 returns-clause-short c = OnOk-then c.append_way.result (λ m. omega (arith, m, c.in_ok-append_regives.ensures.short)) c.append_way.ensures.short
