@@ -5,17 +5,17 @@ use Rattle.acg_base.specs.declared.sink.Sink.{Ghosts}
 use Rattle.acg_base.specs.declared.status.Status.{Status}
 use Rattle.acg_base.specs.declared.status.Status.TheVariants as status
 use Rattle.action_terms.specs.Numbering.{Listed}
-use Rattle.rv_code.specs.Images.{started}
+use Rattle.action_terms.specs.Meaning.{action_of}
 use Rattle.rv_code.specs.Machine.{run}
 use Rattle.acg_words.specs.Lines.{status_of}
 use Rattle.acg_words.specs.declared.line.Line.{Line}
-use Rattle.acg_words.specs.declared.line.Line.TheVariants.{ReadFault}
+use Rattle.acg_words.specs.declared.line.Line.TheVariants.{IllSorted, Memory, ReadFault, Unbuilt, Exited}
 use Rattle.acg_driver.specs.declared.running.Loaded.{Loaded}
-use Rattle.acg_driver.specs.Texts.{RefusesText}
+use Rattle.acg_driver.specs.Texts.{Reads, RefusesText}
 use Rattle.acg_driver.specs.Says.{Said}
 use Rattle.acg_driver.specs.Runs.{instruction_limit, IsRun, IsLoaded}
 use Rattle.acg_driver.specs.Files.{read_status}
-use Rattle.acg_driver.specs.Commands.Act.{IsUncompiled, LoadsAct, RunsAct}
+use Rattle.acg_driver.specs.Commands.Act.{IsCompileLine, IsUncompiled, LoadsAct, RunsAct}
 use Rattle.acg_driver.proofs.Asking.{text-other}
 use Rattle.acg_driver.proofs.RunLemmas.{run-other}
 
@@ -24,8 +24,16 @@ pub nothing-first : (xs : List ℕ) → None ≡ slice_get xs 0 → xs ≡ []
 nothing-first [] none = refl
 nothing-first (x ∷ xs) none = absurd (cc)
 
+-- the line with which a graph that was read isn't compiled
+pub compile-refused : (bytes : List ℕ) (g : Listed) (line : Line) → Reads bytes g → IsCompileLine (action_of g) line → RefusesText bytes line ⊎ IsUncompiled bytes line
+compile-refused bytes g (IllSorted node) reads is = inr (g, reads, is)
+compile-refused bytes g (Unbuilt node) reads is = inr (g, reads, is)
+compile-refused bytes g Memory reads is = inl tt
+compile-refused bytes g _ reads is = absurd is
+
 uncompiled-other : (bytes : List ℕ) (line : Line) → IsUncompiled bytes line → status_of line ≢ status.ReadFault
 uncompiled-other bytes (ReadFault name) is = absurd is
+uncompiled-other bytes (Exited code) is = absurd is
 uncompiled-other bytes _ is = λ e. cc
 
 -- no refusal behind the read is a read fault
@@ -43,7 +51,7 @@ act-loaded [] loaded loads = absurd loads
 act-loaded (bytes ∷ more ∷ others) loaded loads = absurd loads
 
 is_run-other : (g : Listed) (text : List ℕ) (s : Status) → IsRun g text s → s ≢ status.ReadFault
-is_run-other g text s (t, least, (image, right, (rest, is, runs))) = run-other (run instruction_limit (started image [])) rest s runs
+is_run-other g text s (t, least, (file, image, made, (start, load, (rest, is, runs)))) = run-other (run instruction_limit start) rest s runs
 
 module _ {K : Type 0} {sink : Ghosts K} where
   -- the run of what was loaded is what the command says

@@ -7,7 +7,6 @@ use Rattle.acg_base.specs.declared.status.Status.TheVariants as status
 use Rattle.action_terms.specs.Numbering.{Listed, listed}
 use Rattle.action_terms.specs.Meaning.{action_of}
 use Rattle.rv_code.specs.Machine.{Outcome, Ran, Exited, Trapped, run}
-use Rattle.rv_code.specs.Images.{started}
 use Rattle.sort_rules.specs.Admissible.{IsAdmissible, IsWellSorted}
 use Rattle.rv_codegen.specs.Built.{unbuilt}
 use Rattle.acg_words.specs.Commands.{Act}
@@ -31,7 +30,7 @@ one-graph bytes g h (small, (t, text, graph)) (less, (u, other, same)) =
 built-compiled : (bytes : List ℕ) (g : Listed) (line : Line) → IsBuilt bytes g → IsWellSorted (action_of g) → IsUncompiled bytes line → ⊥
 built-compiled bytes g (IllSorted node) (reads, built) (t, admissible) (h, others, ill) =
     ill.none_is t (subst (λ x. IsAdmissible (action_of x) t) (one-graph bytes g h reads others) admissible)
-built-compiled bytes g (Unbuilt node) (reads, built) sorted (h, others, well, first) =
+built-compiled bytes g (Unbuilt node) (reads, built) sorted (h, others, (well, first)) =
     let none : unbuilt (action_of h) ≡ [] =
     subst (λ x. unbuilt (action_of x) ≡ []) (one-graph bytes g h reads others) built in
     let at : slice_get [] 0 ≡ Some node = sym (ap (λ ks. slice_get ks 0) none) ∙ first in
@@ -59,7 +58,7 @@ outcome-runs (Exited code sent) text s (line, exit, says) = subst IsOfRun (sym s
 outcome-runs (Trapped cause) text s says = absurd says
 
 run-runs : (g : Listed) (text : List ℕ) (s : Status) → IsRun g text s → IsOfRun s
-run-runs g text s (t, least, (image, right, (rest, is, runs))) = outcome-runs (run instruction_limit (started image [])) rest s runs
+run-runs g text s (t, least, (file, image, made, (start, load, (rest, is, runs)))) = outcome-runs (run instruction_limit start) rest s runs
 
 -- what is replied to `act` over a store that tells its contents
 pub act-performs :

@@ -7,11 +7,11 @@ use Rattle.acg_base.specs.declared.status.Status.{Status}
 use Rattle.acg_base.specs.declared.status.Status.TheVariants as status
 use Rattle.acg_base.specs.declared.store.Store.{Ghosts}
 use Rattle.action_terms.specs.Numbering.{Listed}
-use Rattle.acg_words.specs.Lines.{status_of}
+use Rattle.acg_words.specs.Lines.{status_of, exit_status}
 use Rattle.acg_words.specs.declared.line.Line.{Line}
-use Rattle.acg_words.specs.declared.line.Line.TheVariants.{Memory, ReadFault}
+use Rattle.acg_words.specs.declared.line.Line.TheVariants.{Memory, ReadFault, Exited}
 use Rattle.acg_driver.specs.Texts.{Reads, RefusesText, IsUnread}
-use Rattle.acg_driver.specs.Files.{File, file, Action, faults_with, counted_by, ReadsWith, AreGiven, ReadOnly, Lacks, first_missing, missing_file, FaultsWhere, read_status, NamesFault, AsksSurely}
+use Rattle.acg_driver.specs.Files.{File, file, Action, faults_with, counted_by, ReadsWith, AreGiven, ReadOnly, GoesOn, Lacks, first_missing, missing_file, FaultsWhere, read_status, NamesFault, AsksSurely}
 use Rattle.acg_driver.proofs.TextErrors.{content-refused}
 
 -- a status that isn't that of a read fault counts none
@@ -48,9 +48,18 @@ reads_with-then first second _ old middle new begun is = is ∙ counted-behind f
 
 -- ---- statuses and lines
 
+-- no exit of an image is a read fault
+pub exit_status-other : (code : ℕ) → exit_status code ≢ status.ReadFault
+exit_status-other zero = λ e. cc
+exit_status-other (suc zero) = λ e. cc
+exit_status-other (suc (suc zero)) = λ e. cc
+exit_status-other (suc (suc (suc zero))) = λ e. cc
+exit_status-other (suc (suc (suc (suc code)))) = λ e. cc
+
 -- no refusal of a text is a read fault
 pub text-other : (bytes : List ℕ) (line : Line) → RefusesText bytes line → status_of line ≢ status.ReadFault
 text-other bytes (ReadFault name) refused = absurd refused
+text-other bytes (Exited code) refused = absurd refused
 text-other bytes _ refused = λ e. cc
 
 -- a line with another status names no file
@@ -177,39 +186,52 @@ asks-none contents result other = record {
   named = names-if [] result other;
 }
 
+-- the first file is there, and what it gave is refused
+pub asks-refused-at :
+    {A : Type 0} (contents : Contents) (f : File) (files : List File) (content : List ℕ) (line : Line) → contents f.name ≡ Some content →
+    status_of line ≢ status.ReadFault → (GoesOn f.role content → status_of line ≡ status.Memory) → AsksSurely {A = A} contents (f ∷ files) (Err line)
+asks-refused-at contents f files content line there other only = record {
+  faults = record {
+    only = λ fault. absurd (other fault);
+    all = λ lacks. elim lacks [
+      | inl gone ↦ absurd (there-not_gone contents f.name content there gone)
+      | inr more ↦ inr (inl (only (subst (GoesOn f.role) (one-content contents f.name more.0 content more.1 there) more.2)))
+    ];
+  };
+  named = other-named (missing_file contents (f ∷ files)) line other;
+}
+
 -- the action's file is there, and its text is refused
 pub asks-refused : {A : Type 0} (contents : Contents) (name : List ℕ) (files : List File) (content given : List ℕ) (line : Line) → contents name ≡ Some content → given ≡ front LIMIT_ACTION content → RefusesText given line
     → AsksSurely {A = A} contents (file Action name ∷ files) (Err line)
-asks-refused contents name files content given line there is refused = record {
-  faults = record {
-    only = λ fault. absurd (text-other given line refused fault);
-    all = λ lacks. elim lacks [
-      | inl gone ↦ absurd (there-not_gone contents name content there gone)
-      | inr more ↦
-          let front_of = is ∙ ap (front LIMIT_ACTION) (one-content contents name content more.0 there more.1) in
-          inr (inl (ap status_of (content-refused more.0 given more.2.0 line front_of more.2.1 refused)))
-    ];
-  };
-  named = other-named (missing_file contents (file Action name ∷ files)) line (text-other given line refused);
-}
+asks-refused contents name files content given line there is refused =
+    asks-refused-at contents (file Action name) files content line there (text-other given line refused)
+    (λ goes. ap status_of (content-refused content given goes.0 line is goes.1 refused))
 
 named-as : {A : Type 0} (name name' : List ℕ) (result : Result A Line) → name ≡ name' → IfErr result (NamesFault name) → IfErr result (NamesFault name')
 named-as name name' result same named = subst (λ n. IfErr result (NamesFault n)) same named
 
--- the action is read, and then the other files are asked for
-pub asks-behind : {A : Type 0} (contents contents' : Contents) (name : List ℕ) (files : List File) (content : List ℕ) (g : Listed) (result : Result A Line) → contents name ≡ Some content → Reads content g
-    → SameContents contents contents' → AsksSurely contents' files result → AsksSurely contents (file Action name ∷ files) result
-asks-behind contents contents' name files content g result there reads same asks = record {
+-- what the first file holds leads to the others, and then they are asked for
+pub asks-behind-at :
+    {A : Type 0} (contents contents' : Contents) (f : File) (files : List File) (content : List ℕ) (result : Result A Line) → contents f.name ≡ Some content →
+    GoesOn f.role content → SameContents contents contents' → AsksSurely contents' files result → AsksSurely contents (f ∷ files) result
+asks-behind-at contents contents' f files content result there goes same asks = record {
   faults = record {
-    only = λ fault. inr (content, there, (g, reads), lacks-same contents' contents files (same-back contents contents' same) (asks.faults.only fault));
+    only = λ fault. inr (content, there, goes, lacks-same contents' contents files (same-back contents contents' same) (asks.faults.only fault));
     all = λ lacks. elim lacks [
-      | inl gone ↦ absurd (there-not_gone contents name content there gone)
+      | inl gone ↦ absurd (there-not_gone contents f.name content there gone)
       | inr more ↦ asks.faults.all (lacks-same contents contents' files same more.3)
     ];
   };
-  named = named-as (missing_file contents' files) (missing_file contents (file Action name ∷ files)) result
-      (missing-same contents contents' files same ∙ sym (ap (λ o. first_missing o name (missing_file contents files)) there)) asks.named;
+  named = named-as (missing_file contents' files) (missing_file contents (f ∷ files)) result
+      (missing-same contents contents' files same ∙ sym (ap (λ o. first_missing o f.name (missing_file contents files)) there)) asks.named;
 }
+
+-- the action is read, and then the other files are asked for
+pub asks-behind : {A : Type 0} (contents contents' : Contents) (name : List ℕ) (files : List File) (content : List ℕ) (g : Listed) (result : Result A Line) → contents name ≡ Some content → Reads content g
+    → SameContents contents contents' → AsksSurely contents' files result → AsksSurely contents (file Action name ∷ files) result
+asks-behind contents contents' name files content g result there reads same asks =
+    asks-behind-at contents contents' (file Action name) files content result there (g, reads) same asks
 
 -- an answer in another type
 pub asks-ok : {A B : Type 0} (contents : Contents) (files : List File) (a : A) (b : B) → AsksSurely contents files (Ok a) → AsksSurely contents files (Ok b)

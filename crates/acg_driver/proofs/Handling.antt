@@ -8,11 +8,11 @@ use Rattle.acg_words.specs.Commands.{Command}
 use Rattle.acg_words.specs.Lines.{bytes_of, status_of, read_fault_line}
 use Rattle.acg_words.specs.Prints.{Answered}
 use Rattle.acg_words.specs.declared.line.Line.{Line}
-use Rattle.acg_words.specs.declared.line.Line.TheVariants.{ReadFault, Words}
+use Rattle.acg_words.specs.declared.line.Line.TheVariants.{ReadFault, Words, Exited}
 use Rattle.acg_driver.specs.Says.{Said}
 use Rattle.acg_driver.specs.Files.{files_of, readings_of, ReadOnly, missing_file, FaultsWhere, NamesFault, AsksSurely}
 use Rattle.acg_driver.specs.Serving.{Refuses, Carries, ServedSurely, Handled}
-use Rattle.acg_driver.proofs.Asking.{reads-as, reads-none}
+use Rattle.acg_driver.proofs.Asking.{exit_status-other, reads-as, reads-none}
 
 -- a status is that of a failed write, or another one
 write_fault-or : (s : Status) → (s ≡ status.WriteFault) ⊎ (s ≢ status.WriteFault)
@@ -26,6 +26,7 @@ read-not_write e w = let both : status.ReadFault ≡ status.WriteFault = sym e �
 -- the line of a read fault, by its name
 fault-line : (name : List ℕ) (line : Line) → status_of line ≡ status.ReadFault → NamesFault name line → bytes_of line ≡ read_fault_line name
 fault-line name (ReadFault other) fault named = ap read_fault_line named
+fault-line name (Exited code) fault named = absurd (exit_status-other code fault)
 fault-line name _ fault named = absurd cc
 
 -- what is answered for a status, or that a write failed

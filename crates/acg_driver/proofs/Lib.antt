@@ -1,4 +1,5 @@
 pub mod CodeBytes
+pub mod FileBytes
 pub mod MessageLemmas
 pub mod Fronts
 pub mod TextErrors
@@ -9,6 +10,8 @@ pub mod RightRuns
 pub mod RunLemmas
 pub mod PerformanceLemmas
 pub mod ActRuns
+pub mod ImageLemmas
+pub mod ImageRuns
 pub mod Performs
 pub mod ActLemmas
 pub mod PerformLemmas

@@ -7,26 +7,28 @@ use Rattle.action_terms.specs.Performances.{State, start}
 use Rattle.action_sos.specs.Performers.{Performing}
 use Rattle.acg_words.specs.Lines.{status_of}
 use Rattle.acg_words.specs.declared.line.Line.{Line}
-use Rattle.acg_words.specs.declared.line.Line.TheVariants.{ReadFault, Memory}
+use Rattle.acg_words.specs.declared.line.Line.TheVariants.{ReadFault, Memory, Exited}
 use Rattle.action_terms.specs.Numbering.{Listed}
 use Rattle.acg_driver.specs.Texts.{Reads}
 use Rattle.acg_driver.specs.Says.{Said}
-use Rattle.acg_driver.specs.Commands.Perform.{IsInputOf, IsPerformed, RefusesBytes, RefusesPerform, StartsPerform, SaysPerform}
+use Rattle.acg_driver.specs.Inputs.{RefusesBytes}
+use Rattle.acg_driver.specs.Commands.Perform.{IsInputOf, IsPerformed, RefusesPerform, StartsPerform, SaysPerform}
 use Rattle.acg_driver.proofs.PerformanceLemmas.{performed-other}
 
 -- no refusal of the bytes of an input is a read fault
 pub bytes-other : (bytes : List ℕ) (line : Line) → RefusesBytes bytes line → status_of line ≢ status.ReadFault
 bytes-other bytes (ReadFault name) refused = absurd refused
+bytes-other bytes (Exited code) refused = absurd refused
 bytes-other bytes _ refused = λ e. cc
 
 -- where the input is taken, memory may still run out
 pub memory-refuses : (action : List ℕ) (input : Option (List ℕ)) (bytes : List ℕ) (givens : List (List ℕ)) (integers : List ℤ) (g : Listed) → Reads bytes g → IsInputOf input givens integers
     → RefusesPerform action input (bytes ∷ givens) Memory
 memory-refuses action None bytes [] integers g reads is = inl (refl, tt)
-memory-refuses action None bytes (taken ∷ givens) integers g reads is = absurd is
-memory-refuses action (Some i) bytes [] integers g reads is = absurd is
+memory-refuses action None bytes (taken ∷ givens) integers g reads is = absurd is.1
+memory-refuses action (Some i) bytes [] integers g reads is = absurd is.1
 memory-refuses action (Some i) bytes (taken ∷ []) integers g reads is = inr ((g, reads), tt)
-memory-refuses action (Some i) bytes (taken ∷ more ∷ givens) integers g reads is = absurd is
+memory-refuses action (Some i) bytes (taken ∷ more ∷ givens) integers g reads is = absurd is.1
 
 pub starts-at : (input : Option (List ℕ)) (givens : List (List ℕ)) (p : Performing) → StartsPerform input givens p → p.state ≡ start p.state.world.input
 starts-at input [] p starts = absurd starts

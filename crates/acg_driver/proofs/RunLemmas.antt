@@ -56,7 +56,7 @@ running-answer b m k j r = rw (r []) (refl, refl)
 -- ---- what a whole run says
 
 -- the output of an outcome that isn't a trap
-abbrev OutputIs : List ℕ → Outcome → Type 0
+abbrev pub OutputIs : List ℕ → Outcome → Type 0
 OutputIs output (Ran t) = t.output ≡ output
 OutputIs output (Exited code sent) = sent ≡ output
 OutputIs output (Trapped cause) = Unit {0}
@@ -66,7 +66,7 @@ output-behind (Ran u) s go follow grows rest = rest u
 output-behind (Exited code sent) s go follow grows rest = grows
 output-behind (Trapped cause) s go follow grows rest = tt
 
-run-output : (n : ℕ) (s : State) → OutputIs (last n s).output (run n s)
+pub run-output : (n : ℕ) (s : State) → OutputIs (last n s).output (run n s)
 unfolding run last
 run-output zero s = refl
 run-output (suc n) s = output-behind (step s) s (run n) (last n) (step-grows s) (run-output n)

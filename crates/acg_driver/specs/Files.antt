@@ -1,25 +1,29 @@
 -- The files that a command reads, and what is read of them.
 use Rattle.std.specs.Prelude.{◌≡◌, ◌⊎◌, ℕ, zero, suc, List, [], ◌∷◌, ◌++◌, length, Option, Some, None, IsTrue, Result, Ok, Err, IfErr}
 use Rattle.acg_base.specs.Outside.{Contents, SameContents, Reading, counted, front}
-use Rattle.acg_base.specs.declared.limits.TheConstants.{LIMIT_ACTION, LIMIT_INPUT}
+use Rattle.acg_base.specs.declared.limits.TheConstants.{LIMIT_ACTION, LIMIT_IMAGE, LIMIT_INPUT}
 use Rattle.acg_base.specs.declared.status.Status.{Status}
 use Rattle.acg_base.specs.declared.status.Status.TheVariants as status
 use Rattle.acg_base.specs.declared.store.Store.{Ghosts}
 use Rattle.action_terms.specs.Numbering.{Listed}
-use Rattle.acg_words.specs.Commands.{Command, Act, Perform, Help, Version, command_of}
+use Rattle.rv_code.specs.Images.{Image as ImageValue}
+use Rattle.acg_words.specs.Commands.{Command, Act, Run, Perform, Help, Version, command_of}
 use Rattle.acg_words.specs.Lines.{status_of}
 use Rattle.acg_words.specs.declared.line.Line.{Line}
 use Rattle.acg_words.specs.declared.line.Line.TheVariants.{ReadFault}
 use Rattle.acg_driver.specs.Texts.{Reads}
+use Rattle.acg_driver.specs.ImageFiles.{GivesImage}
 
 -- what a file holds
 pub data Role : Type 0 where
   Action : Role
+  Image : Role
   Input : Role
 
 -- the most bytes that it may have
 abbrev pub limit_of : Role → ℕ
 limit_of Action = LIMIT_ACTION
+limit_of Image = LIMIT_IMAGE
 limit_of Input = LIMIT_INPUT
 
 -- a file: what it holds, and its name
@@ -37,6 +41,7 @@ input_files (Some input) = file Input input ∷ []
 
 abbrev pub files_of : Command → List File
 files_of (Act action) = file Action action ∷ []
+files_of (Run budget image input) = file Image image ∷ input_files input
 files_of (Perform n action input) = file Action action ∷ input_files input
 files_of Help = []
 files_of Version = []
@@ -96,9 +101,10 @@ pub record ReadOnly {S : Type 0} (store : Ghosts S) (gained : List Reading) (sta
   pub logs_still : store.logs new ≡ store.logs old
   pub sure_still : store.sure new ≡ store.sure old
 
--- what makes a command go on to its next file: an action is read
+-- what makes a command go on to its next file: an action or an image is read
 abbrev pub GoesOn : Role → (content : List ℕ) → Type 0
 GoesOn Action content = (g : Listed) × Reads content g
+GoesOn Image content = (x : ImageValue) × GivesImage content x
 GoesOn Input content = Unit {0}
 
 -- one of the files isn't there, and those before it are there and lead to it

@@ -1,5 +1,8 @@
 pub mod Texts
+pub mod ImageFiles
+pub mod Inputs
 pub mod Says
+pub mod Compiling
 pub mod Runs
 pub mod Sending
 pub mod Files

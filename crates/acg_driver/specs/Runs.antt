@@ -5,16 +5,19 @@ use Rattle.acg_base.specs.declared.status.Status.{Status}
 use Rattle.action_terms.specs.Numbering.{Listed}
 use Rattle.action_terms.specs.Meaning.{action_of}
 use Rattle.action_terms.specs.Performances.{records}
-use Rattle.rv_code.specs.Machine.{Outcome, Ran, Exited, Trapped, run}
-use Rattle.rv_code.specs.Images.{Image, started}
+use Rattle.rv_code.specs.Machine.{State, Outcome, Ran, Exited, Trapped, run}
+use Rattle.rv_code.specs.Images.{Image}
+use Rattle.elf_image.specs.Files.{file_of}
+use Rattle.elf_image.specs.Loading.{IsLoadOf}
 use Rattle.rv_codegen.specs.Measures.{factor_by}
-use Rattle.rv_codegen.specs.RightImage.{Subject, IsRight}
+use Rattle.rv_codegen.specs.RightImage.{Subject}
 use Rattle.sort_rules.specs.Admissible.{IsLeast}
 use Rattle.sort_rules.specs.Tables.{MarkedTable}
 use Rattle.rv_machine.specs.Machines.{MachineValue, loaded_machine}
 use Rattle.acg_words.specs.Lines.{header_line, message_lines}
 use Rattle.acg_words.specs.declared.line.Line.{Line}
 use Rattle.acg_words.specs.declared.line.Line.TheVariants.{Completed, Failed, Escaped, Full, Running}
+use Rattle.acg_driver.specs.Compiling.{default_capacity, subject_for, IsRightFile}
 use Rattle.acg_driver.specs.Says.{SaysBehind}
 use Rattle.acg_driver.specs.declared.running.Loaded.{Loaded}
 
@@ -42,22 +45,27 @@ IsRunOf (Trapped cause) text status = ⊥
 
 -- what an image of the graph's action is compared with: a table of its sorts, and the default capacity
 abbrev pub subject_of : Listed → MarkedTable → Subject
-subject_of g t = record { action = action_of g; table = t; stack = DEFAULT_STACK; units = DEFAULT_UNITS }
+subject_of g t = subject_for g t default_capacity
 
--- the action of the graph is well-sorted, and some image is right for it by its least table, with the default capacity;
--- behind the header line, with the factor by that table, stands the image's run, on no input, for at most so many
--- instructions
+-- the bytes are the file of an image that is right for the graph's action by this table, with the default capacity
+abbrev pub IsMadeFor : Listed → MarkedTable → (file : List ℕ) → Image → Type 0
+IsMadeFor g t file image = (file ≡ file_of image) × IsRightFile file image (subject_of g t)
+
+-- the action of the graph is well-sorted, and the file of some image is right for it by its least table, with the default
+-- capacity; behind the header line, with the factor by that table, stands the run of the machine that is loaded from the
+-- bytes of this file, on no input, for at most so many instructions
 abbrev pub IsRun : Listed → (text : List ℕ) → Status → Type 0
 IsRun g text status =
     (t : MarkedTable) × IsLeast (action_of g) t
-    × ((image : Image) × IsRight image (subject_of g t)
+    × ((file : List ℕ) × (image : Image) × IsMadeFor g t file image
+    × ((start : State) × IsLoadOf file [] start
     × ((rest : List ℕ) × (text ≡ header_line DEFAULT_STACK DEFAULT_UNITS (factor_by (action_of g) t) ++ rest)
-    × IsRunOf (run instruction_limit (started image [])) rest status))
+    × IsRunOf (run instruction_limit start) rest status)))
 
--- the machine stands before the first instruction of an image that is right for the graph's action by this table, with
--- the default capacity
+-- the machine stands before the first instruction of the image that such a file gives
 abbrev pub IsRightStart : Listed → MarkedTable → MachineValue → Type 0
-IsRightStart g t machine = (image : Image) × IsRight image (subject_of g t) × (machine ≡ loaded_machine image)
+IsRightStart g t machine =
+    (file : List ℕ) × (image : Image) × IsMadeFor g t file image × (machine ≡ loaded_machine image)
 
 -- so does the machine that is loaded, by the least table, and the factor is that of the action by this table
 abbrev pub IsLoaded : Listed → Loaded → Type 0

@@ -9,21 +9,25 @@ use Rattle.acg_base.specs.declared.store.Store.{Ghosts as Store}
 use Rattle.action_terms.specs.Numbering.{Listed}
 use Rattle.action_terms.specs.Meaning.{action_of}
 use Rattle.sort_rules.specs.Admissible.{IsWellSorted}
-use Rattle.acg_words.specs.Commands.{Command, Act, Perform, Help, Version, command_of}
+use Rattle.rv_code.specs.Images.{Image}
+use Rattle.acg_words.specs.Commands.{Command, Act, Run, Perform, Help, Version, command_of}
 use Rattle.acg_words.specs.Lines.{read_fault_line}
 use Rattle.acg_words.specs.Prints.{Answered}
 use Rattle.acg_words.specs.Usage.{usage, version_line}
 use Rattle.acg_words.specs.declared.line.Line.{Line}
 use Rattle.acg_words.specs.declared.line.Line.TheVariants.{Words}
 use Rattle.acg_driver.specs.Texts.{Reads}
+use Rattle.acg_driver.specs.ImageFiles.{GivesImage}
 use Rattle.acg_driver.specs.Says.{Says, SaysOne}
 use Rattle.acg_driver.specs.Files.{File, files_if, readings_of, ReadOnly, FaultsWhere, Lacks, missing_file}
 use Rattle.acg_driver.specs.Commands.Act.{RefusesAct, IsBuilt, RunsAct}
+use Rattle.acg_driver.specs.Commands.Run.{RefusesRun, SaysRun}
 use Rattle.acg_driver.specs.Commands.Perform.{RefusesPerform, SaysPerform}
 
 -- the line with which a command is refused, from what its files gave
 abbrev pub Refuses : Command → (givens : List (List ℕ)) → Line → Type 0
 Refuses (Act action) givens line = RefusesAct action givens line
+Refuses (Run budget image input) givens line = RefusesRun image input givens line
 Refuses (Perform n action input) givens line = RefusesPerform action input givens line
 Refuses Help givens line = ⊥
 Refuses Version givens line = ⊥
@@ -31,6 +35,7 @@ Refuses Version givens line = ⊥
 -- what a command says that isn't refused
 abbrev pub Carries : Command → (givens : List (List ℕ)) → (text : List ℕ) → Status → Type 0
 Carries (Act action) givens text status = RunsAct givens text status
+Carries (Run budget image input) givens text status = SaysRun budget input givens text status
 Carries (Perform n action input) givens text status = SaysPerform n input givens text status
 Carries Help givens text s = (givens ≡ []) × ((text ≡ usage) × (s ≡ status.Done))
 Carries Version givens text s = (givens ≡ []) × ((text ≡ version_line) × (s ≡ status.Done))
@@ -88,11 +93,20 @@ abbrev pub IsOfRun : Status → Type 0
 IsOfRun status.Full = Unit {0}
 IsOfRun status = IsOfPerformance status
 
--- nothing is refused, unless memory runs out: an action that reads, is well-sorted and whose nodes have code is run, and
--- an action that reads is performed with an input within its limit
+-- the statuses of the run of an image that was made elsewhere
+abbrev pub IsOfImage : Status → Type 0
+IsOfImage status.ExitAbove = Unit {0}
+IsOfImage status.Trapped = Unit {0}
+IsOfImage status = IsOfRun status
+
+-- nothing is refused, unless memory runs out: an action that reads, is well-sorted and whose nodes have code is run; an
+-- image that passes all checks is run with an input within its limit, and so an action that reads is performed
 abbrev pub PerformsAsked : Contents → Option Command → Status → Type 0
 PerformsAsked contents (Some (Act action)) result =
     (content : List ℕ) (g : Listed) → contents action ≡ Some content → IsBuilt content g → IsWellSorted (action_of g) → IsOfRun result
+PerformsAsked contents (Some (Run budget image input)) result =
+    (content : List ℕ) (x : Image) (bytes : List ℕ) → contents image ≡ Some content → GivesImage content x
+    → IsInput contents input bytes → length bytes ≤ LIMIT_INPUT → IsOfImage result
 PerformsAsked contents (Some (Perform n action input)) result =
     (content : List ℕ) (g : Listed) (bytes : List ℕ) → contents action ≡ Some content → Reads content g
     → IsInput contents input bytes → length bytes ≤ LIMIT_INPUT → IsOfPerformance result

@@ -3,3 +3,4 @@
 pub mod act;
 pub mod help;
 pub mod perform;
+pub mod run;

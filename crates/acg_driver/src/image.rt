@@ -1,20 +1,17 @@
 //! Images of compiled code.
 
 ghost use Rattle.std.specs.Prelude.{◌≡◌, ◌+◌, ◌*◌, ◌≤◌, length, IfOk};
-ghost use Rattle.acg_base.specs.declared.capacity.TheConstants.{DEFAULT_STACK, DEFAULT_UNITS};
 ghost use Rattle.rv_code.specs.Images.{IsImage};
 ghost use Rattle.rv_asm.specs.Conventions.{instruction_bytes, region_address, region_size};
 ghost use Rattle.rv_codegen.specs.RightImage.{compiled_image};
+ghost use Rattle.acg_driver.specs.Compiling.{IsCapacity};
 
-use acg_base::{DEFAULT_STACK, DEFAULT_UNITS, Memory};
-use rv_machine::{Image, Segment};
+use acg_base::{Capacity, Memory};
+use elf_image::{Image, Segment};
 use std::alloc::Global;
 
 // Where the code stands, and the run begins.
 const CODE_ADDRESS: u64 = 65536;
-
-// The bytes of the region for the default capacity.
-const REGION_SIZE: u64 = 4096 + 8 * DEFAULT_STACK + 16 * DEFAULT_UNITS;
 
 // The words of code as bytes, 4 for each, the lowest first.
 #[tactic(auto, unfolding(rv_asm::specs::Conventions::instruction_bytes))]
@@ -28,11 +25,14 @@ fn bytes_of_words(alloc: Global, words: &[u32]) -> Result<Vec<u8>, Memory>
     Ok(bytes)
 }
 
-/// The image of compiled code for the default capacity: the code, which can be fetched, and behind it the region of
-/// the run, which can be read and written.
-pub fn compiled_image(alloc: Global, words: &[u32]) -> Result<Image, Memory>
-    requires { IsImage (compiled_image (instruction_bytes words.now) DEFAULT_STACK DEFAULT_UNITS) }
-    ensures { IfOk result (λ image. image ≡ compiled_image (instruction_bytes words.now) DEFAULT_STACK DEFAULT_UNITS) }
+/// The image of compiled code for a capacity: the code, which can be fetched, and behind it the
+/// region of the run, which can be read and written.
+pub fn compiled_image(alloc: Global, words: &[u32], capacity: Capacity) -> Result<Image, Memory>
+    requires capacity { IsCapacity capacity }
+    requires image { IsImage
+        (compiled_image (instruction_bytes words.now) capacity.stack capacity.units) }
+    ensures { IfOk result (λ image. image ≡
+        compiled_image (instruction_bytes words.now) capacity.stack capacity.units) }
 {
     let bytes = bytes_of_words(alloc, words)?;
     let size = bytes.len() as u64;
@@ -46,7 +46,7 @@ pub fn compiled_image(alloc: Global, words: &[u32]) -> Result<Image, Memory>
         address: (CODE_ADDRESS + size + 4095) / 4096 * 4096,
         flags: 6,
         bytes: Vec::new(alloc),
-        size: REGION_SIZE,
+        size: 4096 + 8 * capacity.stack + 16 * capacity.units,
     };
     let mut segments = Vec::with_capacity(alloc, 2)?;
     segments.push(code)?;

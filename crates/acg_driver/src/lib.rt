@@ -2,8 +2,11 @@
 #![tactic(auto)]
 
 mod commands;
+mod compiling;
 mod files;
 mod image;
+mod image_bytes;
+mod inputs;
 mod machine_run;
 mod messages;
 mod performance;
@@ -11,5 +14,5 @@ mod running;
 mod serving;
 mod text;
 
-pub use image::compiled_image;
+pub use compiling::{Built, CompileError, compile_action};
 pub use serving::serve;

@@ -1,26 +1,20 @@
-//! Compiling an action, and running its image.
+//! Running the image of an action.
 
-ghost use Rattle.std.specs.Prelude.{◌≡◌, [], IfOk, IfErr};
+ghost use Rattle.std.specs.Prelude.{◌≡◌, IfOk};
 ghost use Rattle.action_terms.specs.Numbering.{Listed};
-ghost use Rattle.action_terms.specs.Meaning.{action_of};
-ghost use Rattle.rv_codegen.specs.Built.{unbuilt};
-ghost use Rattle.sort_rules.specs.Admissible.{IsLeast};
-ghost use Rattle.sort_rules.specs.Rows.{IsTableOf, unmarked};
+ghost use Rattle.rv_code.specs.Images.{Image as ImageValue};
+ghost use Rattle.elf_image.specs.Reading.{IsFileOf};
+ghost use Rattle.sort_rules.specs.Tables.{MarkedTable};
+ghost use Rattle.acg_driver.specs.Compiling.{IsCompiled, default_capacity};
 ghost use Rattle.acg_driver.specs.Says.{Said};
 ghost use Rattle.acg_driver.specs.Runs.{IsRun, IsLoaded};
 
-use crate::image::compiled_image;
+use crate::compiling::Built;
 use crate::machine_run::run_machine;
-use acg_base::{
-    Capacity, DEFAULT_BUDGET, DEFAULT_STACK, DEFAULT_UNITS, Memory, Sink, SinkError, Status,
-};
+use acg_base::{DEFAULT_BUDGET, DEFAULT_STACK, DEFAULT_UNITS, Memory, Sink, SinkError, Status};
 use acg_words::print_header;
-use action_terms::Graph;
-use bumpalo::Bump;
-use frame_layout::layout;
-use rv_codegen::generate;
+use elf_image::{Image, ImageError, read_image};
 use rv_machine::Machine;
-use sort_rules::{Table, factor};
 use std::alloc::Global;
 
 /// An action that is compiled and loaded.
@@ -30,25 +24,31 @@ pub struct Loaded {
     factor: u64,
 }
 
-/// Compiles the graph's action for the default capacity, and loads its image. The table is the least of the action's
-/// sorts: the factor is taken from it. Takes all memory of the run.
-pub fn load(alloc: Global, graph: &Graph<'_>, table: &Table<'_>) -> Result<Loaded, Memory>
-    requires built { unbuilt (action_of graph.now) ≡ [] }
-    requires least { IsLeast (action_of graph.now) (unmarked table.now) }
-    requires proper { IsTableOf (action_of graph.now) table.now }
-    ensures { IfOk result (λ loaded. IsLoaded graph.now loaded) }
+// Reads bytes that are known to be a file of an image.
+fn read_made(alloc: Global, bytes: &[u8]) -> Result<Image, Memory>
+    requires { (x : ImageValue) × IsFileOf bytes.now x }
+    ensures { (x : ImageValue) → IsFileOf bytes.now x → IfOk result (λ image. image ≡ x) }
 {
-    let arena = Bump::new(alloc);
-    let frames = layout(alloc, &arena, graph, table)?;
-    let capacity = Capacity {
-        stack: DEFAULT_STACK,
-        units: DEFAULT_UNITS,
-    };
-    let code = generate(alloc, graph, table, &frames, capacity)?;
-    let image = compiled_image(alloc, &code.words)?;
+    match read_image(alloc, bytes) {
+        Ok(image) => Ok(image),
+        Err(ImageError::Memory) => Err(Memory),
+        Err(_refused) => unreachable!(),
+    }
+}
+
+/// Reads the image of an action that is compiled for the default capacity from its bytes, and loads
+/// it. Takes all memory of the run.
+pub fn load(alloc: Global, built: Built) -> Result<Loaded, Memory>
+    requires { (g : Listed) × (t : MarkedTable) × IsCompiled g t default_capacity built }
+    ensures { (g : Listed) (t : MarkedTable) → IsCompiled g t default_capacity built →
+        IfOk result (λ loaded. IsLoaded g loaded) }
+{
+    let image = read_made(alloc, &built.image)?;
     let machine = Machine::load(alloc, image)?;
-    let factor = factor(alloc, graph, table)?;
-    Ok(Loaded { machine, factor })
+    Ok(Loaded {
+        machine,
+        factor: built.factor,
+    })
 }
 
 /// Prints the header with the factor of the graph's action, and runs on no input within the default budget. Takes no

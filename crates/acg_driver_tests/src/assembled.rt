@@ -5,11 +5,11 @@ ghost use Rattle.rv_asm.specs.Assembly.{total, is_placed};
 ghost use Rattle.rv_asm.specs.Pieces.{fits_immediate};
 
 use acg_base::{ListSink, Memory};
-use acg_driver::compiled_image;
+use elf_image::{Image, read_image};
 use rv_asm::pieces::{exit_with, send_word};
 use rv_asm::{Asm, Code};
 use rv_code::{BranchOp, Inst, OpImmOp, Reg, UpperOp};
-use rv_machine::{Image, Input, Machine, Run};
+use rv_machine::{Input, Machine, Run};
 use std::alloc::Global;
 use std::test::Fail;
 
@@ -74,10 +74,42 @@ fn rounds(alloc: Global) -> Result<Code, Memory>
     asm.finish()
 }
 
-// The image of these words.
-fn image_of_rounds(alloc: Global) -> Result<Image, Memory> {
-    let code = rounds(alloc)?;
-    compiled_image(alloc, &code.words)
+// The headers of a file of an image: 4516 bytes of code at 65536, flag X, and at 73728 a region
+// without bytes, flags R and W, of 4096 bytes.
+#[rattlefmt::skip]
+const HEADERS: [u8; 176] = [
+    0x7f, 0x45, 0x4c, 0x46, 2, 1, 1, 0, 0, 0, 0, 0, 0, 0, 0, 0,
+    2, 0, 243, 0, 1, 0, 0, 0,
+    0, 0, 1, 0, 0, 0, 0, 0,
+    64, 0, 0, 0, 0, 0, 0, 0,
+    0, 0, 0, 0, 0, 0, 0, 0,
+    0, 0, 0, 0,
+    64, 0, 56, 0, 2, 0, 0, 0, 0, 0, 0, 0,
+    1, 0, 0, 0, 1, 0, 0, 0,
+    0, 0x10, 0, 0, 0, 0, 0, 0,
+    0, 0, 1, 0, 0, 0, 0, 0,
+    0, 0, 1, 0, 0, 0, 0, 0,
+    0xa4, 0x11, 0, 0, 0, 0, 0, 0,
+    0xa4, 0x11, 0, 0, 0, 0, 0, 0,
+    0, 0x10, 0, 0, 0, 0, 0, 0,
+    1, 0, 0, 0, 6, 0, 0, 0,
+    0, 0, 0, 0, 0, 0, 0, 0,
+    0, 0x20, 1, 0, 0, 0, 0, 0,
+    0, 0x20, 1, 0, 0, 0, 0, 0,
+    0, 0, 0, 0, 0, 0, 0, 0,
+    0, 0x10, 0, 0, 0, 0, 0, 0,
+    0, 0x10, 0, 0, 0, 0, 0, 0,
+];
+
+// The image of these words, read from its file.
+fn image_of_rounds(alloc: Global) -> Result<Image, Fail> {
+    let code = rounds(alloc).ok().ok_or("memory")?;
+    let mut file = Vec::from_slice(alloc, &HEADERS)?;
+    file.resize(4096, 0)?;
+    for word in &code.words {
+        file.extend_from_slice(&word.to_le_bytes())?;
+    }
+    Ok(read_image(alloc, &file).ok().ok_or("read")?)
 }
 
 // Two instructions come before the rounds. A round has its first branch (1, not taken), a sum, 1100 sums, and its
@@ -88,7 +120,7 @@ const TAKEN: u64 = 2 + 2 * (1 + 1 + 1100 + 3) + (1 + 1 + 1100 + 1) + 2 + 3 + 2 +
 #[test]
 fn far_jumps_and_branches_arrive(rt: HostRuntime) -> Result<(), Fail> {
     let alloc = rt.alloc();
-    let image = image_of_rounds(alloc).ok().ok_or("memory")?;
+    let image = image_of_rounds(alloc)?;
     let mut machine = Machine::load(alloc, image).ok().ok_or("memory")?;
     let mut input = Input { bytes: b"", at: 0 };
     let mut sink = ListSink::new(alloc, 16, Vec::new(alloc))

@@ -1,6 +1,6 @@
 //! Reads and writes that fail, one after the other.
 
-use crate::tools::{sink, store, words};
+use crate::tools::{CALLS, image_of, sink, store, words};
 use acg_base::Status;
 use acg_driver::serve;
 use std::alloc::Global;
@@ -78,6 +78,16 @@ fn writes(rt: HostRuntime) -> Result<(), Fail> {
             Status::ReadFault,
         )?
     );
+    let image = image_of(alloc, &CALLS)?;
+    assert!(rt;
+        each_write_fails(
+            alloc,
+            &["run", "a"],
+            &image,
+            &[b"\x93\x08\x00\x04".as_slice(), b"exited 4\n".as_slice()],
+            Status::ExitAbove,
+        )?
+    );
     Ok(())
 }
 
@@ -95,6 +105,16 @@ fn reads(rt: HostRuntime) -> Result<(), Fail> {
             serve(alloc, &perform, &mut files, &mut out),
             Status::ReadFault
         );
+        assert_eq!(rt; out.bytes(), fault);
+        let mut files = store(
+            alloc,
+            &image_of(alloc, &CALLS)?,
+            b"",
+            vec![in alloc; failing]?,
+        )?;
+        let mut out = sink(alloc, Vec::new(alloc))?;
+        let run = words(alloc, &["run", "a", "i"])?;
+        assert_eq!(rt; serve(alloc, &run, &mut files, &mut out), Status::ReadFault);
         assert_eq!(rt; out.bytes(), fault);
     }
     let mut files = store(alloc, b"send 42", b"", vec![in alloc; 0]?)?;

@@ -6,7 +6,11 @@ mod act;
 #[cfg(test)]
 mod assembled;
 #[cfg(test)]
+mod compiled;
+#[cfg(test)]
 mod faults;
+#[cfg(test)]
+mod images;
 #[cfg(test)]
 mod others;
 #[cfg(test)]

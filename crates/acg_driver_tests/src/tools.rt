@@ -52,3 +52,40 @@ pub fn answers(
     let answer = serve(alloc, &words(alloc, list)?, &mut files, &mut out);
     Ok(answer == status && out.bytes() == printed)
 }
+
+/// Code that sends its first four bytes, and exits with their number.
+#[rattlefmt::skip]
+pub const CALLS: [u32; 7] = [
+    0x0400_0893, 0x0010_0513, 0x0001_05b7, 0x0040_0613, 0x0000_0073, 0x05d0_0893, 0x0000_0073,
+];
+
+// The headers of the file of an image up to the size of its segment in the file: the entry 65536, and
+// one segment there, flags R and X, whose bytes stand at 4096.
+#[rattlefmt::skip]
+const FRONT: [u8; 96] = [
+    0x7f, 0x45, 0x4c, 0x46, 2, 1, 1, 0, 0, 0, 0, 0, 0, 0, 0, 0,
+    2, 0, 243, 0, 1, 0, 0, 0,
+    0, 0, 1, 0, 0, 0, 0, 0,
+    64, 0, 0, 0, 0, 0, 0, 0,
+    0, 0, 0, 0, 0, 0, 0, 0,
+    0, 0, 0, 0,
+    64, 0, 56, 0, 1, 0, 0, 0, 0, 0, 0, 0,
+    1, 0, 0, 0, 5, 0, 0, 0,
+    0, 16, 0, 0, 0, 0, 0, 0,
+    0, 0, 1, 0, 0, 0, 0, 0,
+    0, 0, 1, 0, 0, 0, 0, 0,
+];
+
+/// The file of the image that has the words of code, with flags R and X, at 65536, and begins there.
+pub fn image_of(alloc: Global, code: &[u32]) -> Result<Vec<u8>, Fail> {
+    let size = (code.len() as u64).wrapping_mul(4).to_le_bytes();
+    let mut file = Vec::from_slice(alloc, &FRONT)?;
+    file.extend_from_slice(&size)?;
+    file.extend_from_slice(&size)?;
+    file.extend_from_slice(&[0, 16, 0, 0, 0, 0, 0, 0])?;
+    file.resize(4096, 0)?;
+    for word in code {
+        file.extend_from_slice(&word.to_le_bytes())?;
+    }
+    Ok(file)
+}

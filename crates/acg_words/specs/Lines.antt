@@ -1,11 +1,13 @@
 -- The printed lines, and the status that goes with each that ends an answer. Each ends with a line feed.
-use Rattle.std.specs.Prelude.{ℕ, ℤ, Bool, true, false, List, [], ◌∷◌, ◌++◌, codes}
+use Rattle.std.specs.Prelude.{ℕ, zero, suc, ℤ, Bool, true, false, List, [], ◌∷◌, ◌++◌, codes}
 use Rattle.acg_base.specs.Decimals.{decimal_of, unsigned_decimal_of}
-use Rattle.acg_base.specs.declared.limits.TheConstants.{LIMIT_ACTION, LIMIT_INPUT, LIMIT_NODES}
+use Rattle.acg_base.specs.declared.limits.TheConstants.{LIMIT_ACTION, LIMIT_INPUT, LIMIT_IMAGE, LIMIT_NODES}
 use Rattle.acg_base.specs.declared.status.Status.{Status}
 use Rattle.acg_base.specs.declared.status.Status.TheVariants as status
+use Rattle.rv_code.specs.declared.cause.Cause.{Cause}
+use Rattle.rv_code.specs.declared.cause.Cause.TheVariants as cause
 use Rattle.acg_words.specs.declared.line.Line.{Line}
-use Rattle.acg_words.specs.declared.line.Line.TheVariants.{Words, ReadFault, LimitAction, LimitInput, LimitNodes, ActionByte, ActionText, StrayUnfold, IllSorted, Unbuilt, Memory, Completed, Failed, Escaped, Full, Running}
+use Rattle.acg_words.specs.declared.line.Line.TheVariants.{Words, ReadFault, LimitAction, LimitInput, LimitImage, LimitNodes, ActionByte, ActionText, StrayUnfold, IllSorted, Unbuilt, ImageShort, ImageMagic, ImageClass, ImageMachine, ImageKind, ImageHeader, ImageSegment, Memory, Completed, Failed, Escaped, Full, Running, Exited, Trapped}
 
 -- a text, a number and a line feed
 abbrev pub numbered_line : List ℕ → ℕ → List ℕ
@@ -15,24 +17,57 @@ numbered_line text n = text ++ (unsigned_decimal_of n ++ codes "\n")
 abbrev pub read_fault_line : List ℕ → List ℕ
 read_fault_line name = codes "read fault " ++ (name ++ codes "\n")
 
+-- the name of the cause of a trap
+abbrev pub cause_name : Cause → List ℕ
+cause_name cause.Fetch = codes "fetch"
+cause_name cause.Undefined = codes "undefined"
+cause_name cause.Load = codes "load"
+cause_name cause.Store = codes "store"
+cause_name cause.Target = codes "target"
+cause_name cause.Ebreak = codes "ebreak"
+cause_name cause.Call = codes "call"
+cause_name cause.Buffer = codes "buffer"
+
+-- the machine trapped at an address
+abbrev pub trapped_line : Cause → (pc : ℕ) → List ℕ
+trapped_line c pc = codes "trapped " ++ (cause_name c ++ numbered_line (codes " ") pc)
+
 -- the bytes of a line that ends an answer
 abbrev pub bytes_of : Line → List ℕ
 bytes_of Words = codes "words\n"
 bytes_of (ReadFault name) = read_fault_line name
 bytes_of LimitAction = numbered_line (codes "limit action ") LIMIT_ACTION
 bytes_of LimitInput = numbered_line (codes "limit input ") LIMIT_INPUT
+bytes_of LimitImage = numbered_line (codes "limit image ") LIMIT_IMAGE
 bytes_of LimitNodes = numbered_line (codes "limit nodes ") LIMIT_NODES
 bytes_of (ActionByte offset) = numbered_line (codes "action byte ") offset
 bytes_of (ActionText offset) = numbered_line (codes "action text ") offset
 bytes_of (StrayUnfold node) = numbered_line (codes "stray unfold ") node
 bytes_of (IllSorted node) = numbered_line (codes "ill-sorted ") node
 bytes_of (Unbuilt node) = numbered_line (codes "unbuilt ") node
+bytes_of ImageShort = codes "image short\n"
+bytes_of ImageMagic = codes "image magic\n"
+bytes_of ImageClass = codes "image class\n"
+bytes_of ImageMachine = codes "image machine\n"
+bytes_of ImageKind = codes "image kind\n"
+bytes_of ImageHeader = codes "image header\n"
+bytes_of (ImageSegment index) = numbered_line (codes "image segment ") index
 bytes_of Memory = codes "memory\n"
 bytes_of Completed = codes "completed\n"
 bytes_of Failed = codes "failed\n"
 bytes_of Escaped = codes "escaped\n"
 bytes_of Full = codes "full\n"
 bytes_of Running = codes "running\n"
+bytes_of (Exited code) = numbered_line (codes "exited ") code
+bytes_of (Trapped c pc) = trapped_line c pc
+
+-- the status of an image that exits with a code
+abbrev pub exit_status : (code : ℕ) → Status
+exit_status zero = status.Done
+exit_status (suc zero) = status.Failed
+exit_status (suc (suc zero)) = status.Escaped
+exit_status (suc (suc (suc zero))) = status.Full
+exit_status (suc (suc (suc (suc code)))) = status.ExitAbove
 
 -- the status that goes with it
 abbrev pub status_of : Line → Status
@@ -40,18 +75,28 @@ status_of Words = status.Words
 status_of (ReadFault name) = status.ReadFault
 status_of LimitAction = status.Limit
 status_of LimitInput = status.Limit
+status_of LimitImage = status.Limit
 status_of LimitNodes = status.Limit
 status_of (ActionByte offset) = status.Action
 status_of (ActionText offset) = status.Action
 status_of (StrayUnfold node) = status.Action
 status_of (IllSorted node) = status.IllSorted
 status_of (Unbuilt node) = status.Action
+status_of ImageShort = status.Image
+status_of ImageMagic = status.Image
+status_of ImageClass = status.Image
+status_of ImageMachine = status.Image
+status_of ImageKind = status.Image
+status_of ImageHeader = status.Image
+status_of (ImageSegment index) = status.Image
 status_of Memory = status.Memory
 status_of Completed = status.Done
 status_of Failed = status.Failed
 status_of Escaped = status.Escaped
 status_of Full = status.Full
 status_of Running = status.Running
+status_of (Exited code) = exit_status code
+status_of (Trapped c pc) = status.Trapped
 
 -- whether it is printed by one write: the name of a read fault may have any length
 abbrev pub is_one_piece : Line → Bool

@@ -7,12 +7,13 @@ use Rattle.acg_base.specs.declared.status.Status.{Status}
 use Rattle.acg_base.specs.declared.status.Status.TheVariants.{Done, Failed, Escaped, Full, Running, ExitAbove, Words, ReadFault, WriteFault, Description, Source, Uncovered, Numeral, IllSorted, Limit, Memory, Image, Trapped, Action}
 use Rattle.acg_words.specs.Commands.{name_of, commands}
 use Rattle.acg_words.specs.declared.table.Kind.{Kind}
-use Rattle.acg_words.specs.declared.table.Kind.TheVariants.{Act, Perform, Help, Version}
+use Rattle.acg_words.specs.declared.table.Kind.TheVariants.{Act, Run, Perform, Help, Version}
 use Rattle.acg_words.specs.declared.table.Row.{Row}
 
 -- the operands of a command
 abbrev pub operands_of : Kind → List ℕ
 operands_of Act = codes " ACTION"
+operands_of Run = codes " [budget=N] IMAGE [INPUT]"
 operands_of Perform = codes " N ACTION [INPUT]"
 operands_of Help = []
 operands_of Version = []
@@ -20,6 +21,7 @@ operands_of Version = []
 -- what a command does
 abbrev pub about_of : Kind → List ℕ
 about_of Act = codes "compiles the action in the file ACTION, and runs its image"
+about_of Run = codes "runs the image in the file IMAGE for at most N instructions, 10000000 where none is said"
 about_of Perform = codes "performs the action; N, a number below 2^63, chooses each step"
 about_of Help = codes "prints this"
 about_of Version = codes "prints the version"
@@ -62,7 +64,9 @@ status_line status = concat (codes "status " ∷ unsigned_decimal_of (code_of st
 
 -- the statuses with which commands end
 abbrev pub statuses : List Status
-statuses = Done ∷ Failed ∷ Escaped ∷ Full ∷ Running ∷ Words ∷ ReadFault ∷ WriteFault ∷ IllSorted ∷ Limit ∷ Memory ∷ Action ∷ []
+statuses =
+    Done ∷ Failed ∷ Escaped ∷ Full ∷ Running ∷ ExitAbove ∷ Words ∷ ReadFault ∷ WriteFault ∷ IllSorted ∷ Limit ∷ Memory ∷ Image ∷ Trapped
+    ∷ Action ∷ []
 
 -- each command that there is, and then each status with which they end
 unfoldable pub usage : List ℕ

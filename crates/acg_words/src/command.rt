@@ -5,6 +5,8 @@
 pub enum Command<'a> {
     /// To run the image of an action.
     Act(Act<'a>),
+    /// To run an image.
+    Run(Run<'a>),
     /// To perform an action.
     Perform(Perform<'a>),
     /// To print how the program is used.
@@ -18,6 +20,17 @@ pub enum Command<'a> {
 pub struct Act<'a> {
     /// The file with the action.
     pub action: &'a str,
+}
+
+/// The option and the operands of `run`.
+#[derive(Clone, Copy, Debug, PartialEq, Eq)]
+pub struct Run<'a> {
+    /// The most instructions that are run, from 1 to 1000000000.
+    pub budget: u64,
+    /// The file with the image.
+    pub image: &'a str,
+    /// The file with the input; where there is none, the input is empty.
+    pub input: Option<&'a str>,
 }
 
 /// The operands of `perform`.

@@ -9,7 +9,7 @@ mod prints;
 mod table;
 mod usage;
 
-pub use command::{Act, Command, Perform};
+pub use command::{Act, Command, Perform, Run};
 pub use line::Line;
 pub use parser::parse_command;
 pub use prints::{print_header, print_message};

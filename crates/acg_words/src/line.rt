@@ -1,11 +1,14 @@
 //! The lines that end an answer.
 
 ghost use Rattle.std.specs.Prelude.{◌≡◌};
-ghost use Rattle.acg_words.specs.Lines.{bytes_of, status_of};
+ghost use Rattle.acg_words.specs.Lines.{bytes_of, status_of, exit_status};
 ghost use Rattle.acg_words.specs.Prints.{Printed, Answered};
 
-use crate::prints::{print, print_numbered, print_read_fault};
-use acg_base::{LIMIT_ACTION, LIMIT_INPUT, LIMIT_NODES, Memory, Name, Sink, SinkError, Status};
+use crate::prints::{print, print_numbered, print_read_fault, print_trapped};
+use acg_base::{
+    LIMIT_ACTION, LIMIT_IMAGE, LIMIT_INPUT, LIMIT_NODES, Memory, Name, Sink, SinkError, Status,
+};
+use rv_code::Cause;
 
 /// The line that ends an answer: why a request was refused, or how a run or a performance ended.
 /// Each goes with one status. Offsets are in bytes, nodes are numbers of action nodes, both from 0.
@@ -22,6 +25,8 @@ pub enum Line {
     LimitAction,
     /// The file of the input has more bytes than `LIMIT_INPUT`.
     LimitInput,
+    /// The file of the image has more bytes than `LIMIT_IMAGE`.
+    LimitImage,
     /// The action has more nodes and yielders than `LIMIT_NODES`.
     LimitNodes,
     /// After tokens and blanks, no token begins there.
@@ -50,6 +55,23 @@ pub enum Line {
         /// The least such node.
         node: u32,
     },
+    /// The file of the image has fewer than 64 bytes.
+    ImageShort,
+    /// Its first four bytes aren't those of an ELF file.
+    ImageMagic,
+    /// It isn't of 64-bit numbers with the lowest byte first, in version 1.
+    ImageClass,
+    /// It isn't for RISC-V.
+    ImageMachine,
+    /// It isn't a program that stands at its addresses.
+    ImageKind,
+    /// Its program headers have another size, are more than 16, or pass the end of the file.
+    ImageHeader,
+    /// The range of a segment passes the end of the file, or it makes no image with those before it.
+    ImageSegment {
+        /// The number of its program header among all, from 0.
+        index: u32,
+    },
     /// Memory ran out.
     Memory,
     /// The run or the performance has completed.
@@ -62,6 +84,31 @@ pub enum Line {
     Full,
     /// It has taken as many instructions or steps as it may without an end.
     Running,
+    /// The image has exited.
+    Exited {
+        /// The code with which it has.
+        code: u8,
+    },
+    /// The machine has trapped on the image.
+    Trapped {
+        /// Why it has.
+        cause: Cause,
+        /// The address of the instruction.
+        pc: u64,
+    },
+}
+
+// The status of an image that exits with a code.
+fn exit_status(code: u8) -> Status
+    ensures { result ≡ exit_status code }
+{
+    match code {
+        0 => Status::Done,
+        1 => Status::Failed,
+        2 => Status::Escaped,
+        3 => Status::Full,
+        _ => Status::ExitAbove,
+    }
 }
 
 impl From<Memory> for Line {
@@ -88,18 +135,28 @@ impl Line {
         match self {
             Line::Words => Status::Words,
             Line::ReadFault { .. } => Status::ReadFault,
-            Line::LimitAction | Line::LimitInput | Line::LimitNodes => Status::Limit,
+            Line::LimitAction | Line::LimitInput | Line::LimitImage | Line::LimitNodes =>
+                Status::Limit,
             Line::ActionByte { .. }
             | Line::ActionText { .. }
             | Line::StrayUnfold { .. }
             | Line::Unbuilt { .. } => Status::Action,
             Line::IllSorted { .. } => Status::IllSorted,
+            Line::ImageShort
+            | Line::ImageMagic
+            | Line::ImageClass
+            | Line::ImageMachine
+            | Line::ImageKind
+            | Line::ImageHeader
+            | Line::ImageSegment { .. } => Status::Image,
             Line::Memory => Status::Memory,
             Line::Completed => Status::Done,
             Line::Failed => Status::Failed,
             Line::Escaped => Status::Escaped,
             Line::Full => Status::Full,
             Line::Running => Status::Running,
+            Line::Exited { code } => exit_status(*code),
+            Line::Trapped { .. } => Status::Trapped,
         }
     }
 
@@ -118,18 +175,28 @@ impl Line {
             Line::ReadFault { name } => print_read_fault(out, name.bytes()),
             Line::LimitAction => print_numbered(out, b"limit action ", LIMIT_ACTION),
             Line::LimitInput => print_numbered(out, b"limit input ", LIMIT_INPUT),
+            Line::LimitImage => print_numbered(out, b"limit image ", LIMIT_IMAGE),
             Line::LimitNodes => print_numbered(out, b"limit nodes ", LIMIT_NODES),
             Line::ActionByte { offset } => print_numbered(out, b"action byte ", *offset),
             Line::ActionText { offset } => print_numbered(out, b"action text ", *offset),
             Line::StrayUnfold { node } => print_numbered(out, b"stray unfold ", *node),
             Line::IllSorted { node } => print_numbered(out, b"ill-sorted ", *node),
             Line::Unbuilt { node } => print_numbered(out, b"unbuilt ", *node),
+            Line::ImageShort => print(out, b"image short\n"),
+            Line::ImageMagic => print(out, b"image magic\n"),
+            Line::ImageClass => print(out, b"image class\n"),
+            Line::ImageMachine => print(out, b"image machine\n"),
+            Line::ImageKind => print(out, b"image kind\n"),
+            Line::ImageHeader => print(out, b"image header\n"),
+            Line::ImageSegment { index } => print_numbered(out, b"image segment ", *index),
             Line::Memory => print(out, b"memory\n"),
             Line::Completed => print(out, b"completed\n"),
             Line::Failed => print(out, b"failed\n"),
             Line::Escaped => print(out, b"escaped\n"),
             Line::Full => print(out, b"full\n"),
             Line::Running => print(out, b"running\n"),
+            Line::Exited { code } => print_numbered(out, b"exited ", u32::from(*code)),
+            Line::Trapped { cause, pc } => print_trapped(out, *cause, *pc),
         }
     }
 

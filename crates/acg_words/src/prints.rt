@@ -3,11 +3,12 @@
 ghost use Rattle.std.specs.Prelude.{◌≡◌, ◌≤◌, [], ◌∷◌, length, map, codes, OnOk, OnErr};
 ghost use Rattle.std.specs.List.{flat_map};
 ghost use Rattle.acg_base.specs.Outside.{counted};
-ghost use Rattle.acg_words.specs.Lines.{numbered_line, header_line, message_line, read_fault_line};
+ghost use Rattle.acg_words.specs.Lines.{numbered_line, header_line, message_line, read_fault_line, cause_name, trapped_line};
 ghost use Rattle.acg_words.specs.Prints.{Printed, PiecesBroke, writes_behind};
 
 use crate::buffer::Buffer;
 use acg_base::{Sink, SinkError};
+use rv_code::Cause;
 
 /// Prints the text, by one write.
 pub(crate) fn print<K: Sink>(out: &mut K, text: &[u8]) -> Result<(), SinkError>
@@ -61,6 +62,39 @@ pub(crate) fn print_read_fault<K: Sink>(out: &mut K, name: &[u8]) -> Result<(), 
         (codes "read fault " ∷ (name.now ∷ (codes "\n" ∷ []))) out.old out.new) }
 {
     print_all(out, &[b"read fault ".as_slice(), name, b"\n".as_slice()])
+}
+
+// The name of the cause of a trap.
+fn cause_name(cause: Cause) -> &'static str
+    ensures named { result.now ≡ cause_name cause }
+    ensures short { length result.now ≤ 9 }
+{
+    match cause {
+        Cause::Fetch => "fetch",
+        Cause::Undefined => "undefined",
+        Cause::Load => "load",
+        Cause::Store => "store",
+        Cause::Target => "target",
+        Cause::Ebreak => "ebreak",
+        Cause::Call => "call",
+        Cause::Buffer => "buffer",
+    }
+}
+
+/// Prints that the machine trapped at an address, by one write.
+pub(crate) fn print_trapped<K: Sink>(out: &mut K, cause: Cause, pc: u64) -> Result<(), SinkError>
+    ensures printed { Printed K.Sink (trapped_line cause pc) out.old out.new result }
+    ensures once { K.writes out.new ≡ counted (K.writes out.old) }
+    ensures broken { OnErr result
+        (PiecesBroke K.Sink (trapped_line cause pc ∷ []) out.old out.new) }
+{
+    let mut line = Buffer::new();
+    line.put(b"trapped ");
+    line.put(cause_name(cause).as_bytes());
+    line.put(b" ");
+    line.put_unsigned(pc);
+    line.put(b"\n");
+    print(out, line.as_slice())
 }
 
 /// Prints the header of a run: the words of the stack, the units, and the factor. It is one write.

@@ -12,6 +12,8 @@ use acg_base::Status;
 pub(crate) enum Kind {
     /// To run the image of an action.
     Act,
+    /// To run an image.
+    Run,
     /// To perform an action.
     Perform,
     /// To print how the program is used.
@@ -21,7 +23,13 @@ pub(crate) enum Kind {
 }
 
 /// The commands that there are.
-pub(crate) static KINDS: [Kind; 4] = [Kind::Act, Kind::Perform, Kind::Help, Kind::Version];
+pub(crate) static KINDS: [Kind; 5] = [
+    Kind::Act,
+    Kind::Run,
+    Kind::Perform,
+    Kind::Help,
+    Kind::Version,
+];
 
 /// How a command is written, and what it does.
 #[derive(Clone, Copy)]
@@ -43,6 +51,11 @@ pub(crate) fn row_of(kind: Kind) -> Row
             name: "act",
             operands: " ACTION",
             about: "compiles the action in the file ACTION, and runs its image",
+        },
+        Kind::Run => Row {
+            name: "run",
+            operands: " [budget=N] IMAGE [INPUT]",
+            about: "runs the image in the file IMAGE for at most N instructions, 10000000 where none is said",
         },
         Kind::Perform => Row {
             name: "perform",
@@ -84,18 +97,21 @@ pub(crate) fn kind_named(name: &str) -> Option<Kind>
 }
 
 /// The statuses with which the commands end.
-pub(crate) static STATUSES: [Status; 12] = [
+pub(crate) static STATUSES: [Status; 15] = [
     Status::Done,
     Status::Failed,
     Status::Escaped,
     Status::Full,
     Status::Running,
+    Status::ExitAbove,
     Status::Words,
     Status::ReadFault,
     Status::WriteFault,
     Status::IllSorted,
     Status::Limit,
     Status::Memory,
+    Status::Image,
+    Status::Trapped,
     Status::Action,
 ];
 

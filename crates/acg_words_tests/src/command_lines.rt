@@ -1,7 +1,8 @@
 //! Command lines, and what is printed for `help` and `version`.
 
 use acg_base::{ListSink, Name, Status, Words};
-use acg_words::{Act, Command, Line, Perform, parse_command, print_usage, print_version};
+use acg_words::{Act, Command, Line, Perform, Run, parse_command, print_usage, print_version};
+use rv_code::Cause;
 use std::alloc::Global;
 use std::test::Fail;
 
@@ -62,6 +63,63 @@ fn command_lines(rt: HostRuntime) -> Result<(), Fail> {
     Ok(())
 }
 
+// The command with which an image is run.
+fn run<'a>(budget: u64, image: &'a str, input: Option<&'a str>) -> Option<Command<'a>> {
+    Some(Command::Run(Run {
+        budget,
+        image,
+        input,
+    }))
+}
+
+// Behind the option every word is an operand, and only a first word is an option.
+#[rattlefmt::skip]
+const RUNS: [(&[&str], u64, &str, Option<&str>); 7] = [
+    (&["run", "o"], 10_000_000, "o", None),
+    (&["run", "o", "i"], 10_000_000, "o", Some("i")),
+    (&["run", "budget=1", "o"], 1, "o", None),
+    (&["run", "budget=1000000000", "o", "i"], 1_000_000_000, "o", Some("i")),
+    (&["run", "budget=0010", "o"], 10, "o", None),
+    (&["run", "o", "budget=1"], 10_000_000, "o", Some("budget=1")),
+    (&["run", "stack=1", "budget="], 10_000_000, "stack=1", Some("budget=")),
+];
+
+#[test]
+fn runs(rt: HostRuntime) -> Result<(), Fail> {
+    let alloc = rt.alloc();
+    for (list, budget, image, input) in RUNS {
+        assert_eq!(rt;
+            parse_command(&words(alloc, list)?),
+            run(budget, image, input)
+        );
+    }
+    Ok(())
+}
+
+#[rattlefmt::skip]
+const NO_RUNS: [&[&str]; 12] = [
+    &["run"],
+    &["run", ""],
+    &["run", "o", ""],
+    &["run", "o", "i", "i"],
+    &["run", "budget=1"],
+    &["run", "budget=0", "o"],
+    &["run", "budget=1000000001", "o"],
+    &["run", "budget=9223372036854775808", "o"],
+    &["run", "budget=-1", "o"],
+    &["run", "budget=", "o"],
+    &["run", "budget=1", "budget=1", "o"],
+    &["run", "budget=1x", "o"],
+];
+
+#[test]
+fn no_runs(rt: HostRuntime) -> Result<(), Fail> {
+    for list in NO_RUNS {
+        assert!(rt; is_refused(rt.alloc(), list)?);
+    }
+    Ok(())
+}
+
 // A sink with room for the usage.
 fn sink(alloc: Global) -> Result<ListSink, Fail> {
     Ok(
@@ -73,6 +131,8 @@ fn sink(alloc: Global) -> Result<ListSink, Fail> {
 
 const USAGE: &[u8] = b"acg act ACTION
     compiles the action in the file ACTION, and runs its image
+acg run [budget=N] IMAGE [INPUT]
+    runs the image in the file IMAGE for at most N instructions, 10000000 where none is said
 acg perform N ACTION [INPUT]
     performs the action; N, a number below 2^63, chooses each step
 acg help
@@ -84,12 +144,15 @@ status 1: the action has failed
 status 2: the action has escaped
 status 3: the run needs more memory than it has
 status 4: the instructions or steps of a run were taken without an end
+status 5: the image has exited with a code above 3
 status 10: the words are no command line
 status 11: a file can't be read
 status 12: the output can't be written
 status 17: the action isn't well-sorted
 status 18: a file or an action is too large
 status 19: memory ran out
+status 20: the image is refused
+status 21: the machine has trapped on the image
 status 22: the file holds no action, or one that can't be compiled
 ";
 
@@ -122,5 +185,63 @@ fn lines(rt: HostRuntime) -> Result<(), Fail> {
         out.bytes(),
         b"read fault a b\naction byte 1048575\nlimit nodes 65536\n".as_slice()
     );
+    Ok(())
+}
+
+// Lines of images, each with its text and its status.
+#[rattlefmt::skip]
+const IMAGES: [(Line, &[u8], Status); 16] = [
+    (Line::LimitImage, b"limit image 536870912\n", Status::Limit),
+    (Line::ImageShort, b"image short\n", Status::Image),
+    (Line::ImageMagic, b"image magic\n", Status::Image),
+    (Line::ImageClass, b"image class\n", Status::Image),
+    (Line::ImageMachine, b"image machine\n", Status::Image),
+    (Line::ImageKind, b"image kind\n", Status::Image),
+    (Line::ImageHeader, b"image header\n", Status::Image),
+    (Line::ImageSegment { index: 15 }, b"image segment 15\n", Status::Image),
+    (Line::Exited { code: 0 }, b"exited 0\n", Status::Done),
+    (Line::Exited { code: 1 }, b"exited 1\n", Status::Failed),
+    (Line::Exited { code: 2 }, b"exited 2\n", Status::Escaped),
+    (Line::Exited { code: 3 }, b"exited 3\n", Status::Full),
+    (Line::Exited { code: 4 }, b"exited 4\n", Status::ExitAbove),
+    (Line::Exited { code: 255 }, b"exited 255\n", Status::ExitAbove),
+    (Line::Trapped { cause: Cause::Ebreak, pc: 65536 }, b"trapped ebreak 65536\n", Status::Trapped),
+    (Line::Trapped { cause: Cause::Fetch, pc: 18_446_744_073_709_551_615 },
+        b"trapped fetch 18446744073709551615\n", Status::Trapped),
+];
+
+#[test]
+fn lines_of_images(rt: HostRuntime) -> Result<(), Fail> {
+    for (line, text, status) in IMAGES {
+        let mut out = sink(rt.alloc())?;
+        assert_eq!(rt; line.answer(&mut out), status);
+        assert_eq!(rt; out.bytes(), text);
+    }
+    Ok(())
+}
+
+// The causes of traps, as they are printed.
+#[rattlefmt::skip]
+const CAUSES: [(Cause, &[u8]); 8] = [
+    (Cause::Fetch, b"trapped fetch 4\n"),
+    (Cause::Undefined, b"trapped undefined 4\n"),
+    (Cause::Load, b"trapped load 4\n"),
+    (Cause::Store, b"trapped store 4\n"),
+    (Cause::Target, b"trapped target 4\n"),
+    (Cause::Ebreak, b"trapped ebreak 4\n"),
+    (Cause::Call, b"trapped call 4\n"),
+    (Cause::Buffer, b"trapped buffer 4\n"),
+];
+
+#[test]
+fn causes(rt: HostRuntime) -> Result<(), Fail> {
+    for (cause, text) in CAUSES {
+        let mut out = sink(rt.alloc())?;
+        assert_eq!(rt;
+            Line::Trapped { cause, pc: 4 }.answer(&mut out),
+            Status::Trapped
+        );
+        assert_eq!(rt; out.bytes(), text);
+    }
     Ok(())
 }

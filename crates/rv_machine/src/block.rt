@@ -10,7 +10,7 @@ ghost use Rattle.rv_machine.specs.Machines.{left};
 ghost use Rattle.rv_machine.specs.Memory.{AreRead, IsSize, IsFixed};
 ghost use Rattle.rv_machine.specs.Fronts.{padded, IsFront};
 
-use crate::image::Segment;
+use elf_image::Segment;
 use crate::input::Input;
 use acg_base::Memory;
 use rv_code::{Inst, decode};

@@ -4,14 +4,13 @@
 mod answers;
 mod arithmetic;
 mod block;
-mod image;
 mod input;
 mod machine;
 mod registers;
 mod table;
 
 pub use answers::{Quiet, QuietEnd, Run, Step};
-pub use image::{Image, Segment};
+pub use elf_image::{Image, Segment};
 pub use input::Input;
 pub use machine::Machine;
 pub use rv_code::Cause;

@@ -2,7 +2,7 @@
 
 use crate::answers::{Quiet, QuietEnd, Run, Step, Turn};
 use crate::block::Block;
-use crate::image::Image;
+use elf_image::Image;
 use crate::input::Input;
 use crate::{arithmetic, block, registers, table};
 use acg_base::{Memory, Sink, SinkError};

@@ -1,31 +1,29 @@
 -- The command `act ACTION`.
-use Rattle.std.specs.Prelude.{◌≡◌, ◌⊎◌, ℕ, List, [], ◌∷◌, Some, slice_get}
+use Rattle.std.specs.Prelude.{◌≡◌, ◌⊎◌, ℕ, List, [], ◌∷◌}
 use Rattle.acg_base.specs.declared.status.Status.{Status}
 use Rattle.action_terms.specs.Numbering.{Listed}
 use Rattle.action_terms.specs.Actions.{Action}
 use Rattle.action_terms.specs.Meaning.{action_of}
 use Rattle.rv_codegen.specs.Built.{unbuilt}
 use Rattle.acg_words.specs.declared.line.Line.{Line}
-use Rattle.sort_rules.specs.Admissible.{IsIllSorted, IsWellSorted}
 use Rattle.acg_words.specs.declared.line.Line.TheVariants.{IllSorted, Memory, Unbuilt}
 use Rattle.acg_driver.specs.Texts.{Reads, RefusesText, IsUnread}
+use Rattle.acg_driver.specs.Compiling.{IsUncompiledFor}
+use Rattle.acg_driver.specs.declared.compiling.CompileError.TheVariants as error
 use Rattle.acg_driver.specs.Runs.{IsRun, IsLoaded}
 use Rattle.acg_driver.specs.declared.running.Loaded.{Loaded}
 
--- the line with which an action is refused where a table of its sorts is wanted: it has no admissible one, and the node is
--- the least with a clash in the least marked table; or memory ran out
-abbrev pub IsSortLine : Action → Line → Type 0
-IsSortLine a (IllSorted node) = IsIllSorted a node
-IsSortLine a Memory = Unit {0}
-IsSortLine a _ = ⊥
+-- the line with which an action isn't compiled, from why it isn't
+abbrev pub IsCompileLine : Action → Line → Type 0
+IsCompileLine a (IllSorted node) = IsUncompiledFor a (error.IllSorted node)
+IsCompileLine a (Unbuilt node) = IsUncompiledFor a (error.Unbuilt node)
+IsCompileLine a Memory = IsUncompiledFor a error.Memory
+IsCompileLine a _ = ⊥
 
--- the line with which an action that reads isn't compiled: no table of sorts is admissible for it, and the node is the
--- least with a clash in the least marked table; or it is well-sorted, and the node is the least of those that have no code
--- yet
+-- the line with which bytes that are an action's text aren't compiled; want of memory isn't among them
 abbrev pub IsUncompiled : (bytes : List ℕ) → Line → Type 0
-IsUncompiled bytes (IllSorted node) = (g : Listed) × Reads bytes g × IsIllSorted (action_of g) node
-IsUncompiled bytes (Unbuilt node) =
-    (g : Listed) × Reads bytes g × IsWellSorted (action_of g) × (slice_get (unbuilt (action_of g)) 0 ≡ Some node)
+IsUncompiled bytes (IllSorted node) = (g : Listed) × Reads bytes g × IsUncompiledFor (action_of g) (error.IllSorted node)
+IsUncompiled bytes (Unbuilt node) = (g : Listed) × Reads bytes g × IsUncompiledFor (action_of g) (error.Unbuilt node)
 IsUncompiled bytes _ = ⊥
 
 -- the line with which it is refused, from what its file gave: the file isn't read, is no action, or one that isn't

@@ -1,6 +1,5 @@
 -- The command `perform N ACTION [INPUT]`.
 use Rattle.std.specs.Prelude.{◌≡◌, ◌⊎◌, ℕ, ◌<◌, ◌≤◌, ℤ, List, [], ◌∷◌, length, Option, Some, None}
-use Rattle.acg_base.specs.declared.limits.TheConstants.{LIMIT_INPUT}
 use Rattle.acg_base.specs.declared.status.Status.{Status}
 use Rattle.action_terms.specs.Acting.{End, Done, Esc, Fail, Tree, Ended}
 use Rattle.action_terms.specs.Steps.{Step}
@@ -11,8 +10,9 @@ use Rattle.action_sos.specs.Performers.{Performing}
 use Rattle.action_sos.specs.Schedules.{IsScheduled}
 use Rattle.acg_words.specs.Lines.{message_lines}
 use Rattle.acg_words.specs.declared.line.Line.{Line}
-use Rattle.acg_words.specs.declared.line.Line.TheVariants.{LimitInput, Memory, Completed, Failed, Escaped, Running}
+use Rattle.acg_words.specs.declared.line.Line.TheVariants.{Memory, Completed, Failed, Escaped, Running}
 use Rattle.acg_driver.specs.Texts.{Reads, RefusesText, IsUnread}
+use Rattle.acg_driver.specs.Inputs.{IsBytesOf, RefusesInput}
 use Rattle.acg_driver.specs.Says.{SaysBehind}
 
 -- the most steps of a performance
@@ -43,23 +43,9 @@ IsPerformed n g input text status =
     × IsScheduled n (action_of g) input steps s × IsOutcome (length steps) s.tree line
     × SaysBehind (message_lines s.world.output) line text status
 
--- the integers of an input, from what its file gave, which has at most so many bytes; without a file there are none
+-- the integers of an input, from what its file gave
 abbrev pub IsInputOf : (input : Option (List ℕ)) → (givens : List (List ℕ)) → (integers : List ℤ) → Type 0
-IsInputOf None [] integers = integers ≡ []
-IsInputOf (Some input) (bytes ∷ []) integers = (length bytes ≤ LIMIT_INPUT) × (integers ≡ records bytes)
-IsInputOf _ _ integers = ⊥
-
--- the line with which bytes are refused as an input: they are too many, or memory runs out
-abbrev pub RefusesBytes : (bytes : List ℕ) → Line → Type 0
-RefusesBytes bytes LimitInput = LIMIT_INPUT < length bytes
-RefusesBytes bytes Memory = Unit {0}
-RefusesBytes bytes _ = ⊥
-
--- the line with which an input is refused, from what its file gave: the file isn't read, or is too long
-abbrev pub RefusesInput : (input : Option (List ℕ)) → (givens : List (List ℕ)) → Line → Type 0
-RefusesInput (Some input) [] line = IsUnread input line
-RefusesInput (Some input) (bytes ∷ []) line = RefusesBytes bytes line
-RefusesInput _ _ line = ⊥
+IsInputOf input givens integers = (bytes : List ℕ) × IsBytesOf input givens bytes × (integers ≡ records bytes)
 
 -- the bytes are an action's text
 abbrev pub IsAction : (bytes : List ℕ) → Type 0

@@ -3,37 +3,40 @@
 ghost use Rattle.std.specs.Prelude.{◌⊎◌, List, ℕ, [], ◌∷◌, Some, IfOk, IfErr, IsTrue};
 ghost use Rattle.acg_base.specs.declared.status.Status.TheVariants.{Done};
 ghost use Rattle.action_terms.specs.Meaning.{action_of};
-ghost use Rattle.sort_rules.specs.Admissible.{IsLeast};
-ghost use Rattle.sort_rules.specs.Rows.{IsTableOf, unmarked};
+ghost use Rattle.sort_rules.specs.Tables.{MarkedTable};
 ghost use Rattle.acg_words.specs.Commands.{act_asked};
 ghost use Rattle.acg_words.specs.Lines.{status_of};
 ghost use Rattle.acg_driver.specs.Texts.{RefusesText};
 ghost use Rattle.acg_driver.specs.Files.{files_of, readings_of, ReadOnly, AsksSurely};
-ghost use Rattle.acg_driver.specs.Commands.Act.{IsSortLine, IsUncompiled, LoadsAct};
+ghost use Rattle.acg_driver.specs.Compiling.{IsCompiled, default_capacity};
+ghost use Rattle.acg_driver.specs.Commands.Act.{IsCompileLine, IsUncompiled, LoadsAct};
 ghost use Rattle.acg_driver.specs.Serving.{Refuses, Handled};
 
+use crate::compiling::{Built, CompileError, compile_action};
 use crate::files::read_file;
 use crate::running::{Loaded, load, run};
 use crate::text::read_graph;
-use acg_base::{LIMIT_ACTION, Sink, Status, Store};
+use acg_base::{Capacity, DEFAULT_STACK, DEFAULT_UNITS, LIMIT_ACTION, Sink, Status, Store};
 use acg_words::{Act, Line};
 use action_terms::Graph;
 use bumpalo::Bump;
-use rv_codegen::first_unbuilt;
-use sort_infer::{SortError, infer};
-use sort_rules::Table;
 use std::alloc::Global;
 
-// The least table of the sorts of a graph's action, in the arena, or the line with which the action is refused.
-fn least_table<'a>(alloc: Global, arena: &'a Bump, graph: &Graph<'a>) -> Result<Table<'a>, Line>
-    ensures least { IfOk result (λ t. IsLeast (action_of graph.now) (unmarked t)) }
-    ensures proper { IfOk result (λ t. IsTableOf (action_of graph.now) t) }
-    ensures refused { IfErr result (IsSortLine (action_of graph.now)) }
+// Compiles a graph's action for the default capacity, or answers the line with which it is refused.
+fn compile(alloc: Global, graph: &Graph<'_>) -> Result<Built, Line>
+    ensures built { IfOk result (λ built. (t : MarkedTable)
+        × IsCompiled graph.now t default_capacity built) }
+    ensures refused { IfErr result (IsCompileLine (action_of graph.now)) }
 {
-    match infer(alloc, arena, graph) {
-        Ok(table) => Ok(table),
-        Err(SortError::Memory) => Err(Line::Memory),
-        Err(SortError::IllSorted { node }) => Err(Line::IllSorted { node }),
+    let capacity = Capacity {
+        stack: DEFAULT_STACK,
+        units: DEFAULT_UNITS,
+    };
+    match compile_action(alloc, graph, capacity) {
+        Ok(built) => Ok(built),
+        Err(CompileError::Memory) => Err(Line::Memory),
+        Err(CompileError::IllSorted { node }) => Err(Line::IllSorted { node }),
+        Err(CompileError::Unbuilt { node }) => Err(Line::Unbuilt { node }),
     }
 }
 
@@ -45,11 +48,8 @@ fn load_text(alloc: Global, bytes: &[u8]) -> Result<Loaded, Line>
 {
     let arena = Bump::new(alloc);
     let graph = read_graph(alloc, &arena, bytes)?;
-    let table = least_table(alloc, &arena, &graph)?;
-    if let Some(node) = first_unbuilt(alloc, &graph)? {
-        return Err(Line::Unbuilt { node });
-    }
-    Ok(load(alloc, &graph, &table)?)
+    let built = compile(alloc, &graph)?;
+    Ok(load(alloc, built)?)
 }
 
 // Reads, compiles and loads the action, or answers the line with which it is refused.

@@ -5,14 +5,16 @@ ghost use Rattle.acg_base.specs.declared.status.Status.TheVariants.{Done};
 ghost use Rattle.acg_words.specs.Commands.{perform_asked};
 ghost use Rattle.acg_words.specs.Lines.{status_of};
 ghost use Rattle.acg_driver.specs.Files.{files_of, input_files, readings_of, ReadOnly, AsksSurely};
-ghost use Rattle.acg_driver.specs.Commands.Perform.{IsInputOf, RefusesInput, StartsPerform};
+ghost use Rattle.acg_driver.specs.Inputs.{RefusesInput};
+ghost use Rattle.acg_driver.specs.Commands.Perform.{IsInputOf, StartsPerform};
 ghost use Rattle.acg_driver.specs.Serving.{Refuses, Handled};
 
 use crate::files::read_file;
+use crate::inputs::read_input_file;
 use crate::messages::integers;
 use crate::performance::take_steps;
 use crate::text::read_graph;
-use acg_base::{LIMIT_ACTION, LIMIT_INPUT, Sink, Status, Store};
+use acg_base::{LIMIT_ACTION, Sink, Status, Store};
 use acg_words::{Line, Perform};
 use action_sos::Performer;
 use action_terms::Graph;
@@ -34,10 +36,7 @@ fn read_input<S: Store>(alloc: Global, input: Option<&str>, store: &mut S) -> Re
     let Some(name) = input else {
         return Ok(Vec::new(alloc));
     };
-    let bytes = read_file(alloc, name, LIMIT_INPUT, store)?;
-    if bytes.len() > LIMIT_INPUT as usize {
-        return Err(Line::LimitInput);
-    }
+    let bytes = read_input_file(alloc, name, store)?;
     Ok(integers(alloc, &bytes)?)
 }
 

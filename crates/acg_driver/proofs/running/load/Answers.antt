@@ -1,21 +1,20 @@
-use Rattle.std.proofs.Common.{◌≡◌, ap, sym, ◌∙◌, subst}
-use Rattle.acg_base.specs.declared.capacity.TheConstants.{DEFAULT_STACK, DEFAULT_UNITS}
-use Rattle.rv_code.specs.Images.{IsImage}
+use Rattle.std.proofs.Common.{sym, subst, ap, ◌∙◌}
 use Rattle.rv_asm.specs.Conventions.{instruction_bytes}
-use Rattle.rv_machine.specs.Machines.{loaded_machine}
-use Rattle.sort_rules.specs.Rows.{unmarked}
 use Rattle.rv_codegen.specs.RightImage.{compiled_image}
+use Rattle.rv_machine.specs.Machines.{loaded_machine}
+use Rattle.elf_image.specs.Reading.{IsFileOf}
+use Rattle.acg_driver.specs.Compiling.{default_capacity}
 use Rattle.acg_driver.proofs.running.load.Goals as goal
 
-pub compiled_image-requires : goal.compiled_image-requires
-compiled_image-requires c =
-    let right = c.in_ok-code.ensures.right in
-    subst (λ words. IsImage (compiled_image (instruction_bytes words) DEFAULT_STACK DEFAULT_UNITS)) (sym c.deref.ensures.value) right.loads.valid
+pub read_made-requires : goal.read_made-requires
+read_made-requires c =
+    let compiled = c.requires.2 in
+    let image = compiled_image (instruction_bytes compiled.words) default_capacity.stack default_capacity.units in
+    (image, subst (λ bytes. IsFileOf bytes image) (sym c.deref.ensures.value) compiled.right.read)
 
 pub returns : goal.returns
-returns c =
-    let t = unmarked c.args.table.now in
-    let right = c.in_ok-code.ensures.right in
-    let image = compiled_image (instruction_bytes c.in_ok-code.code.words.items) DEFAULT_STACK DEFAULT_UNITS in
-    let same : c.in_ok-image.image ≡ image = c.in_ok-image.ensures ∙ ap (λ words. compiled_image (instruction_bytes words) DEFAULT_STACK DEFAULT_UNITS) c.deref.ensures.value in
-    (t, c.requires.least, ((image, right, c.in_ok-machine.ensures.loaded ∙ ap loaded_machine same), c.in_ok-factor.ensures))
+returns c = λ g t compiled.
+    let image = compiled_image (instruction_bytes compiled.words) default_capacity.stack default_capacity.units in
+    let read = subst (λ bytes. IsFileOf bytes image) (sym c.deref.ensures.value) compiled.right.read in
+    let same = c.in_ok-image.ensures image read in
+    (t, compiled.least, ((c.args.built.image.items, image, (compiled.exact, compiled.right), c.in_ok-machine.ensures.loaded ∙ ap loaded_machine same), compiled.factor))

@@ -22,6 +22,14 @@ returns-in-Act c =
     command-named c.args.words.now c.as_str.result.now operands kind.Act words
     (sym c.kind_named.ensures ∙ c.in_ok-kind_named.was ∙ ap Some c.in-Act.is) ∙ c.act.ensures
 
+pub returns-in-Run : goal.returns-in-Run
+returns-in-Run c =
+    let all = head-words c.list.result.now c.name-item.result c.in-len1-up.len_at_least c.name-item.is in
+    let operands = map string_bytes (take (length c.list.result.now - 1) (drop 1 c.list.result.now)) in
+    let words : c.args.words.now ≡ c.as_str.result.now ∷ operands = sym c.list.ensures ∙ all ∙ ap (λ name. name ∷ operands) (sym c.as_str.ensures.value) in
+    command-named c.args.words.now c.as_str.result.now operands kind.Run words
+    (sym c.kind_named.ensures ∙ c.in_ok-kind_named.was ∙ ap Some c.in-Run.is) ∙ c.run.ensures
+
 pub returns-in-Perform : goal.returns-in-Perform
 returns-in-Perform c =
     let all = head-words c.list.result.now c.name-item.result c.in-len1-up.len_at_least c.name-item.is in

@@ -28,3 +28,23 @@ pub returns-in-IllSorted-clause-printed : goal.returns-in-IllSorted-clause-print
 returns-in-IllSorted-clause-printed g c =
     let call = c.print_numbered-in-IllSorted in
     subst (λ line. Printed g.K.Sink (bytes_of line) c.args.out.now call.new.out call.result) (sym c.in-IllSorted.is) call.ensures.printed
+
+pub returns-in-LimitImage-clause-printed : goal.returns-in-LimitImage-clause-printed
+returns-in-LimitImage-clause-printed g c =
+    let call = c.print_numbered-in-LimitImage in
+    subst (λ line. Printed g.K.Sink (bytes_of line) c.args.out.now call.new.out call.result) (sym c.in-LimitImage.is) call.ensures.printed
+
+pub returns-in-ImageShort-clause-printed : goal.returns-in-ImageShort-clause-printed
+returns-in-ImageShort-clause-printed g c =
+    let call = c.print-in-ImageShort in
+    subst (λ line. Printed g.K.Sink (bytes_of line) c.args.out.now call.new.out call.result) (sym c.in-ImageShort.is) call.ensures.printed
+
+pub returns-in-ImageMagic-clause-printed : goal.returns-in-ImageMagic-clause-printed
+returns-in-ImageMagic-clause-printed g c =
+    let call = c.print-in-ImageMagic in
+    subst (λ line. Printed g.K.Sink (bytes_of line) c.args.out.now call.new.out call.result) (sym c.in-ImageMagic.is) call.ensures.printed
+
+pub returns-in-ImageKind-clause-printed : goal.returns-in-ImageKind-clause-printed
+returns-in-ImageKind-clause-printed g c =
+    let call = c.print-in-ImageKind in
+    subst (λ line. Printed g.K.Sink (bytes_of line) c.args.out.now call.new.out call.result) (sym c.in-ImageKind.is) call.ensures.printed
