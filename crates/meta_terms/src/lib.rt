@@ -2,6 +2,7 @@
 #![tactic(auto)]
 
 pub mod items;
+pub mod laws;
 pub mod template;
 
 pub use items::{Declaration, Equation, Item, Items, PatternPart};
