@@ -8,10 +8,11 @@ use Rattle.sort_rules.specs.Measures.{node_numbers, row_slots, rows_slots, slots
 use Rattle.sort_rules.specs.Procedures.{procedure_of}
 use Rattle.sort_rules.specs.Tables.{MarkedTable}
 use Rattle.sort_rules.proofs.Choices.{either, member_cases}
-use Rattle.frame_layout.specs.Layouts.{AreNeededTogether, Beneath, Before, Deeper, HasApartNodes, IsFrame, IsIn, IsPlacedNode, Itself, nodes_in}
+use Rattle.frame_layout.specs.Layouts.{AreNeededTogether, Beneath, Before, Deeper, HasApartNodes, HasOrder, IsFrame, IsIn, IsPlacedNode, Itself, front_words, nodes_in}
 use Rattle.frame_layout.specs.Placing.{end_words, entry_end, entry_words, out_end, out_words, placed_frame, rest_end, rest_words}
 use Rattle.frame_layout.proofs.GraphParts.{HasTrees}
 use Rattle.frame_layout.proofs.NodeLists.{member-filter, member-range, node_numbers-range}
+use Rattle.frame_layout.proofs.Ordered.{frame-ordered}
 use Rattle.frame_layout.proofs.Placed.{all-apart, in_frame-placed, in_frame-root, placed-listed}
 use Rattle.frame_layout.proofs.Placing.{out_end-from, rest_words-most}
 use Rattle.frame_layout.proofs.Words.{all-members}
@@ -92,10 +93,10 @@ module _ (a : Action) (trees : HasTrees a) (t : MarkedTable) (c : ℕ) (within :
       go true h = refl
       go false h = absurd {0} (cc)
 
-  words-within : (placed_frame t c (nodes_in a c)).words ≤ slots a t c
+  words-within : (placed_frame t front_words c (nodes_in a c)).words ≤ slots a t c
   words-within =
       let ks = nodes_in a c in
-      let start : ℕ = entry_end t c in
+      let start : ℕ = entry_end t front_words c in
       let start_more : start ≡ start + 0 = omega arith in
       let outs : ℕ = out_end t start ks in
       let outs_more : outs ≡ outs + 0 = omega arith in
@@ -110,19 +111,22 @@ module _ (a : Action) (trees : HasTrees a) (t : MarkedTable) (c : ℕ) (within :
         slots-are,
       )
 
-  pub frame-apart : HasApartNodes (placed_frame t c (nodes_in a c))
-  frame-apart m n x y other = all-apart t c (entry_end t c) (out_end t (entry_end t c) (nodes_in a c)) (nodes_in a c) m n (omega arith) (omega arith) x y other
+  pub frame-apart : HasApartNodes (placed_frame t front_words c (nodes_in a c))
+  frame-apart m n x y other = all-apart t c (entry_end t front_words c) (out_end t (entry_end t front_words c) (nodes_in a c)) (nodes_in a c) m n (omega arith) (omega arith) x y other
 
-  pub frame-is : (placed_frame t c (nodes_in a c)).words ≤ 33554432 → IsFrame a t (placed_frame t c (nodes_in a c))
+  pub frame-order : HasOrder (placed_frame t front_words c (nodes_in a c))
+  frame-order n m e = frame-ordered t c (nodes_in a c) n m e
+
+  pub frame-is : (placed_frame t front_words c (nodes_in a c)).words ≤ 33554432 → IsFrame a t (placed_frame t front_words c (nodes_in a c))
   frame-is reached =
       let ks = nodes_in a c in
-      let start : ℕ = entry_end t c in
+      let start : ℕ = entry_end t front_words c in
       let rest : ℕ = out_end t start ks in
       record {
         listed = placed-listed t c start rest ks;
         words = words-within;
         reached = reached;
-        placed = all-members (IsPlacedNode t (rest_end t c rest ks)) (placed_frame t c ks).nodes (λ n m. in_frame-placed t c start rest ks n (omega arith) (omega arith) m);
+        placed = all-members (IsPlacedNode t (rest_end t c rest ks)) (placed_frame t front_words c ks).nodes (λ n m. in_frame-placed t c start rest ks n (omega arith) (omega arith) m);
         needed = λ m n x y together. frame-apart m n x y (λ e. let less = needed-behind a trees m.node n.node together in omega arith);
         root = λ n m e. in_frame-root t c start rest ks n (omega arith) (omega arith) m e;
       }

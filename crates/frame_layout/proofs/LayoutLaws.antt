@@ -15,10 +15,10 @@ use Rattle.sort_rules.specs.Procedures.{procedure_of}
 use Rattle.sort_rules.specs.Tables.{MarkedTable}
 use Rattle.sort_rules.proofs.Choices.{eq_of_test}
 use Rattle.frame_layout.specs.Places.{Frame}
-use Rattle.frame_layout.specs.Layouts.{HasApartNodes, IsFrame, IsLayout, nodes_in}
+use Rattle.frame_layout.specs.Layouts.{HasApartNodes, HasOrder, IsFrame, IsLayout, front_words, nodes_in}
 use Rattle.frame_layout.specs.Placing.{placed_frame}
 use Rattle.frame_layout.specs.Roots.{AreMembers, AreRoots}
-use Rattle.frame_layout.proofs.FrameLaws.{frame-apart, frame-is}
+use Rattle.frame_layout.proofs.FrameLaws.{frame-apart, frame-is, frame-order}
 use Rattle.frame_layout.proofs.GraphParts.{HasTrees}
 use Rattle.frame_layout.proofs.Grouping.{range-more}
 use Rattle.frame_layout.proofs.NodeLists.{filter-member, filter-same, length-filter_most, node_numbers-range}
@@ -53,59 +53,63 @@ nodes_in-few a c = omega (arith, length-filter_most (λ k. nat_eq (procedure_of 
 abbrev is_root : Action → ℕ → Bool
 is_root a k = nat_eq (procedure_of a k) k
 
-abbrev frame_at : Action → MarkedTable → ℕ → Frame
-frame_at a t c = placed_frame t c (nodes_in a c)
+abbrev frame_at : Action → MarkedTable → (front c : ℕ) → Frame
+frame_at a t front c = placed_frame t front c (nodes_in a c)
 
-abbrev pub frames_below : Action → MarkedTable → ℕ → List Frame
-frames_below a t k = map (frame_at a t) (filter (is_root a) (range_with_len 0 k))
+abbrev pub frames_below : Action → MarkedTable → (front k : ℕ) → List Frame
+frames_below a t front k = map (frame_at a t front) (filter (is_root a) (range_with_len 0 k))
 
-pub record AreFramesBelow (a : Action) (t : MarkedTable) (k : ℕ) (fs : List Frame) : Type 0 where
-  pub frames : fs ≡ frames_below a t k
+pub record AreFramesBelow (a : Action) (t : MarkedTable) (front k : ℕ) (fs : List Frame) : Type 0 where
+  pub frames : fs ≡ frames_below a t front k
   pub reached : All (λ f. f.words ≤ 33554432) fs
 
-pub frames-none : (a : Action) (t : MarkedTable) → AreFramesBelow a t 0 []
-frames-none a t = record { frames = refl; reached = All-nil (λ f. f.words ≤ 33554432) }
+-- frames by another way
+pub frames-same : (a : Action) (t : MarkedTable) (front k : ℕ) (fs gs : List Frame) → gs ≡ fs → AreFramesBelow a t front k fs → AreFramesBelow a t front k gs
+frames-same a t front k fs gs e h = subst (AreFramesBelow a t front k) (sym e) h
 
-frames_below-more : (a : Action) (t : MarkedTable) (k : ℕ) → frames_below a t (k + 1) ≡ frames_below a t k ++ map (frame_at a t) (cond (is_root a k) (k ∷ []) [])
-frames_below-more a t k =
+pub frames-none : (a : Action) (t : MarkedTable) (front : ℕ) → AreFramesBelow a t front 0 []
+frames-none a t front = record { frames = refl; reached = All-nil (λ f. f.words ≤ 33554432) }
+
+frames_below-more : (a : Action) (t : MarkedTable) (front k : ℕ) → frames_below a t front (k + 1) ≡ frames_below a t front k ++ map (frame_at a t front) (cond (is_root a k) (k ∷ []) [])
+frames_below-more a t front k =
     let last : 0 + k ≡ k = omega arith in
-    ap (λ (ks : List ℕ). map (frame_at a t) (filter (is_root a) ks)) (range-more 0 k)
-    ∙ ap (map (frame_at a t)) (filter-append (is_root a) (range_with_len 0 k) ((0 + k) ∷ []))
-    ∙ map-append (frame_at a t) (filter (is_root a) (range_with_len 0 k)) (cond (is_root a (0 + k)) ((0 + k) ∷ []) [])
-    ∙ ap (λ (j : ℕ). frames_below a t k ++ map (frame_at a t) (cond (is_root a j) (j ∷ []) [])) last
+    ap (λ (ks : List ℕ). map (frame_at a t front) (filter (is_root a) ks)) (range-more 0 k)
+    ∙ ap (map (frame_at a t front)) (filter-append (is_root a) (range_with_len 0 k) ((0 + k) ∷ []))
+    ∙ map-append (frame_at a t front) (filter (is_root a) (range_with_len 0 k)) (cond (is_root a (0 + k)) ((0 + k) ∷ []) [])
+    ∙ ap (λ (j : ℕ). frames_below a t front k ++ map (frame_at a t front) (cond (is_root a j) (j ∷ []) [])) last
 
-pub frames-other : (a : Action) (t : MarkedTable) (k : ℕ) (fs : List Frame) → is_root a k ≡ false → AreFramesBelow a t k fs → AreFramesBelow a t (k + 1) fs
-frames-other a t k fs e h = record {
-  frames = h.frames ∙ sym (append-nil (frames_below a t k)) ∙ ap (λ (b : Bool). frames_below a t k ++ map (frame_at a t) (cond b (k ∷ []) [])) (sym e) ∙ sym (frames_below-more a t k);
+pub frames-other : (a : Action) (t : MarkedTable) (front k : ℕ) (fs : List Frame) → is_root a k ≡ false → AreFramesBelow a t front k fs → AreFramesBelow a t front (k + 1) fs
+frames-other a t front k fs e h = record {
+  frames = h.frames ∙ sym (append-nil (frames_below a t front k)) ∙ ap (λ (b : Bool). frames_below a t front k ++ map (frame_at a t front) (cond b (k ∷ []) [])) (sym e) ∙ sym (frames_below-more a t front k);
   reached = h.reached;
 }
 
-pub frames-more : (a : Action) (t : MarkedTable) (k : ℕ) (fs : List Frame) (f : Frame) → procedure_of a k ≡ k → f ≡ frame_at a t k → f.words ≤ 33554432 → AreFramesBelow a t k fs → AreFramesBelow a t (k + 1) (fs ++ f ∷ [])
-frames-more a t k fs f root is reached h = record {
-  frames = ap (λ (gs : List Frame). gs ++ f ∷ []) h.frames ∙ ap (λ (g : Frame). frames_below a t k ++ g ∷ []) is
-      ∙ ap (λ (b : Bool). frames_below a t k ++ map (frame_at a t) (cond b (k ∷ []) [])) (sym (eq-eqb (procedure_of a k) k root)) ∙ sym (frames_below-more a t k);
+pub frames-more : (a : Action) (t : MarkedTable) (front k : ℕ) (fs : List Frame) (f : Frame) → procedure_of a k ≡ k → f ≡ frame_at a t front k → f.words ≤ 33554432 → AreFramesBelow a t front k fs → AreFramesBelow a t front (k + 1) (fs ++ f ∷ [])
+frames-more a t front k fs f root is reached h = record {
+  frames = ap (λ (gs : List Frame). gs ++ f ∷ []) h.frames ∙ ap (λ (g : Frame). frames_below a t front k ++ g ∷ []) is
+      ∙ ap (λ (b : Bool). frames_below a t front k ++ map (frame_at a t front) (cond b (k ∷ []) [])) (sym (eq-eqb (procedure_of a k) k root)) ∙ sym (frames_below-more a t front k);
   reached = All-append (λ f. f.words ≤ 33554432) fs (f ∷ []) h.reached (All-cons (λ f. f.words ≤ 33554432) f [] reached (All-nil (λ f. f.words ≤ 33554432)));
 }
 
 -- ---- all frames
 
-map-roots : (a : Action) (t : MarkedTable) (cs : List ℕ) → map (λ (f : Frame). f.root) (map (frame_at a t) cs) ≡ cs
+map-roots : (a : Action) (t : MarkedTable) (cs : List ℕ) → map (λ (f : Frame). f.root) (map (frame_at a t front_words) cs) ≡ cs
 map-roots a t [] = refl
 map-roots a t (c ∷ cs) = ap (λ (ds : List ℕ). c ∷ ds) (map-roots a t cs)
 
 -- what holds of the frame of each root
-each-frame : (a : Action) (t : MarkedTable) (P : Frame → Type 0) (cs : List ℕ) → ((c : ℕ) → OneOf c cs → (frame_at a t c).words ≤ 33554432 → P (frame_at a t c))
-    → All (λ f. f.words ≤ 33554432) (map (frame_at a t) cs) → All P (map (frame_at a t) cs)
+each-frame : (a : Action) (t : MarkedTable) (P : Frame → Type 0) (cs : List ℕ) → ((c : ℕ) → OneOf c cs → (frame_at a t front_words c).words ≤ 33554432 → P (frame_at a t front_words c))
+    → All (λ f. f.words ≤ 33554432) (map (frame_at a t front_words) cs) → All P (map (frame_at a t front_words) cs)
 each-frame a t P [] h reached = All-nil P
 each-frame a t P (c ∷ cs) h reached =
-    All-cons P (frame_at a t c) (map (frame_at a t) cs) (h c Here (All-head (λ f. f.words ≤ 33554432) (frame_at a t c) (map (frame_at a t) cs) reached))
-    (each-frame a t P cs (λ d m. h d (Later m)) (All-tail (λ f. f.words ≤ 33554432) (frame_at a t c) (map (frame_at a t) cs) reached))
+    All-cons P (frame_at a t front_words c) (map (frame_at a t front_words) cs) (h c Here (All-head (λ f. f.words ≤ 33554432) (frame_at a t front_words c) (map (frame_at a t front_words) cs) reached))
+    (each-frame a t P cs (λ d m. h d (Later m)) (All-tail (λ f. f.words ≤ 33554432) (frame_at a t front_words c) (map (frame_at a t front_words) cs) reached))
 
-module _ (a : Action) (trees : HasTrees a) (t : MarkedTable) (fs : List Frame) (all : AreFramesBelow a t (length a) fs) where
+module _ (a : Action) (trees : HasTrees a) (t : MarkedTable) (fs : List Frame) (all : AreFramesBelow a t front_words (length a) fs) where
   cs : List ℕ
   cs = filter (is_root a) (range_with_len 0 (length a))
 
-  each : (P : Frame → Type 0) → ((c : ℕ) → c < length a → procedure_of a c ≡ c → (frame_at a t c).words ≤ 33554432 → P (frame_at a t c)) → All P fs
+  each : (P : Frame → Type 0) → ((c : ℕ) → c < length a → procedure_of a c ≡ c → (frame_at a t front_words c).words ≤ 33554432 → P (frame_at a t front_words c)) → All P fs
   each P h = subst (All P) (sym all.frames) (each-frame a t P (filter (is_root a) (range_with_len 0 (length a)))
       (λ c m reached.
       let r = filter-member (is_root a) (range_with_len 0 (length a)) c m in
@@ -116,10 +120,11 @@ module _ (a : Action) (trees : HasTrees a) (t : MarkedTable) (fs : List Frame) (
   frames-layout = record {
     listed = ap (map (λ (f : Frame). f.root)) all.frames ∙ map-roots a t (filter (is_root a) (range_with_len 0 (length a))) ∙ ap (filter (is_root a)) (sym (node_numbers-range a));
     frames = each (IsFrame a t) (λ c within root reached. frame-is a trees t c within root reached);
+    apart = each HasApartNodes (λ c within root reached. frame-apart a trees t c within root);
   }
 
-  pub frames-apart : All HasApartNodes fs
-  frames-apart = each HasApartNodes (λ c within root reached. frame-apart a trees t c within root)
+  pub frames-order : All HasOrder fs
+  frames-order = each HasOrder (λ c within root reached. frame-order a trees t c within root)
 
 -- ---- what code reads
 

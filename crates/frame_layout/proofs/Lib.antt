@@ -8,3 +8,4 @@ pub mod LayoutLaws
 pub mod Grouping
 pub mod GraphParts
 pub mod NodeLists
+pub mod Ordered

@@ -1,8 +1,8 @@
 -- Consecutive words, and the words of one placed node.
-use Rattle.std.proofs.Common.{◌⊎◌, ℕ, zero, suc, ◌+◌, ◌<◌, ◌≤◌, List, [], ◌∷◌, sym, ap, arith, inl, inr}
+use Rattle.std.proofs.Common.{◌≡◌, ◌⊎◌, ℕ, zero, suc, ◌+◌, ◌<◌, ◌≤◌, List, [], ◌∷◌, ◌++◌, sym, ap, ◌∙◌, arith, inl, inr, add-zero}
 use Rattle.std.specs.Prelude.{All}
 use Rattle.std.specs.List.{AllByRecursion, AllPairs, range_with_len}
-use Rattle.std.proofs.lemmas.List.Elements.{All-nil, All-cons, All-from_recursion}
+use Rattle.std.proofs.lemmas.List.Elements.{All-append, All-nil, All-cons, All-from_recursion}
 use Rattle.std.proofs.lemmas.List.FromFn.{length-range_with_len}
 use Rattle.std.proofs.lemmas.List.Kept.{AllPairs-cons}
 use Rattle.action_terms.specs.Performances.{OneOf, Here, Later}
@@ -11,7 +11,7 @@ use Rattle.sort_rules.specs.Shapes.{part_length}
 use Rattle.sort_rules.proofs.Choices.{either, member_cases}
 use Rattle.sort_rules.proofs.SoundSteps.{append_cases}
 use Rattle.frame_layout.specs.Places.{blocks, record_words, words_of}
-use Rattle.frame_layout.specs.Layouts.{AreApart, AreConsecutive, FitsRow}
+use Rattle.frame_layout.specs.Layouts.{AreApart, AreConsecutive, FitsRow, end_words_of, entry_words_of}
 use Rattle.frame_layout.specs.Placing.{end_words, out_words, placed_from}
 
 -- what holds of each member
@@ -34,6 +34,25 @@ range-member a (suc n) w m = either
 
 pub range-consecutive : (a n : ℕ) → AreConsecutive (range_with_len a n)
 range-consecutive a n = (a, ap (range_with_len a) (sym (length-range_with_len a n)))
+
+-- words from a on, and others behind them
+pub range-append : (a n m : ℕ) → range_with_len a n ++ range_with_len (a + n) m ≡ range_with_len a (n + m)
+range-append a zero m =
+    let none : m ≡ 0 + m = omega arith in
+    ap (λ (b : ℕ). range_with_len b m) (add-zero a) ∙ ap (range_with_len a) none
+range-append a (suc n) m =
+    let place : a + suc n ≡ a + 1 + n = omega arith in
+    let count : suc (n + m) ≡ suc n + m = omega arith in
+    ap (λ (b : ℕ). a ∷ (range_with_len (a + 1) n ++ range_with_len b m)) place
+    ∙ ap (λ (xs : List ℕ). a ∷ xs) (range-append (a + 1) n m) ∙ ap (range_with_len a) count
+
+-- the words are not below one
+pub range-above : (a n x : ℕ) → x ≤ a → All (λ w. x ≤ w) (range_with_len a n)
+range-above a n x h = all-members (λ w. x ≤ w) (range_with_len a n) (λ w m. omega (arith, (range-member a n w m).0))
+
+-- nor below one that is lower
+pub all-above : (x y : ℕ) (ws : List ℕ) → y ≤ x → All (λ w. x ≤ w) ws → All (λ w. y ≤ w) ws
+all-above x y ws h all = λ i d less. omega (arith, all i d less)
 
 -- words before others
 pub before-apart : (a n b m : ℕ) → a + n ≤ b → AreApart (range_with_len a n) (range_with_len b m)
@@ -137,3 +156,15 @@ module _ (t : MarkedTable) (g h o x k : ℕ) where
           ),
         ),
       )
+
+  -- what it gets is not below a word
+  pub placed-entry-behind : (w : ℕ) → w ≤ g → w ≤ h → All (λ v. w ≤ v) (entry_words_of (placed_from t g h o x k))
+  placed-entry-behind w low high = All-append (λ v. w ≤ v) (range_with_len g (part_length (t (DataIn k)))) (range_with_len h (part_length (t (BindsIn k)))) (range-above g _ w low) (range-above h _ w high)
+
+  -- nor are the bindings and the data that it ends with, and its record
+  pub placed-behind : (w : ℕ) → w ≤ x → All (λ v. w ≤ v) (end_words_of (placed_from t g h o x k))
+  placed-behind w low =
+      let ps = part_length (t (BindsOut k)) in
+      let es = part_length (t (Escaped k)) in
+      All-append (λ v. w ≤ v) (range_with_len x ps) (range_with_len (x + ps) es ++ record_words (x + ps + es)) (range-above x ps w low)
+      (All-append (λ v. w ≤ v) (range_with_len (x + ps) es) (record_words (x + ps + es)) (range-above (x + ps) es w (omega arith)) (range-above (x + ps + es) 8 w (omega arith)))

@@ -1,13 +1,13 @@
 -- Which frames are a layout for an action and a sort table: each part of a node has its words, and what is needed at one time is apart.
-use Rattle.std.specs.Prelude.{◌≡◌, ◌≢◌, ℕ, ◌+◌, ◌<◌, ◌≤◌, List, length, map, filter, All, nat_eq}
-use Rattle.std.specs.List.{AllPairs, range_with_len}
+use Rattle.std.specs.Prelude.{◌≡◌, ◌≢◌, ℕ, ◌+◌, ◌<◌, ◌≤◌, List, ◌++◌, length, map, filter, All, nat_eq}
+use Rattle.std.specs.List.{AllPairs, concat, range_with_len}
 use Rattle.action_terms.specs.Actions.{Join, Chain, Node, Both, Phases, Either, Trapping, Action, node_at}
 use Rattle.action_terms.specs.Performances.{OneOf}
 use Rattle.sort_rules.specs.Tables.{DataIn, BindsIn, DataOut, BindsOut, Escaped, MarkedTable}
 use Rattle.sort_rules.specs.Shapes.{part_length}
 use Rattle.sort_rules.specs.Procedures.{parts_at, procedure_of}
 use Rattle.sort_rules.specs.Measures.{node_numbers, slots}
-use Rattle.frame_layout.specs.Places.{PlacedNode, Frame, blocks, words_of}
+use Rattle.frame_layout.specs.Places.{PlacedNode, Frame, blocks, record_words, words_of}
 
 -- the roots of an action's procedures, ascending
 abbrev pub roots_of : Action → List ℕ
@@ -85,6 +85,33 @@ pub record HasRootFirst (n : PlacedNode) : Type 0 where
   pub binds_in : n.binds_in
       ≡ range_with_len (front_words + length n.data_in) (length n.binds_in)
 
+-- what the nodes of a frame complete with, node by node
+abbrev pub outs_of : Frame → List ℕ
+outs_of f = concat (map (λ n. n.data_out) f.nodes)
+
+-- the words of a node for the data and the bindings that it gets
+abbrev pub entry_words_of : PlacedNode → List ℕ
+entry_words_of n = n.data_in ++ n.binds_in
+
+-- those for the bindings that it completes with and the data that it escapes with, and its record
+abbrev pub end_words_of : PlacedNode → List ℕ
+end_words_of n = n.binds_out ++ (n.escaped ++ record_words n.keep)
+
+-- the first word behind the data and the bindings of the root
+abbrev pub behind_root : PlacedNode → ℕ
+behind_root n = front_words + length n.data_in + length n.binds_in
+
+-- right behind the data and the bindings of the root stands what all nodes complete with, node by node. All other words of the frame stand behind that
+pub record IsInOrder (f : Frame) (root : PlacedNode) : Type 0 where
+  pub outs : outs_of f ≡ range_with_len (behind_root root) (length (outs_of f))
+  pub ends : (n : PlacedNode) → OneOf n f.nodes
+      → All (λ x. behind_root root + length (outs_of f) ≤ x) (end_words_of n)
+  pub entries : (n : PlacedNode) → OneOf n f.nodes → n.node ≢ f.root
+      → All (λ x. behind_root root + length (outs_of f) ≤ x) (entry_words_of n)
+
+abbrev pub HasOrder : Frame → Type 0
+HasOrder f = (n : PlacedNode) → OneOf n f.nodes → n.node ≡ f.root → IsInOrder f n
+
 -- a frame has a place for each node of its procedure, and at most as many words as the procedure has slots; an offset reaches each of them
 pub record IsFrame (a : Action) (t : MarkedTable) (f : Frame) : Type 0 where
   pub listed : map (λ n. n.node) f.nodes ≡ nodes_in a f.root
@@ -94,12 +121,13 @@ pub record IsFrame (a : Action) (t : MarkedTable) (f : Frame) : Type 0 where
   pub needed : KeepsApart a f
   pub root : (n : PlacedNode) → OneOf n f.nodes → n.node ≡ f.root → HasRootFirst n
 
--- a layout has a frame for each procedure of the action
-pub record IsLayout (a : Action) (t : MarkedTable) (fs : List Frame) : Type 0 where
-  pub listed : map (λ f. f.root) fs ≡ roots_of a
-  pub frames : All (IsFrame a t) fs
-
 -- all nodes of a frame are apart, whether they are needed at one time or not
 abbrev pub HasApartNodes : Frame → Type 0
 HasApartNodes f = (m n : PlacedNode) → OneOf m f.nodes → OneOf n f.nodes
     → m.node ≢ n.node → AreNodesApart m n
+
+-- a layout has a frame for each procedure of the action, in which all nodes are apart
+pub record IsLayout (a : Action) (t : MarkedTable) (fs : List Frame) : Type 0 where
+  pub listed : map (λ f. f.root) fs ≡ roots_of a
+  pub frames : All (IsFrame a t) fs
+  pub apart : All HasApartNodes fs

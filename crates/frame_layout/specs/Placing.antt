@@ -7,7 +7,6 @@ use Rattle.sort_rules.specs.Rows.{SortTable, unmarked}
 use Rattle.sort_rules.specs.Measures.{width}
 use Rattle.frame_layout.specs.declared.lengths.Lengths.{Lengths}
 use Rattle.frame_layout.specs.Places.{PlacedNode, Frame}
-use Rattle.frame_layout.specs.Layouts.{front_words}
 
 -- no part of a row is longer than 64
 abbrev pub IsNarrow : SortTable → Type 0
@@ -52,10 +51,10 @@ placed_from t g h o x k =
       keep = x + p + e;
     }
 
--- the root of the procedure
-abbrev pub placed_root : MarkedTable → (out rest k : ℕ) → PlacedNode
-placed_root t out rest k =
-    placed_from t front_words (front_words + part_length (t (DataIn k))) out rest k
+-- the root of the procedure, in a frame of which the words from front on may be places
+abbrev pub placed_root : MarkedTable → (front out rest k : ℕ) → PlacedNode
+placed_root t front out rest k =
+    placed_from t front (front + part_length (t (DataIn k))) out rest k
 
 -- another node
 abbrev pub placed_inner : MarkedTable → (out rest k : ℕ) → PlacedNode
@@ -64,14 +63,16 @@ placed_inner t out rest k =
     placed_from t rest (rest + g) out (rest + g + part_length (t (BindsIn k))) k
 
 -- node k of the procedure with root c
-abbrev pub placed_at : MarkedTable → (c out rest k : ℕ) → PlacedNode
-placed_at t c out rest k = if nat_eq k c then placed_root t out rest k else placed_inner t out rest k
+abbrev pub placed_at : MarkedTable → (front c out rest k : ℕ) → PlacedNode
+placed_at t front c out rest k =
+    if nat_eq k c then placed_root t front out rest k else placed_inner t out rest k
 
 -- nodes of a procedure, one behind the other
-abbrev pub placed_all : MarkedTable → (c out rest : ℕ) → List ℕ → List PlacedNode
-placed_all t c out rest [] = []
-placed_all t c out rest (k ∷ ks) =
-    placed_at t c out rest k ∷ placed_all t c (out + out_words t k) (rest + rest_words t c k) ks
+abbrev pub placed_all : MarkedTable → (front c out rest : ℕ) → List ℕ → List PlacedNode
+placed_all t front c out rest [] = []
+placed_all t front c out rest (k ∷ ks) =
+    placed_at t front c out rest k
+    ∷ placed_all t front c (out + out_words t k) (rest + rest_words t c k) ks
 
 -- where what they complete with ends, and where the rest ends
 abbrev pub out_end : MarkedTable → (out : ℕ) → List ℕ → ℕ
@@ -83,12 +84,12 @@ rest_end t c rest [] = rest
 rest_end t c rest (k ∷ ks) = rest_end t c (rest + rest_words t c k) ks
 
 -- where the data and the bindings of the root end
-abbrev pub entry_end : MarkedTable → (c : ℕ) → ℕ
-entry_end t c = front_words + entry_words t c
+abbrev pub entry_end : MarkedTable → (front c : ℕ) → ℕ
+entry_end t front c = front + entry_words t c
 
 -- the frame of the procedure with root c and these nodes
-abbrev pub placed_frame : MarkedTable → (c : ℕ) → List ℕ → Frame
-placed_frame t c ks =
-    let out = entry_end t c in
+abbrev pub placed_frame : MarkedTable → (front c : ℕ) → List ℕ → Frame
+placed_frame t front c ks =
+    let out = entry_end t front c in
     let rest = out_end t out ks in
-    record { root = c; words = rest_end t c rest ks; nodes = placed_all t c out rest ks }
+    record { root = c; words = rest_end t c rest ks; nodes = placed_all t front c out rest ks }

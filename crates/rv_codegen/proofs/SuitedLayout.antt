@@ -7,10 +7,10 @@ use Rattle.action_terms.specs.Information.{NoBinds}
 use Rattle.action_terms.specs.Performances.{OneOf}
 use Rattle.sort_rules.specs.Procedures.{parts_at}
 use Rattle.sort_rules.proofs.Choices.{member_cases}
-use Rattle.frame_layout.specs.Layouts.{IsInTurn, OfPhases}
+use Rattle.frame_layout.specs.Layouts.{IsInTurn, OfPhases, front_words}
 use Rattle.frame_layout.specs.Places.{Frame, PlacedNode}
 use Rattle.frame_layout.proofs.GraphParts.{HasTrees}
-use Rattle.frame_layout.proofs.LayoutLaws.{AreFramesBelow, frames-apart, frames-layout, frames_below}
+use Rattle.frame_layout.proofs.LayoutLaws.{AreFramesBelow, frames-layout, frames_below}
 use Rattle.rv_codegen.specs.Aliases.{AreByNumber, given_of, nowhere, out_of, place_at, put_frames}
 use Rattle.rv_codegen.proofs.PuttingPlaces.{put-by_number}
 use Rattle.rv_codegen.proofs.Suited.{SuitsAt}
@@ -51,9 +51,9 @@ trees : HasTrees giving
 trees = record { within = within; behind = behind; one = λ j k c m n. omega (arith, with-parts j c m, with-parts k c n); in_turn = in-turn }
 
 abbrev giving_frames : List Frame
-giving_frames = frames_below giving table 3
+giving_frames = frames_below giving table front_words 3
 
-all : AreFramesBelow giving table (length giving) giving_frames
+all : AreFramesBelow giving table front_words (length giving) giving_frames
 all = record { frames = refl; reached = All-cons (λ f. f.words ≤ 33554432) _ [] (omega arith) (All-nil (λ f. f.words ≤ 33554432)) }
 
 abbrev places : List PlacedNode
@@ -63,7 +63,7 @@ by_number : AreByNumber giving giving_frames places
 by_number = put-by_number giving table giving_frames (frames-layout giving trees table giving_frames all) places (record { start = replicate 3 nowhere; long = refl; are = refl })
 
 second-suits : SuitsAt giving (out_of (place_at places) giving) (λ j. (place_at places j).escaped) 2 given NoBinds world
-second-suits = suits giving trees table giving_frames (frames-layout giving trees table giving_frames all) (frames-apart giving trees table giving_frames all) places by_number admissible [] steps frames 2 (omega arith) given NoBinds world second-reached
+second-suits = suits giving trees table giving_frames (frames-layout giving trees table giving_frames all) (frames-layout giving trees table giving_frames all).apart places by_number admissible [] steps frames 2 (omega arith) given NoBinds world second-reached
 
 -- `send` finds its datum where `give` leaves it, behind the front of the frame
 second-finds : given_of (place_at places) giving 2 ≡ 32 ∷ []

@@ -1,6 +1,6 @@
 //! The code of an action, for any action whose nodes are built.
 
-ghost use Rattle.std.specs.Prelude.{◌≡◌, ℕ, ◌+◌, ◌*◌, ◌<◌, ◌≤◌, [], ◌++◌, All, OnOk, IfOk, length, Some, map, slice_index, sum_by, vec_len};
+ghost use Rattle.std.specs.Prelude.{◌≡◌, ℕ, ◌+◌, ◌*◌, ◌<◌, ◌≤◌, [], ◌++◌, OnOk, IfOk, length, Some, map, slice_index, sum_by, vec_len};
 ghost use Rattle.rv_code.specs.Encode.{encode};
 ghost use Rattle.rv_asm.specs.Arrivals.{LabelsStand};
 ghost use Rattle.rv_asm.specs.Assembly.{total, code_of};
@@ -13,7 +13,7 @@ ghost use Rattle.sort_rules.specs.Admissible.{IsAdmissible};
 ghost use Rattle.sort_rules.specs.Measures.{width};
 ghost use Rattle.sort_rules.specs.Rows.{unmarked};
 ghost use Rattle.sort_rules.specs.Tables.{MarkedTable};
-ghost use Rattle.frame_layout.specs.Layouts.{HasApartNodes, IsLayout};
+ghost use Rattle.frame_layout.specs.Layouts.{IsLayout};
 ghost use Rattle.frame_layout.specs.Places.{frames_of};
 ghost use Rattle.rv_codegen.specs.Aliases.{list_at, lists_of, words_at};
 ghost use Rattle.rv_codegen.specs.Blocks.{first_label, blocks_from, ending, action_items, framed_items, table_words};
@@ -141,7 +141,6 @@ fn assemble_framed(
     requires built { unbuilt (action_of graph.now) ≡ [] }
     requires table { (t : MarkedTable) × (width (length (action_of graph.now)) t ≤ 64)
         × IsLayout (action_of graph.now) t (frames_of layout.now) }
-    requires apart { All HasApartNodes (frames_of layout.now) }
     requires stack { (1 ≤ capacity.stack) × (capacity.stack ≤ 16777216) }
     requires units { (1 ≤ capacity.units) × (capacity.units ≤ 4194304) }
     ensures words { IfOk result (λ code. map Some code.words.items
@@ -178,7 +177,6 @@ pub fn generate(
     requires admissible { IsAdmissible (action_of graph.now) (unmarked table.now) }
     requires rows { length table.now.rows ≡ length graph.now.nodes }
     requires layout { IsLayout (action_of graph.now) (unmarked table.now) (frames_of layout.now) }
-    requires apart { All HasApartNodes (frames_of layout.now) }
     requires stack { (1 ≤ capacity.stack) × (capacity.stack ≤ 16777216) }
     requires units { (1 ≤ capacity.units) × (capacity.units ≤ 4194304) }
     ensures right { IfOk result (λ code. IsRight

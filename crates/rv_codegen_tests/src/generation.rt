@@ -1,67 +1,13 @@
 //! The code of an action with a node of each built kind, and the first node of another.
 
-use acg_base::{Capacity, ListSink};
+use crate::tools::{action, code_of, graph_of, yielder};
 use action_terms::pushed::Pushed;
-use action_terms::{Graph, GraphBuilder, Kind, NewAction, NewYielder, YKind};
+use action_terms::{Kind, YKind};
 use bumpalo::Bump;
-use frame_layout::layout;
-use rv_asm::Code;
-use rv_codegen::{first_unbuilt, generate};
-use rv_machine::{Image, Input, Machine, Run, Segment};
-use sort_infer::infer;
+use rv_codegen::first_unbuilt;
 use std::alloc::Global;
 use std::process::Abort;
 use std::test::Fail;
-
-fn action(kind: Kind) -> Pushed<'static> {
-    Pushed::Action(NewAction {
-        kind,
-        items: 0,
-        token: b"",
-    })
-}
-
-fn yielder(kind: YKind) -> Pushed<'static> {
-    Pushed::Yielder(NewYielder { kind, token: b"" })
-}
-
-// The graph of the action whose nodes these are, in preorder.
-fn graph_of<'a>(
-    rt: &impl Abort,
-    alloc: Global,
-    arena: &'a Bump,
-    nodes: &[Pushed<'_>],
-) -> Result<Graph<'a>, Fail> {
-    let mut builder = GraphBuilder::new(alloc, arena)?;
-    for node in nodes {
-        let _number = match *node {
-            Pushed::Action(new) => builder.push_action(new)?,
-            Pushed::Yielder(new) => builder.push_yielder(new)?,
-        };
-    }
-    assert!(rt; builder.is_whole());
-    Ok(builder.seal()?)
-}
-
-// The code of the graph's action, by its least table, for a stack of so many words and one unit.
-fn code_of(
-    rt: &impl Abort,
-    alloc: Global,
-    arena: &Bump,
-    graph: &Graph<'_>,
-    stack: u64,
-) -> Result<Code, Fail> {
-    assert!(rt; first_unbuilt(alloc, graph)?.is_none());
-    assert!(rt; 1 <= stack && stack <= 16777216);
-    let capacity = Capacity { stack, units: 1 };
-    match infer(alloc, arena, graph) {
-        Ok(table) => {
-            let frames = layout(alloc, arena, graph, &table)?;
-            Ok(generate(alloc, graph, &table, &frames, capacity)?)
-        }
-        Err(_error) => Err("no table".into()),
-    }
-}
 
 // The words of (send 7 and send -1) and then (complete and fail), for a stack of 1024 words and one unit. They are
 // those that llvm-mc gives for the first instructions, the entries and the blocks written in its notation.
@@ -98,7 +44,7 @@ fn words_of_another_assembler(rt: HostRuntime) -> Result<(), Fail> {
         action(Kind::Fail),
     ];
     let graph = graph_of(&rt, rt.alloc(), &arena, &nodes)?;
-    let code = code_of(&rt, rt.alloc(), &arena, &graph, 1024)?;
+    let code = code_of(&rt, rt.alloc(), &arena, &graph)?;
     assert_eq!(rt; code.words.as_slice(), WORDS.as_slice());
     Ok(())
 }
@@ -107,7 +53,7 @@ fn words_of_another_assembler(rt: HostRuntime) -> Result<(), Fail> {
 fn count_words(rt: &impl Abort, alloc: Global, nodes: &[Pushed<'_>]) -> Result<usize, Fail> {
     let arena = Bump::new(alloc);
     let graph = graph_of(rt, alloc, &arena, nodes)?;
-    let code = code_of(rt, alloc, &arena, &graph, 1024)?;
+    let code = code_of(rt, alloc, &arena, &graph)?;
     Ok(code.words.len())
 }
 
@@ -145,65 +91,6 @@ fn no_jump_between_sends(rt: HostRuntime) -> Result<(), Fail> {
         count_words(&rt, rt.alloc(), &to_the_left)?,
         19 + 86 + 3 * (1 + 2 + 2) + 2
     );
-    Ok(())
-}
-
-// The image of code, in a region for one word of the stack and one unit.
-fn image_of(rt: &impl Abort, alloc: Global, words: &[u32]) -> Result<Image, Fail> {
-    let mut bytes = Vec::new(alloc);
-    for word in words {
-        bytes.extend_from_slice(&word.to_le_bytes())?;
-    }
-    let size = bytes.len() as u64;
-    assert!(rt; size <= 4096);
-    let mut segments = Vec::new(alloc);
-    segments.push(Segment {
-        address: 65536,
-        flags: 1,
-        bytes,
-        size,
-    })?;
-    segments.push(Segment {
-        address: 69632,
-        flags: 6,
-        bytes: Vec::new(alloc),
-        size: 4096 + 8 + 16,
-    })?;
-    Ok(Image {
-        entry: 65536,
-        segments,
-    })
-}
-
-// send 1 and then (send 2 and then send 3), performed: 19 instructions come to the root. A send takes one for the
-// number, two for the address to return to, two for the jump to the entry and ten there. The way to the exit takes
-// two, and the exit two and a third that doesn't return. Nothing is done between the sends.
-#[test]
-fn instructions_of_three_sends(rt: HostRuntime) -> Result<(), Fail> {
-    let arena = Bump::new(rt.alloc());
-    let nodes = [
-        action(Kind::AndThen),
-        action(Kind::Send),
-        yielder(YKind::Number(1)),
-        action(Kind::AndThen),
-        action(Kind::Send),
-        yielder(YKind::Number(2)),
-        action(Kind::Send),
-        yielder(YKind::Number(3)),
-    ];
-    let graph = graph_of(&rt, rt.alloc(), &arena, &nodes)?;
-    let code = code_of(&rt, rt.alloc(), &arena, &graph, 1024)?;
-    let image = image_of(&rt, rt.alloc(), code.words.as_slice())?;
-    let mut machine = Machine::load(rt.alloc(), image).ok().ok_or("memory")?;
-    let mut input = Input { bytes: b"", at: 0 };
-    let mut sink = ListSink::new(rt.alloc(), 24, Vec::new(rt.alloc()))
-        .ok()
-        .ok_or("memory")?;
-    assert_eq!(rt;
-        machine.run(1000, &mut input, &mut sink),
-        Run::Exited { code: 0 }
-    );
-    assert_eq!(rt; machine.taken(), 19 + 3 * (1 + 2 + 2 + 10) + 2 + 2);
     Ok(())
 }
 

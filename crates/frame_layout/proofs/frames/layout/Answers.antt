@@ -6,12 +6,12 @@ use Rattle.action_terms.proofs.GraphLaws.{length-nodes_few}
 use Rattle.sort_rules.specs.Procedures.{procedure_of}
 use Rattle.sort_rules.specs.Rows.{unmarked}
 use Rattle.frame_layout.specs.declared.places.Procedure.{Procedure}
-use Rattle.frame_layout.specs.Layouts.{HasApartNodes, IsLayout, nodes_in}
+use Rattle.frame_layout.specs.Layouts.{HasOrder, IsLayout, front_words, nodes_in}
 use Rattle.frame_layout.specs.Places.{frame_of}
 use Rattle.frame_layout.specs.Placing.{placed_frame}
 use Rattle.frame_layout.specs.Roots.{AreMembers}
 use Rattle.frame_layout.proofs.GraphParts.{trees-of_graph}
-use Rattle.frame_layout.proofs.LayoutLaws.{AreFramesBelow, frames-apart, frames-layout, frames-more, frames-other, nodes-read, nodes-within, nodes_in-few, not-root, root-read, roots-within}
+use Rattle.frame_layout.proofs.LayoutLaws.{AreFramesBelow, frames-layout, frames-more, frames-order, frames-other, frames-same, nodes-read, nodes-within, nodes_in-few, not-root, root-read, roots-within}
 use Rattle.frame_layout.proofs.frames.layout.Goals as goal
 use Rattle.frame_layout.proofs.frames.layout.Goals.{then-index-root+in_ok-procedure+in_ok-push, else-index-root}
 
@@ -62,19 +62,18 @@ loop-root-preserved c =
     let members = subst (λ (rs : List ℕ). AreMembers rs c.in_ok-groups.groups.items) c.deref.ensures.value c.in_ok-groups.ensures in
     let within : k < length a = omega (arith, c.loop-root-test.true, roots.long, c.len-root-end.ensures) in
     let read : c.index.result.now ≡ procedure_of a k = root-read a c.in_ok-roots.roots.items k c.index.result.now roots within c.index.ensures in
-    let P : List Procedure → Type 0 = λ ps. AreFramesBelow a t (k + 1) (map frame_of ps) in
     elim c.if-index-root.branch [
       | then-index-root+in_ok-procedure+in_ok-push w ↦ (
           let p = w.in_ok-procedure.procedure in
           let same = nodes-read a c.in_ok-roots.roots.items c.in_ok-groups.groups.items k w.index-then-index-root.result.now w.deref-then-index-root.result.now roots members within w.index-then-index-root.ensures w.deref-then-index-root.ensures.value in
-          let frame : frame_of p ≡ placed_frame t k (nodes_in a k) = w.in_ok-procedure.ensures.frame ∙ ap (placed_frame t k) same in
+          let frame : frame_of p ≡ placed_frame t _ k (nodes_in a k) = w.in_ok-procedure.ensures.frame ∙ ap (placed_frame t _ k) same in
           let root : procedure_of a k ≡ k = sym read ∙ w.if-index-root.true in
-          let more = frames-more a t k (map frame_of c.loop-root.procedures.items) (frame_of p) root frame w.in_ok-procedure.ensures.reached c.loop-root.invariant in
+          let more = frames-more a t _ k (map frame_of c.loop-root.procedures.items) (frame_of p) root frame w.in_ok-procedure.ensures.reached c.loop-root.invariant in
           let grown : c.if-index-root.procedures.items ≡ c.loop-root.procedures.items ++ p ∷ [] = cc (w.procedures-is, w.in_ok-push.ensures.items) in
-          subst P (sym grown) (subst (AreFramesBelow a t (k + 1)) (sym (map-append frame_of c.loop-root.procedures.items (p ∷ []))) more))
+          frames-same a t _ (k + 1) _ _ (ap (map frame_of) grown ∙ map-append frame_of c.loop-root.procedures.items (p ∷ [])) more)
       | else-index-root w ↦ (
           let same : c.if-index-root.procedures.items ≡ c.loop-root.procedures.items = cc (w.procedures-is) in
-          subst P (sym same) (frames-other a t k (map frame_of c.loop-root.procedures.items) (not-root a k c.index.result.now read w.if-index-root.false) c.loop-root.invariant))
+          frames-same a t _ (k + 1) _ _ (ap (map frame_of) same) (frames-other a t _ k (map frame_of c.loop-root.procedures.items) (not-root a k c.index.result.now read w.if-index-root.false) c.loop-root.invariant))
     ]
 
 pub returns-clause-layout : goal.returns-clause-layout
@@ -83,14 +82,14 @@ returns-clause-layout c =
     let a = action_of g in
     let t = unmarked c.args.table.now in
     let all : c.loop-root.root ≡ length a = omega (arith, c.loop-root-test.false, c.in_ok-roots.ensures.roots.long, c.len-root-end.ensures, c.loop-root.auto.root-end) in
-    let below = subst (λ (n : ℕ). AreFramesBelow a t n (map frame_of c.loop-root.procedures.items)) all c.loop-root.invariant in
+    let below = subst (λ (n : ℕ). AreFramesBelow a t front_words n (map frame_of c.loop-root.procedures.items)) all c.loop-root.invariant in
     subst (λ (ps : List Procedure). IsLayout a t (map frame_of ps)) (sym c.into_bump_slice.ensures) (frames-layout a (trees-of_graph g c.procedure_roots.ensures.of_an_action) t (map frame_of c.loop-root.procedures.items) below)
 
-pub returns-clause-apart : goal.returns-clause-apart
-returns-clause-apart c =
+pub returns-clause-order : goal.returns-clause-order
+returns-clause-order c =
     let g = c.args.graph.now in
     let a = action_of g in
     let t = unmarked c.args.table.now in
     let all : c.loop-root.root ≡ length a = omega (arith, c.loop-root-test.false, c.in_ok-roots.ensures.roots.long, c.len-root-end.ensures, c.loop-root.auto.root-end) in
-    let below = subst (λ (n : ℕ). AreFramesBelow a t n (map frame_of c.loop-root.procedures.items)) all c.loop-root.invariant in
-    subst (λ (ps : List Procedure). All HasApartNodes (map frame_of ps)) (sym c.into_bump_slice.ensures) (frames-apart a (trees-of_graph g c.procedure_roots.ensures.of_an_action) t (map frame_of c.loop-root.procedures.items) below)
+    let below = subst (λ (n : ℕ). AreFramesBelow a t front_words n (map frame_of c.loop-root.procedures.items)) all c.loop-root.invariant in
+    subst (λ (ps : List Procedure). All HasOrder (map frame_of ps)) (sym c.into_bump_slice.ensures) (frames-order a (trees-of_graph g c.procedure_roots.ensures.of_an_action) t (map frame_of c.loop-root.procedures.items) below)

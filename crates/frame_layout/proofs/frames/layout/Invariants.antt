@@ -7,4 +7,4 @@ use Rattle.frame_layout.proofs.frames.layout.Given as goal
 
 -- the frames of the procedures whose roots come before
 abbrev pub invariant-loop-root : goal.invariant-loop-root
-invariant-loop-root l = AreFramesBelow (action_of l.graph) (unmarked l.table) l.root (map frame_of l.procedures.items)
+invariant-loop-root l = AreFramesBelow (action_of l.graph) (unmarked l.table) l.front l.root (map frame_of l.procedures.items)

@@ -6,4 +6,4 @@ use Rattle.frame_layout.proofs.frames.procedure.Given as goal
 
 -- the nodes so far are placed
 abbrev pub invariant-loop-node : goal.invariant-loop-node
-invariant-loop-node l = ArePlacedSo (unmarked l.table) l.root l.nodes l.node-index l.out l.rest (map placed_node l.places.items)
+invariant-loop-node l = ArePlacedSo (unmarked l.table) l.front l.root l.nodes l.node-index l.out l.rest (map placed_node l.places.items)

@@ -39,7 +39,7 @@ assemble-requires-clause-given_reached c =
     let made : AreTables a (map placed_node c.deref.result.now) tables.given.items tables.out.items tables.escaped.items tables.keeps.items =
     record { given_at = λ k less. c.in_ok-tables.ensures.given k (omega (arith, less, length-action_of g)); out_at = λ k less. c.in_ok-tables.ensures.out k (omega (arith, less, length-action_of g)); escaped_are = c.in_ok-tables.ensures.escaped; keeps_are = c.in_ok-tables.ensures.keeps } in
     let are = subst (λ (ns : List PlacedNode). AreTables a ns tables.given.items tables.out.items tables.escaped.items tables.keeps.items) same made in
-    given-table a (trees-of_graph g c.nodes-count.ensures.of_an_action) c.requires.table.0 c.requires.table.1 fs c.requires.table.2 c.requires.apart tables.given.items tables.out.items tables.escaped.items tables.keeps.items are (omega (arith, c.in_ok-tables.ensures.given_count, length-action_of g))
+    given-table a (trees-of_graph g c.nodes-count.ensures.of_an_action) c.requires.table.0 c.requires.table.1 fs c.requires.table.2 c.requires.table.2.apart tables.given.items tables.out.items tables.escaped.items tables.keeps.items are (omega (arith, c.in_ok-tables.ensures.given_count, length-action_of g))
 
 pub assemble-requires-clause-out_reached : goal.assemble-requires-clause-out_reached
 assemble-requires-clause-out_reached c =
@@ -52,7 +52,7 @@ assemble-requires-clause-out_reached c =
     let made : AreTables a (map placed_node c.deref.result.now) tables.given.items tables.out.items tables.escaped.items tables.keeps.items =
     record { given_at = λ k less. c.in_ok-tables.ensures.given k (omega (arith, less, length-action_of g)); out_at = λ k less. c.in_ok-tables.ensures.out k (omega (arith, less, length-action_of g)); escaped_are = c.in_ok-tables.ensures.escaped; keeps_are = c.in_ok-tables.ensures.keeps } in
     let are = subst (λ (ns : List PlacedNode). AreTables a ns tables.given.items tables.out.items tables.escaped.items tables.keeps.items) same made in
-    out-table a (trees-of_graph g c.nodes-count.ensures.of_an_action) c.requires.table.0 c.requires.table.1 fs c.requires.table.2 c.requires.apart tables.given.items tables.out.items tables.escaped.items tables.keeps.items are (omega (arith, c.in_ok-tables.ensures.out_count, length-action_of g))
+    out-table a (trees-of_graph g c.nodes-count.ensures.of_an_action) c.requires.table.0 c.requires.table.1 fs c.requires.table.2 c.requires.table.2.apart tables.given.items tables.out.items tables.escaped.items tables.keeps.items are (omega (arith, c.in_ok-tables.ensures.out_count, length-action_of g))
 
 pub assemble-requires-clause-escaped_reached : goal.assemble-requires-clause-escaped_reached
 assemble-requires-clause-escaped_reached c =
@@ -65,7 +65,7 @@ assemble-requires-clause-escaped_reached c =
     let made : AreTables a (map placed_node c.deref.result.now) tables.given.items tables.out.items tables.escaped.items tables.keeps.items =
     record { given_at = λ k less. c.in_ok-tables.ensures.given k (omega (arith, less, length-action_of g)); out_at = λ k less. c.in_ok-tables.ensures.out k (omega (arith, less, length-action_of g)); escaped_are = c.in_ok-tables.ensures.escaped; keeps_are = c.in_ok-tables.ensures.keeps } in
     let are = subst (λ (ns : List PlacedNode). AreTables a ns tables.given.items tables.out.items tables.escaped.items tables.keeps.items) same made in
-    escaped-table a (trees-of_graph g c.nodes-count.ensures.of_an_action) c.requires.table.0 c.requires.table.1 fs c.requires.table.2 c.requires.apart tables.given.items tables.out.items tables.escaped.items tables.keeps.items are (omega (arith, c.in_ok-tables.ensures.escaped_count, length-action_of g))
+    escaped-table a (trees-of_graph g c.nodes-count.ensures.of_an_action) c.requires.table.0 c.requires.table.1 fs c.requires.table.2 c.requires.table.2.apart tables.given.items tables.out.items tables.escaped.items tables.keeps.items are (omega (arith, c.in_ok-tables.ensures.escaped_count, length-action_of g))
 
 pub assemble-requires-clause-keeps_reached : goal.assemble-requires-clause-keeps_reached
 assemble-requires-clause-keeps_reached c =
@@ -78,7 +78,7 @@ assemble-requires-clause-keeps_reached c =
     let made : AreTables a (map placed_node c.deref.result.now) tables.given.items tables.out.items tables.escaped.items tables.keeps.items =
     record { given_at = λ k less. c.in_ok-tables.ensures.given k (omega (arith, less, length-action_of g)); out_at = λ k less. c.in_ok-tables.ensures.out k (omega (arith, less, length-action_of g)); escaped_are = c.in_ok-tables.ensures.escaped; keeps_are = c.in_ok-tables.ensures.keeps } in
     let are = subst (λ (ns : List PlacedNode). AreTables a ns tables.given.items tables.out.items tables.escaped.items tables.keeps.items) same made in
-    keeps-table a (trees-of_graph g c.nodes-count.ensures.of_an_action) c.requires.table.0 c.requires.table.1 fs c.requires.table.2 c.requires.apart tables.given.items tables.out.items tables.escaped.items tables.keeps.items are
+    keeps-table a (trees-of_graph g c.nodes-count.ensures.of_an_action) c.requires.table.0 c.requires.table.1 fs c.requires.table.2 c.requires.table.2.apart tables.given.items tables.out.items tables.escaped.items tables.keeps.items are
 
 pub returns-clause-words : goal.returns-clause-words
 returns-clause-words c =

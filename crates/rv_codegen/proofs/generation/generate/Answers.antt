@@ -20,7 +20,7 @@ returns-clause-right c =
     let code = c.assemble_framed in
     let capacity = c.args.capacity in
     let known = OnOk-both _ _ code.result code.ensures.numbers (OnOk-both _ _ code.result code.ensures.labels code.ensures.short) in
-    let framed : (stack units : ℕ) → HasFrames (subject g (unmarked c.args.table.now) stack units) (frames_of c.args.layout.now) = λ stack units. record { admissible = c.requires.admissible; layout = c.requires.layout; apart = c.requires.apart } in
+    let framed : (stack units : ℕ) → HasFrames (subject g (unmarked c.args.table.now) stack units) (frames_of c.args.layout.now) = λ stack units. record { admissible = c.requires.admissible; layout = c.requires.layout; apart = c.requires.layout.apart } in
     IfOk-on code.result _ _ _ (λ f words encoded. generated-right g c.nodes-nodes.ensures.of_an_action (unmarked c.args.table.now) (frames_of c.args.layout.now) f.0 c.requires.built framed words.words.items capacity.stack capacity.units (omega arith) f.1.0 f.1.1 encoded c.requires.stack.0 c.requires.stack.1 c.requires.units.1) known code.ensures.words
 
 pub returns-then-from-capacity-clause-right : goal.returns-then-from-capacity-clause-right
@@ -28,5 +28,5 @@ returns-then-from-capacity-clause-right c =
     let g = c.args.graph.now in
     let code = c.full_code in
     let capacity = c.args.capacity in
-    let framed : (stack units : ℕ) → HasFrames (subject g (unmarked c.args.table.now) stack units) (frames_of c.args.layout.now) = λ stack units. record { admissible = c.requires.admissible; layout = c.requires.layout; apart = c.requires.apart } in
+    let framed : (stack units : ℕ) → HasFrames (subject g (unmarked c.args.table.now) stack units) (frames_of c.args.layout.now) = λ stack units. record { admissible = c.requires.admissible; layout = c.requires.layout; apart = c.requires.layout.apart } in
     IfOk-on code.result (Unit {0}) _ _ (λ f words encoded. full-right g c.nodes-nodes.ensures.of_an_action (unmarked c.args.table.now) (frames_of c.args.layout.now) c.nodes-nodes.ensures.numbers c.requires.built framed words.words.items capacity.stack capacity.units (omega arith) encoded c.requires.stack.0 c.requires.stack.1 c.requires.units.1) (OnOk-always (Unit {0}) code.result tt) code.ensures
