@@ -10,9 +10,9 @@ ghost use Rattle.rv_machine.specs.Machines.{left};
 ghost use Rattle.rv_machine.specs.Memory.{AreRead, IsSize, IsFixed};
 ghost use Rattle.rv_machine.specs.Fronts.{padded, IsFront};
 
-use elf_image::Segment;
 use crate::input::Input;
 use acg_base::Memory;
+use elf_image::Segment;
 use rv_code::{Inst, decode};
 use std::alloc::Global;
 use std::marker::Model;

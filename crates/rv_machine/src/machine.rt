@@ -2,10 +2,10 @@
 
 use crate::answers::{Quiet, QuietEnd, Run, Step, Turn};
 use crate::block::Block;
-use elf_image::Image;
 use crate::input::Input;
 use crate::{arithmetic, block, registers, table};
 use acg_base::{Memory, Sink, SinkError};
+use elf_image::Image;
 use rv_code::{BranchOp, Cause, Inst, LoadOp, Reg, StoreOp, decode};
 use std::alloc::Global;
 use std::marker::Model;
