@@ -85,4 +85,5 @@ def main(program, folder):
         rows(title, grammar, source, program, path, ["pick"], "with pick")
 
 
-main(sys.argv[1], sys.argv[2])
+if __name__ == "__main__":
+    main(sys.argv[1], sys.argv[2])

@@ -60,9 +60,6 @@ met_kept g w b p q part new same k m [] le h = follows_kept g w b p q part new s
 met_kept g w b p q part new same k m (Word c ∷ rest) le h = follows_kept g w b p q part new same k m (Word c ∷ rest) (length g) le h
 met_kept g w b p q part new same k m (Phrase c ∷ rest) le h = λ lt. follows_kept g w b p q part new same k m rest c le (h lt)
 
-pub are_kept : (g : Numbered) (w : List LexKind) (p q : Places) → IsPart g w p → IsPart g w q → IsSame p q → (k m : ℕ) → AreMet g w p k m → AreMet g w q k m
-are_kept g w p q part new same k m h a parts e = met_kept g w 0 p q part new (λ i c _. same i c) k m parts (omega arith) (h a parts e)
-
 pub closed_kept : (g : Numbered) (w : List LexKind) (b : ℕ) (p q : Places) → IsPart g w p → IsPart g w q → IsSameFrom b p q → (k : ℕ) → b ≤ k → IsClosedAt g w p k → IsClosedAt g w q k
 closed_kept g w b p q part new same k le h m a parts e = met_kept g w b p q part new same k m parts le (h m a parts e)
 

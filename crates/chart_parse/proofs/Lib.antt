@@ -8,6 +8,7 @@ pub mod Closed
 pub mod Updated
 pub mod Followed
 pub mod Rounds
+pub mod RuleLists
 pub mod FirstLists
 pub mod Stored
 pub mod NearRows

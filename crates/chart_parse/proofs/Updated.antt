@@ -105,6 +105,7 @@ module _ (g : Numbered) (w : List LexKind) (p : Places) (k c : ℕ) (taken : Lis
         sound = new_true;
         stays = λ i d le lt. more_listed i d d i (part.stays i d le lt);
       };
+      kept = more_listed;
       others = λ i d ne. ap (λ t. list_at t d) (place_other p k i v ne);
     }
 

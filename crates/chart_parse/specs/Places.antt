@@ -1,5 +1,5 @@
 -- The places of a chart, what their lists have, and the rules for them.
-use Rattle.std.specs.Prelude.{◌≡◌, ◌≢◌, ◌↔◌, ℕ, zero, suc, ◌+◌, ◌*◌, ◌/◌, ◌<◌, ◌≤◌, List, [], ◌∷◌, length, map, slice_get, Some, Vec}
+use Rattle.std.specs.Prelude.{◌≡◌, ◌≢◌, ◌↔◌, ℕ, zero, suc, ◌+◌, ◌*◌, ◌/◌, ◌<◌, ◌≤◌, List, [], ◌∷◌, length, map, slice_get, Some, Contains, Vec}
 use Rattle.std.specs.Global.{Global}
 use Rattle.std.specs.Borrow.{Bor}
 use Rattle.source_lex.specs.Numbered.{Alternative, Numbered, alternative_of, plain_numbered}
@@ -9,6 +9,9 @@ use Rattle.source_lex.specs.declared.numbered.Symbol.TheVariants.{Word, Phrase}
 use Rattle.source_lex.specs.declared.lexeme.LexKind.{LexKind}
 use Rattle.chart_parse.specs.declared.rows.Entry.{Entry}
 use Rattle.chart_parse.specs.declared.source.Source.{Source}
+use Rattle.chart_parse.specs.declared.rule_lists.Rule.{Rule}
+use Rattle.chart_parse.specs.declared.rule_lists.Class.{Class}
+use Rattle.chart_parse.specs.declared.rule_lists.Class.TheVariants.{Behind, Here, Empty}
 use Rattle.chart_parse.specs.Rows as rows
 use Rattle.chart_parse.specs.Rows.{Lists, AreWide}
 use Rattle.chart_parse.specs.Table.{list_at}
@@ -89,14 +92,19 @@ pub record IsPart (g : Numbered) (w : List LexKind) (p : Places) : Type 0 where
 abbrev pub IsSame : Places → Places → Type 0
 IsSame p q = (i c : ℕ) → list_of q i c ≡ list_of p i c
 
--- lists that have only what is true, of which only those of one place may be others than before
+-- lists that have only what is true and all that they had, of which only those of one place may be others than before
 pub record IsAdded (g : Numbered) (w : List LexKind) (place : ℕ) (p q : Places) : Type 0 where
   pub part : IsPart g w q
+  pub kept : (i c n e : ℕ) → IsListed w p i c n e → IsListed w q i c n e
   pub others : (i c : ℕ) → i ≢ place → list_of q i c ≡ list_of p i c
+
+-- the list of c at k has now what by earlier lists grew from m where the parts ended
+abbrev pub FollowsBy : (g : Numbered) (w : List LexKind) (old now : Places) (k m : ℕ) → Alternative → (c : ℕ) → Type 0
+FollowsBy g w old now k m parts c = (l n e : ℕ) → RunsTo g w old parts k l → IsListed w old l m n e → IsListed w now k c n e
 
 -- the list of c at k has what grows from m where the parts end
 abbrev pub Follows : (g : Numbered) (w : List LexKind) → Places → (k m : ℕ) → Alternative → (c : ℕ) → Type 0
-Follows g w p k m parts c = (l n e : ℕ) → RunsTo g w p parts k l → IsListed w p l m n e → IsListed w p k c n e
+Follows g w p k m parts c = FollowsBy g w p p k m parts c
 
 -- the row of the number
 abbrev pub row_at : List (Vec ℕ Global) → ℕ → List ℕ
@@ -111,11 +119,23 @@ pub record AreNear (g : Numbered) (w : List LexKind) (p : Places) (first : ℕ) 
   pub behind : (m l : ℕ) → l ≤ length w → rows.Has (row_at near m) l → first ≤ l
   pub alone : (m l n e : ℕ) → l ≤ length w → rows.Has (row_at near m) l → IsListed w p l m n e → (n ≡ m) × (e ≡ l)
 
--- the rule of an alternative of m at k: what begins with a phrase grows from it, anything else ends there
+-- the rule of an alternative of m at k, by what earlier lists had: what begins with a phrase grows from it, anything else ends there
+abbrev pub IsMetBy : (g : Numbered) (w : List LexKind) (old now : Places) (k m : ℕ) → Alternative → Type 0
+IsMetBy g w old now k m [] = FollowsBy g w old now k m [] (length g)
+IsMetBy g w old now k m (Word c ∷ rest) = FollowsBy g w old now k m (Word c ∷ rest) (length g)
+IsMetBy g w old now k m (Phrase c ∷ rest) = c < length g → FollowsBy g w old now k m rest c
+
+-- the rule of an alternative of m at k
 abbrev pub IsMet : (g : Numbered) (w : List LexKind) → Places → (k m : ℕ) → Alternative → Type 0
-IsMet g w p k m [] = Follows g w p k m [] (length g)
-IsMet g w p k m (Word c ∷ rest) = Follows g w p k m (Word c ∷ rest) (length g)
-IsMet g w p k m (Phrase c ∷ rest) = c < length g → Follows g w p k m rest c
+IsMet g w p k m parts = IsMetBy g w p p k m parts
+
+-- what the rule of an alternative reads: lists of later places alone where a word stands first, or behind the first phrase
+abbrev pub class_of : Alternative → Class
+class_of [] = Empty
+class_of (Word c ∷ rest) = Behind
+class_of (Phrase c ∷ []) = Here
+class_of (Phrase c ∷ Phrase d ∷ rest) = Here
+class_of (Phrase c ∷ Word d ∷ rest) = Behind
 
 -- the rules of the alternatives of m at k
 abbrev pub AreMet : (g : Numbered) (w : List LexKind) → Places → (k m : ℕ) → Type 0
@@ -138,6 +158,43 @@ BeginsOther (Phrase c ∷ rest) = ⊥
 -- the parts are an alternative of m
 abbrev pub IsAlternative : Numbered → ℕ → Alternative → Type 0
 IsAlternative g m parts = (a : ℕ) × (alternative_of g m a ≡ Some parts)
+
+-- rules of the grammar
+abbrev pub AreRules : Numbered → List Rule → Type 0
+AreRules g rules = (x : Rule) → Contains rules x → IsAlternative g x.nonterminal x.parts.now
+
+-- rules of a class
+abbrev pub AreOfClass : Class → List Rule → Type 0
+AreOfClass class rules = (x : Rule) → Contains rules x → class_of x.parts.now ≡ class
+
+-- the rule of the parts and the nonterminal is there
+abbrev pub HasRule : List Rule → (m : ℕ) → Alternative → Type 0
+HasRule rules m parts = (x : Rule) × Contains rules x × (x.nonterminal ≡ m) × (x.parts.now ≡ parts)
+
+-- each rule of a class is there that a nonterminal has
+abbrev pub HasClassOf : Numbered → Class → List Rule → (m : ℕ) → Type 0
+HasClassOf g class rules m = (a : ℕ) (parts : Alternative) → alternative_of g m a ≡ Some parts → class_of parts ≡ class → HasRule rules m parts
+
+-- each rule of a class is there
+abbrev pub HasClass : Numbered → Class → List Rule → Type 0
+HasClass g class rules = (m : ℕ) → HasClassOf g class rules m
+
+-- a rule of the grammar and of a class
+abbrev pub IsOfClass : Numbered → Class → Rule → Type 0
+IsOfClass g class x = IsAlternative g x.nonterminal x.parts.now × (class_of x.parts.now ≡ class)
+
+-- all rules of the grammar
+pub record AreLists (g : Numbered) (behind here : List Rule) : Type 0 where
+  pub rules_behind : AreRules g behind
+  pub rules_here : AreRules g here
+  pub class_behind : AreOfClass Behind behind
+  pub has_behind : HasClass g Behind behind
+  pub has_here : HasClass g Here here
+  pub has_empty : HasClass g Empty here
+
+-- the rules in a list are met at k
+abbrev pub MeetsEach : (g : Numbered) (w : List LexKind) → Places → (k : ℕ) → List Rule → Type 0
+MeetsEach g w p k rules = (x : Rule) → Contains rules x → IsMet g w p k x.nonterminal x.parts.now
 
 -- lists that have exactly what is true
 pub record IsExact (g : Numbered) (w : List LexKind) (p : Places) : Type 0 where

@@ -7,7 +7,8 @@ ghost use Rattle.chart_parse.specs.Places.{grammar_of, IsPart, IsClosedAt};
 use crate::first::first_places;
 use crate::near::{mark_near, no_near};
 use crate::rows::Entry;
-use crate::rules::close;
+use crate::rule_lists::rule_lists;
+use crate::rules::{Site, close};
 use crate::source::Source;
 use crate::spans::Chart;
 use acg_base::Memory;
@@ -42,9 +43,17 @@ fn fill<'a>(
 {
     let mut places = first_places(alloc, arena, source)?;
     let mut near = no_near(alloc, source)?;
+    let lists = rule_lists(alloc, source)?;
     for done in 0..source.kinds.len() + 1 {
         let place = source.kinds.len() - done;
-        close(alloc, arena, source, &near, &mut places, place)?;
+        let site = Site {
+            alloc,
+            arena,
+            source: &*source,
+            near: &near,
+            place,
+        };
+        close(site, &lists, &mut places)?;
         mark_near(alloc, source, &places, place, &mut near)?;
     }
     Ok(places)

@@ -5,10 +5,11 @@ pub mod filling;
 mod first;
 mod near;
 mod numbers;
-pub mod rows;
+mod rows;
+mod rule_lists;
 mod rules;
 mod runs;
-pub mod source;
+mod source;
 pub mod spans;
 
 pub use spans::Chart;

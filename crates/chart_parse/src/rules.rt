@@ -1,12 +1,13 @@
-//! One round of the rules by which a place of the chart grows.
-ghost use Rattle.std.specs.Prelude.{◌≡◌, ℕ, ◌≤◌, ◌<◌, ◌∷◌, ◌+◌, false, length, Contains, drop, slice_get, Some, MatchOption, IfOk, OnOk};
-ghost use Rattle.source_lex.specs.declared.numbered.Symbol.TheVariants.{Phrase};
+//! The rules by which a place of the chart grows.
+ghost use Rattle.std.specs.Prelude.{◌≡◌, ◌⊎◌, ℕ, ◌≤◌, ◌<◌, ◌∷◌, ◌+◌, false, length, Contains, drop, MatchOption, IfOk, OnOk};
+ghost use Rattle.chart_parse.specs.declared.rule_lists.Class.TheVariants.{Behind};
 ghost use Rattle.chart_parse.specs.Rows.{Has};
 ghost use Rattle.chart_parse.specs.Growths.{Grows};
-ghost use Rattle.chart_parse.specs.Places.{grammar_of, width_of, IsListed, IsTrueOf, IsPart, IsAdded, IsSame, Follows, IsMet, AreMet, IsClosedAt, IsRule, AreNear, IsAlternative, BeginsOther, alternatives_in};
+ghost use Rattle.chart_parse.specs.Places.{grammar_of, width_of, class_of, IsListed, IsTrueOf, IsPart, IsAdded, IsSame, FollowsBy, IsMetBy, IsMet, IsClosedAt, IsRule, AreNear, IsAlternative, AreRules, AreLists};
 
 use crate::numbers::difference;
 use crate::rows::{Entry, add_at};
+use crate::rule_lists::{Rule, RuleLists};
 use crate::runs::{after_words, can_begin, first_phrase, run_ends};
 use crate::source::Source;
 use acg_base::Memory;
@@ -21,6 +22,21 @@ pub struct ListAt {
     pub number: usize,
 }
 
+/// A place of a chart whose rules are followed.
+#[derive(Clone, Copy)]
+pub struct Site<'a, 's> {
+    /// For what is given back.
+    pub alloc: Global,
+    /// Where rows lie.
+    pub arena: &'a Bump,
+    /// What the chart is of.
+    pub source: &'s Source<'s>,
+    /// For each nonterminal the later places at which only it grows from itself.
+    pub near: &'s [Vec<u64>],
+    /// The place.
+    pub place: usize,
+}
+
 // The entries, whose rows are shared.
 fn copy<'a>(alloc: Global, list: &[Entry<'a>]) -> Result<Vec<Entry<'a>>, Memory>
     ensures { IfOk result (λ all. all.items ≡ list.now) }
@@ -33,57 +49,56 @@ fn copy<'a>(alloc: Global, list: &[Entry<'a>]) -> Result<Vec<Entry<'a>>, Memory>
 
 // Adds the one list to the other, and tells whether that is more.
 fn add_list<'a>(
-    alloc: Global,
-    arena: &'a Bump,
-    source: &Source<'_>,
+    site: Site<'a, '_>,
     places: &mut Vec<Vec<Vec<Entry<'a>>>>,
     from: ListAt,
-    into: ListAt,
+    into: usize,
 ) -> Result<bool, Memory>
-    requires from { (from.place ≤ length source.now.kinds.now)
-        × (from.number < length (grammar_of source.now)) }
-    requires into { (into.place ≤ length source.now.kinds.now)
-        × (into.number ≤ length (grammar_of source.now)) }
-    requires part { IsPart (grammar_of source.now) source.now.kinds.now places.old.items }
+    requires from { (from.place ≤ length site.source.now.kinds.now)
+        × (from.number < length (grammar_of site.source.now)) }
+    requires into { (site.place ≤ length site.source.now.kinds.now)
+        × (into ≤ length (grammar_of site.source.now)) }
+    requires part { IsPart (grammar_of site.source.now) site.source.now.kinds.now places.old.items }
     requires right { (n e : ℕ)
-        → Grows (grammar_of source.now) source.now.kinds.now n e from.number from.place
-        → IsTrueOf (grammar_of source.now) source.now.kinds.now into.number into.place n e }
-    ensures added { OnOk result (IsAdded (grammar_of source.now) source.now.kinds.now into.place
-        places.old.items places.new.items) }
+        → Grows (grammar_of site.source.now) site.source.now.kinds.now n e from.number from.place
+        → IsTrueOf (grammar_of site.source.now) site.source.now.kinds.now into site.place n e }
+    ensures added { OnOk result (IsAdded (grammar_of site.entry.source.now)
+        site.entry.source.now.kinds.now site.entry.place places.old.items places.new.items) }
     ensures same { IfOk result (λ more. more ≡ false → IsSame places.old.items places.new.items) }
-    ensures has { OnOk result ((n e : ℕ)
-        → IsListed source.now.kinds.now places.old.items from.place from.number n e
-        → IsListed source.now.kinds.now places.new.items into.place into.number n e) }
+    ensures has { OnOk result ((n e : ℕ) → IsListed site.entry.source.now.kinds.now
+        places.old.items from.place from.number n e
+        → IsListed site.entry.source.now.kinds.now places.new.items
+        site.entry.place into n e) }
 {
-    let list = copy(alloc, &places[from.place][from.number])?;
-    let width = source.kinds.len() / 64 + 1;
-    add_at(arena, width, &mut places[into.place], into.number, &list)
+    let list = copy(site.alloc, &places[from.place][from.number])?;
+    let width = site.source.kinds.len() / 64 + 1;
+    add_at(site.arena, width, &mut places[site.place], into, &list)
 }
 
 // Adds the nonterminal itself at the places of the row, and tells whether that is more.
 fn add_itself<'a>(
-    arena: &'a Bump,
-    source: &Source<'_>,
+    site: Site<'a, '_>,
     places: &mut Vec<Vec<Vec<Entry<'a>>>>,
     ends: &[u64],
     nonterminal: usize,
-    into: ListAt,
+    into: usize,
 ) -> Result<bool, Memory>
     requires nonterminal { nonterminal < 4294967296 }
-    requires into { (into.place ≤ length source.now.kinds.now)
-        × (into.number ≤ length (grammar_of source.now)) }
-    requires part { IsPart (grammar_of source.now) source.now.kinds.now places.old.items }
-    requires wide { length ends.now ≡ width_of source.now.kinds.now }
-    requires right { (e : ℕ) → e ≤ length source.now.kinds.now → Has ends.now e
-        → IsTrueOf (grammar_of source.now) source.now.kinds.now into.number into.place
+    requires into { (site.place ≤ length site.source.now.kinds.now)
+        × (into ≤ length (grammar_of site.source.now)) }
+    requires part { IsPart (grammar_of site.source.now) site.source.now.kinds.now places.old.items }
+    requires wide { length ends.now ≡ width_of site.source.now.kinds.now }
+    requires right { (e : ℕ) → e ≤ length site.source.now.kinds.now → Has ends.now e
+        → IsTrueOf (grammar_of site.source.now) site.source.now.kinds.now into site.place
         nonterminal e }
-    ensures added { OnOk result (IsAdded (grammar_of source.now) source.now.kinds.now into.place
-        places.old.items places.new.items) }
+    ensures added { OnOk result (IsAdded (grammar_of site.entry.source.now)
+        site.entry.source.now.kinds.now site.entry.place places.old.items places.new.items) }
     ensures same { IfOk result (λ more. more ≡ false → IsSame places.old.items places.new.items) }
-    ensures has { OnOk result ((e : ℕ) → e ≤ length source.now.kinds.now → Has ends.now e
-        → IsListed source.now.kinds.now places.new.items into.place into.number nonterminal e) }
+    ensures has { OnOk result ((e : ℕ) → e ≤ length site.entry.source.now.kinds.now
+        → Has ends.now e → IsListed site.entry.source.now.kinds.now places.new.items
+        site.entry.place into nonterminal e) }
 {
-    let row = match arena.try_alloc_slice_copy(ends) {
+    let row = match site.arena.try_alloc_slice_copy(ends) {
         Ok(copy) => copy,
         Err(_) => return Err(Memory),
     };
@@ -91,34 +106,33 @@ fn add_itself<'a>(
         nonterm: nonterminal as u32,
         row,
     }];
-    let width = source.kinds.len() / 64 + 1;
-    add_at(arena, width, &mut places[into.place], into.number, &itself)
+    let width = site.source.kinds.len() / 64 + 1;
+    add_at(site.arena, width, &mut places[site.place], into, &itself)
 }
 
 // Adds what grows from the nonterminal at the places, and tells whether that is more.
 fn add_growths<'a>(
-    alloc: Global,
-    arena: &'a Bump,
-    source: &Source<'_>,
+    site: Site<'a, '_>,
     places: &mut Vec<Vec<Vec<Entry<'a>>>>,
     ends: &[usize],
     nonterminal: usize,
-    into: ListAt,
+    into: usize,
 ) -> Result<bool, Memory>
-    requires nonterminal { nonterminal < length (grammar_of source.now) }
-    requires into { (into.place ≤ length source.now.kinds.now)
-        × (into.number ≤ length (grammar_of source.now)) }
-    requires part { IsPart (grammar_of source.now) source.now.kinds.now places.old.items }
-    requires within { (l : ℕ) → Contains ends.now l → l ≤ length source.now.kinds.now }
+    requires nonterminal { nonterminal < length (grammar_of site.source.now) }
+    requires into { (site.place ≤ length site.source.now.kinds.now)
+        × (into ≤ length (grammar_of site.source.now)) }
+    requires part { IsPart (grammar_of site.source.now) site.source.now.kinds.now places.old.items }
+    requires within { (l : ℕ) → Contains ends.now l → l ≤ length site.source.now.kinds.now }
     requires right { (l n e : ℕ) → Contains ends.now l
-        → Grows (grammar_of source.now) source.now.kinds.now n e nonterminal l
-        → IsTrueOf (grammar_of source.now) source.now.kinds.now into.number into.place n e }
-    ensures added { OnOk result (IsAdded (grammar_of source.now) source.now.kinds.now into.place
-        places.old.items places.new.items) }
+        → Grows (grammar_of site.source.now) site.source.now.kinds.now n e nonterminal l
+        → IsTrueOf (grammar_of site.source.now) site.source.now.kinds.now into site.place n e }
+    ensures added { OnOk result (IsAdded (grammar_of site.entry.source.now)
+        site.entry.source.now.kinds.now site.entry.place places.old.items places.new.items) }
     ensures same { IfOk result (λ more. more ≡ false → IsSame places.old.items places.new.items) }
-    ensures has { IfOk result (λ more. more ≡ false → (l n e : ℕ) → Contains ends.now l
-        → IsListed source.now.kinds.now places.old.items l nonterminal n e
-        → IsListed source.now.kinds.now places.old.items into.place into.number n e) }
+    ensures has { OnOk result ((l n e : ℕ) → Contains ends.now l
+        → IsListed site.entry.source.now.kinds.now places.old.items l nonterminal n e
+        → IsListed site.entry.source.now.kinds.now places.new.items
+        site.entry.place into n e) }
 {
     let mut more = false;
     for q in 0..ends.len() {
@@ -126,7 +140,7 @@ fn add_growths<'a>(
             place: ends[q],
             number: nonterminal,
         };
-        if add_list(alloc, arena, source, places, from, into)? {
+        if add_list(site, places, from, into)? {
             more = true;
         }
     }
@@ -136,64 +150,59 @@ fn add_growths<'a>(
 // Adds the nonterminal itself where the parts end, and what else grows from it there, and tells
 // whether that is more.
 fn add_far<'a>(
-    alloc: Global,
-    arena: &'a Bump,
-    source: &Source<'_>,
-    near: &[Vec<u64>],
+    site: Site<'a, '_>,
     places: &mut Vec<Vec<Vec<Entry<'a>>>>,
     parts: &[Symbol],
     nonterminal: usize,
-    into: ListAt,
+    into: usize,
 ) -> Result<bool, Memory>
-    requires nonterminal { nonterminal < length (grammar_of source.now) }
-    requires into { (into.place ≤ length source.now.kinds.now)
-        × (into.number ≤ length (grammar_of source.now)) }
-    requires part { IsPart (grammar_of source.now) source.now.kinds.now places.old.items }
-    requires near { AreNear (grammar_of source.now) source.now.kinds.now
-        places.old.items (into.place + 1) near.now }
-    requires right { IsRule (grammar_of source.now) source.now.kinds.now into.place nonterminal
-        parts.now into.number }
-    ensures added { OnOk result (IsAdded (grammar_of source.now) source.now.kinds.now into.place
-        places.old.items places.new.items) }
+    requires nonterminal { nonterminal < length (grammar_of site.source.now) }
+    requires into { (site.place ≤ length site.source.now.kinds.now)
+        × (into ≤ length (grammar_of site.source.now)) }
+    requires part { IsPart (grammar_of site.source.now) site.source.now.kinds.now places.old.items }
+    requires near { AreNear (grammar_of site.source.now) site.source.now.kinds.now
+        places.old.items (site.place + 1) site.near.now }
+    requires right { IsRule (grammar_of site.source.now) site.source.now.kinds.now site.place
+        nonterminal parts.now into }
+    ensures added { OnOk result (IsAdded (grammar_of site.entry.source.now)
+        site.entry.source.now.kinds.now site.entry.place places.old.items places.new.items) }
     ensures same { IfOk result (λ more. more ≡ false → IsSame places.old.items places.new.items) }
-    ensures follows { IfOk result (λ more. more ≡ false
-        → Follows (grammar_of source.now) source.now.kinds.now
-        places.new.items into.place nonterminal parts.now into.number) }
+    ensures follows { OnOk result (FollowsBy (grammar_of site.entry.source.now)
+        site.entry.source.now.kinds.now places.old.items places.new.items
+        site.entry.place nonterminal parts.now into) }
 {
-    let ends = run_ends(alloc, source, places, parts, into.place)?;
-    let itself = add_itself(arena, source, places, &ends, nonterminal, into)?;
-    let far = difference(alloc, &ends, &near[nonterminal], source.kinds.len() + 1)?;
-    let more = add_growths(alloc, arena, source, places, &far, nonterminal, into)?;
+    let ends = run_ends(site.alloc, site.source, places, parts, site.place)?;
+    let itself = add_itself(site, places, &ends, nonterminal, into)?;
+    let below = site.source.kinds.len() + 1;
+    let far = difference(site.alloc, &ends, &site.near[nonterminal], below)?;
+    let more = add_growths(site, places, &far, nonterminal, into)?;
     Ok(itself || more)
 }
 
 // Adds what grows from the nonterminal where the parts end, and tells whether that is more.
 fn add_run<'a>(
-    alloc: Global,
-    arena: &'a Bump,
-    source: &Source<'_>,
-    near: &[Vec<u64>],
+    site: Site<'a, '_>,
     places: &mut Vec<Vec<Vec<Entry<'a>>>>,
     parts: &[Symbol],
     nonterminal: usize,
-    into: ListAt,
+    into: usize,
 ) -> Result<bool, Memory>
-    requires nonterminal { nonterminal < length (grammar_of source.now) }
-    requires into { (into.place ≤ length source.now.kinds.now)
-        × (into.number ≤ length (grammar_of source.now)) }
-    requires part { IsPart (grammar_of source.now) source.now.kinds.now places.old.items }
-    requires near { AreNear (grammar_of source.now) source.now.kinds.now
-        places.old.items (into.place + 1) near.now }
-    requires right { IsRule (grammar_of source.now) source.now.kinds.now into.place nonterminal
-        parts.now into.number }
-    ensures added { OnOk result (IsAdded (grammar_of source.now) source.now.kinds.now into.place
-        places.old.items places.new.items) }
+    requires nonterminal { nonterminal < length (grammar_of site.source.now) }
+    requires into { (site.place ≤ length site.source.now.kinds.now)
+        × (into ≤ length (grammar_of site.source.now)) }
+    requires part { IsPart (grammar_of site.source.now) site.source.now.kinds.now places.old.items }
+    requires near { AreNear (grammar_of site.source.now) site.source.now.kinds.now
+        places.old.items (site.place + 1) site.near.now }
+    requires right { IsRule (grammar_of site.source.now) site.source.now.kinds.now site.place
+        nonterminal parts.now into }
+    ensures added { OnOk result (IsAdded (grammar_of site.entry.source.now)
+        site.entry.source.now.kinds.now site.entry.place places.old.items places.new.items) }
     ensures same { IfOk result (λ more. more ≡ false → IsSame places.old.items places.new.items) }
-    ensures follows { IfOk result (λ more. more ≡ false
-        → Follows (grammar_of source.now) source.now.kinds.now
-        places.new.items into.place nonterminal parts.now into.number) }
+    ensures follows { OnOk result (FollowsBy (grammar_of site.entry.source.now)
+        site.entry.source.now.kinds.now places.old.items places.new.items
+        site.entry.place nonterminal parts.now into) }
 {
-    let Some((rest, at)) = after_words(source.kinds, parts, into.place) else {
+    let Some((rest, at)) = after_words(site.source.kinds, parts, site.place) else {
         return Ok(false);
     };
     if rest.is_empty() {
@@ -201,158 +210,94 @@ fn add_run<'a>(
             place: at,
             number: nonterminal,
         };
-        return add_list(alloc, arena, source, places, from, into);
+        return add_list(site, places, from, into);
     }
-    if !can_begin(source, places, rest, at) {
+    if !can_begin(site.source, places, rest, at) {
         return Ok(false);
     }
-    add_far(alloc, arena, source, near, places, parts, nonterminal, into)
+    add_far(site, places, parts, nonterminal, into)
 }
 
-// Follows the rule of an alternative at a place, and tells whether anything was more.
-fn add_alternative<'a>(
-    alloc: Global,
-    arena: &'a Bump,
-    source: &Source<'_>,
-    near: &[Vec<u64>],
+// Follows a rule, and tells whether anything was more.
+fn follow<'a>(
+    site: Site<'a, '_>,
     places: &mut Vec<Vec<Vec<Entry<'a>>>>,
-    place: usize,
-    nonterminal: usize,
-    parts: &[Symbol],
+    rule: Rule<'_>,
 ) -> Result<bool, Memory>
-    requires place { place ≤ length source.now.kinds.now }
-    requires part { IsPart (grammar_of source.now) source.now.kinds.now places.old.items }
-    requires near { AreNear (grammar_of source.now) source.now.kinds.now
-        places.old.items (place + 1) near.now }
-    requires alternative { IsAlternative (grammar_of source.now) nonterminal parts.now }
-    ensures added { OnOk result (IsAdded (grammar_of source.now) source.now.kinds.now place
-        places.old.items places.new.items) }
+    requires place { site.place ≤ length site.source.now.kinds.now }
+    requires part { IsPart (grammar_of site.source.now) site.source.now.kinds.now places.old.items }
+    requires near { AreNear (grammar_of site.source.now) site.source.now.kinds.now
+        places.old.items (site.place + 1) site.near.now }
+    requires rule { IsAlternative (grammar_of site.source.now) rule.nonterminal rule.parts.now }
+    ensures added { OnOk result (IsAdded (grammar_of site.entry.source.now)
+        site.entry.source.now.kinds.now site.entry.place places.old.items places.new.items) }
     ensures same { IfOk result (λ more. more ≡ false → IsSame places.old.items places.new.items) }
-    ensures met { IfOk result (λ more. more ≡ false
-        → IsMet (grammar_of source.now) source.now.kinds.now
-        places.new.items place nonterminal parts.now) }
+    ensures met { OnOk result (IsMetBy (grammar_of site.entry.source.now)
+        site.entry.source.now.kinds.now places.old.items places.new.items
+        site.entry.place rule.entry.nonterminal rule.entry.parts.now) }
 {
-    let count = source.nonterminals.len();
-    match first_phrase(parts) {
-        None => {
-            let into = ListAt {
-                place,
-                number: count,
-            };
-            add_run(alloc, arena, source, near, places, parts, nonterminal, into)
-        }
+    let count = site.source.nonterminals.len();
+    match first_phrase(rule.parts) {
+        None => add_run(site, places, rule.parts, rule.nonterminal, count),
         Some(first) => {
-            let number = first as usize;
-            if number >= count {
+            let into = first as usize;
+            if into >= count {
                 return Ok(false);
             }
-            let (_, rest) = parts.split_at(1);
-            let into = ListAt { place, number };
-            add_run(alloc, arena, source, near, places, rest, nonterminal, into)
+            let (_, rest) = rule.parts.split_at(1);
+            add_run(site, places, rest, rule.nonterminal, into)
         }
     }
 }
 
-// Follows the rules of a nonterminal at a place, and tells whether anything was more.
-fn add_nonterminal<'a>(
-    alloc: Global,
-    arena: &'a Bump,
-    source: &Source<'_>,
-    near: &[Vec<u64>],
+// Follows each of the rules once, and tells whether anything was more.
+fn follow_each<'a>(
+    site: Site<'a, '_>,
     places: &mut Vec<Vec<Vec<Entry<'a>>>>,
-    place: usize,
-    nonterminal: usize,
-    alternatives: &[&[Symbol]],
+    rules: &[Rule<'_>],
 ) -> Result<bool, Memory>
-    requires place { place ≤ length source.now.kinds.now }
-    requires part { IsPart (grammar_of source.now) source.now.kinds.now places.old.items }
-    requires near { AreNear (grammar_of source.now) source.now.kinds.now
-        places.old.items (place + 1) near.now }
-    requires alternatives { slice_get (grammar_of source.now) nonterminal ≡ Some (alternatives_in
-        alternatives.now) }
-    ensures added { OnOk result (IsAdded (grammar_of source.now) source.now.kinds.now place
-        places.old.items places.new.items) }
-    ensures same { IfOk result (λ more. more ≡ false → IsSame places.old.items places.new.items) }
-    ensures met { IfOk result (λ more. more ≡ false
-        → AreMet (grammar_of source.now) source.now.kinds.now
-        places.new.items place nonterminal) }
+    requires place { site.place ≤ length site.source.now.kinds.now }
+    requires part { IsPart (grammar_of site.source.now) site.source.now.kinds.now places.old.items }
+    requires near { AreNear (grammar_of site.source.now) site.source.now.kinds.now
+        places.old.items (site.place + 1) site.near.now }
+    requires rules { AreRules (grammar_of site.source.now) rules.now }
+    ensures added { OnOk result (IsAdded (grammar_of site.entry.source.now)
+        site.entry.source.now.kinds.now site.entry.place places.old.items places.new.items) }
+    ensures met { IfOk result (λ more. (x : Rule) → Contains rules.now x
+        → (more ≡ false) ⊎ (class_of x.parts.now ≡ Behind)
+        → IsMet (grammar_of site.entry.source.now) site.entry.source.now.kinds.now
+        places.new.items site.entry.place x.nonterminal x.parts.now) }
 {
     let mut more = false;
-    for a in 0..alternatives.len() {
-        let parts = alternatives[a];
-        if add_alternative(
-            alloc,
-            arena,
-            source,
-            near,
-            places,
-            place,
-            nonterminal,
-            parts,
-        )? {
+    for k in 0..rules.len() {
+        if follow(site, places, rules[k])? {
             more = true;
         }
     }
     Ok(more)
 }
 
-// Follows each rule once at a place, and tells whether anything was more.
-fn round<'a>(
-    alloc: Global,
-    arena: &'a Bump,
-    source: &Source<'_>,
-    near: &[Vec<u64>],
-    places: &mut Vec<Vec<Vec<Entry<'a>>>>,
-    place: usize,
-) -> Result<bool, Memory>
-    requires place { place ≤ length source.now.kinds.now }
-    requires part { IsPart (grammar_of source.now) source.now.kinds.now places.old.items }
-    requires near { AreNear (grammar_of source.now) source.now.kinds.now
-        places.old.items (place + 1) near.now }
-    ensures added { OnOk result (IsAdded (grammar_of source.now) source.now.kinds.now place
-        places.old.items places.new.items) }
-    ensures closed { IfOk result (λ more. more ≡ false
-        → IsClosedAt (grammar_of source.now) source.now.kinds.now
-        places.new.items place) }
-{
-    let mut more = false;
-    for m in 0..source.nonterminals.len() {
-        if add_nonterminal(
-            alloc,
-            arena,
-            source,
-            near,
-            places,
-            place,
-            m,
-            source.nonterminals[m],
-        )? {
-            more = true;
-        }
-    }
-    Ok(more)
-}
-
-/// Repeats rounds at a place until one changes nothing.
+/// Follows the rules that read later places alone once, and repeats rounds of the others until one
+/// changes nothing.
 pub fn close<'a>(
-    alloc: Global,
-    arena: &'a Bump,
-    source: &Source<'_>,
-    near: &[Vec<u64>],
+    site: Site<'a, '_>,
+    lists: &RuleLists<'_>,
     places: &mut Vec<Vec<Vec<Entry<'a>>>>,
-    place: usize,
 ) -> Result<(), Memory>
-    requires place { place ≤ length source.now.kinds.now }
-    requires part { IsPart (grammar_of source.now) source.now.kinds.now places.old.items }
-    requires near { AreNear (grammar_of source.now) source.now.kinds.now
-        places.old.items (place + 1) near.now }
-    ensures added { OnOk result (IsAdded (grammar_of source.now) source.now.kinds.now place
-        places.old.items places.new.items) }
-    ensures closed { OnOk result (IsClosedAt (grammar_of source.now) source.now.kinds.now
-        places.new.items place) }
+    requires place { site.place ≤ length site.source.now.kinds.now }
+    requires part { IsPart (grammar_of site.source.now) site.source.now.kinds.now places.old.items }
+    requires near { AreNear (grammar_of site.source.now) site.source.now.kinds.now
+        places.old.items (site.place + 1) site.near.now }
+    requires lists { AreLists (grammar_of site.source.now) lists.now.behind.items
+        lists.now.here.items }
+    ensures added { OnOk result (IsAdded (grammar_of site.entry.source.now)
+        site.entry.source.now.kinds.now site.entry.place places.old.items places.new.items) }
+    ensures closed { OnOk result (IsClosedAt (grammar_of site.entry.source.now)
+        site.entry.source.now.kinds.now places.new.items site.entry.place) }
 {
+    follow_each(site, places, &lists.behind)?;
     for _ in 0..u64::MAX {
-        if !round(alloc, arena, source, near, places, place)? {
+        if !follow_each(site, places, &lists.here)? {
             return Ok(());
         }
     }

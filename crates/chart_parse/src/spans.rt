@@ -96,7 +96,7 @@ fn as_places(alloc: Global, list: &[usize]) -> Result<Vec<u32>, Memory>
 
 impl<'a> Chart<'a> {
     /// The chart of these lists.
-    pub fn of_places(source: Source<'a>, places: Vec<Vec<Vec<Entry<'a>>>>) -> Chart<'a>
+    pub(crate) fn of_places(source: Source<'a>, places: Vec<Vec<Vec<Entry<'a>>>>) -> Chart<'a>
         requires { IsExact (grammar_of source) source.kinds.now places.items }
         ensures grammar { result.grammar ≡ grammar_of source.entry }
         ensures kinds { result.kinds ≡ source.entry.kinds.now }

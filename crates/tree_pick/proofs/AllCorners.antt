@@ -37,7 +37,7 @@ parts_at list a parts lt e =
     let r : Some (get_or list a no_parts).now ≡ Some parts = sym (mapped_at (λ (p : Bor (List Part)). p.now) list a no_parts lt) ∙ e in
     cc
 
-corner_leads : (g : Numbered) (w : List LexKind) (pairs : List Beginning) → AreAllCorners g pairs → (n j c k m a : ℕ) (ps : Pieces) (l : ℕ) (more : Growth) → IsGrowth g w n j c k (Step m a ps l more) → Contains pairs (beginning c n)
+pub corner_leads : (g : Numbered) (w : List LexKind) (pairs : List Beginning) → AreAllCorners g pairs → (n j c k m a : ℕ) (ps : Pieces) (l : ℕ) (more : Growth) → IsGrowth g w n j c k (Step m a ps l more) → Contains pairs (beginning c n)
 corner_leads g w pairs all n j c k m a ps l Stay x = subst (λ (v : ℕ). Contains pairs (beginning c v)) x.3.0 (all.first m a c x.0 x.1)
 corner_leads g w pairs all n j c k m a ps l (Step p b qs h more) x =
     all.more (beginning m n) (corner_leads g w pairs all n j m l p b qs h more x.3) a c x.0 x.1

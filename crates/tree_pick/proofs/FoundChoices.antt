@@ -1,5 +1,5 @@
 -- What was found, and the choices among it.
-use Rattle.std.proofs.Common.{◌≡◌, ◌⊎◌, inl, inr, true, false, ◌==◌, ℕ, ◌+◌, ◌<◌, List, [], ◌∷◌, ◌++◌, length, slice_get, Some, None, Option, get_or, Contains, refl, sym, ap, subst, ◌∙◌, arith, take, drop, Bool}
+use Rattle.std.proofs.Common.{◌≡◌, ◌⊎◌, inl, inr, true, false, ◌==◌, ℕ, suc, ◌+◌, ◌-◌, ◌<◌, ◌≤◌, List, [], ◌∷◌, ◌++◌, length, slice_get, Some, None, Option, get_or, Contains, refl, sym, ap, subst, ◌∙◌, arith, take, drop, Bool}
 use Rattle.std.specs.Prelude.{◌↔◌}
 use Rattle.std.proofs.lemmas.List.{take-append-drop}
 use Rattle.std.proofs.lemmas.List.Elements.{Contains-get_or, Contains-append_left}
@@ -13,12 +13,14 @@ use Rattle.tree_pick.specs.declared.phrases.Choice.{Choice}
 use Rattle.tree_pick.specs.declared.phrases.Corner.{Corner}
 use Rattle.tree_pick.specs.declared.phrases.Corner.TheVariants.{Branch}
 use Rattle.tree_pick.specs.declared.phrases.Taken.{Taken}
-use Rattle.tree_pick.specs.Runs.{Cuts, CutsAmong}
+use Rattle.source_lex.specs.declared.numbered.Symbol.{Symbol as Part}
+use Rattle.source_lex.specs.declared.numbered.Symbol.TheVariants.{Word}
+use Rattle.tree_pick.specs.Runs.{AreWords, Leads, Cuts, CutsAmong}
 use Rattle.tree_pick.specs.Spines.{Stay, CanGrow}
 use Rattle.tree_pick.specs.Choices.{IsChoice, CanStep, CanTake, Takes, Fits, IsBehind, BeginsNot}
 use Rattle.tree_pick.proofs.LeftParts.{empty_list, some_list, fits_begins, fits_some}
 use Rattle.chart_parse.proofs.EndsOfParts.{alternative_within}
-use Rattle.tree_pick.proofs.FollowedParts.{no_part, pushed}
+use Rattle.tree_pick.proofs.FollowedParts.{no_part, first_part, pushed}
 use Rattle.tree_pick.proofs.Looked.{taken, taken_same}
 
 pub some_long : {A : Type 0} (xs : List A) (x : A) → Contains xs x → 0 < length xs
@@ -169,16 +171,31 @@ step_choice g w n j c k ch h apart = (
     first None e fits = absurd (apart fits)
     first (Some x) e fits = ap (λ (y : Taken). Some y) (h.1 e x fits)
 
--- the end of a phrase with nothing behind it
-pub last_cut : (g : Numbered) (w : List LexKind) (m : ℕ) (rest : Alternative) (i j : ℕ) → rest ≡ [] → ((h : ℕ) × Cuts g w m rest i j h) → IsChoice (Cuts g w m rest i j) (record { first = j; only = true })
-last_cut g w m rest i j empty some = (
+-- words lead from a place to one alone
+words_lead : (g : Numbered) (w : List LexKind) (parts : Alternative) → AreWords parts → (k e : ℕ) → HasPieces g w parts k e → k + length parts ≡ e
+words_lead g w [] all k e h = omega (arith, (no_part g w k e).0 h)
+words_lead g w (part ∷ rest) all k e h =
+    let x = (first_part g w part rest k e).0 h in
+    let word = all 0 (omega arith) in
+    let same : part ≡ Word word.0 = (let s : Some part ≡ Some (Word word.0) = word.1 in cc) in
+    let step = subst (λ (p : Part). Leads g w p k x.0) same x.1 in
+    let more = words_lead g w rest (λ j lt. all (suc j) (omega (arith, lt))) x.0 e x.2 in
+    omega (arith, step.1, more)
+
+-- the end of a phrase with words alone behind it
+pub last_cut : (g : Numbered) (w : List LexKind) (m : ℕ) (rest : Alternative) (i j : ℕ) → AreWords rest → ((h : ℕ) × Cuts g w m rest i j h) → IsChoice (Cuts g w m rest i j) (record { first = j - length rest; only = true })
+last_cut g w m rest i j words some = (
   subst (λ (h : ℕ). Cuts g w m rest i j h) (at some.0 some.1) some.1,
   λ yes x cut. at x cut,
   λ no. absurd (cc),
 )
   where
-    at : (h : ℕ) → Cuts g w m rest i j h → h ≡ j
-    at h cut = (no_part g w h j).0 (subst (λ (r : Alternative). HasPieces g w r h j) empty cut.1)
+    at : (h : ℕ) → Cuts g w m rest i j h → h ≡ j - length rest
+    at h cut = omega (arith, words_lead g w rest words h j cut.1)
+
+-- there is room for words that lead to a place
+pub words_within : (g : Numbered) (w : List LexKind) (m : ℕ) (rest : Alternative) (i j : ℕ) → AreWords rest → ((h : ℕ) × Cuts g w m rest i j h) → length rest ≤ j
+words_within g w m rest i j words some = omega (arith, words_lead g w rest words some.0 j some.1.1)
 
 -- what is found so far: nothing, or the one that fits
 abbrev pub IsOnly : Option ℕ → (ℕ → Type 0) → Type 0

@@ -12,3 +12,4 @@ mod LeftParts
 mod FoundChoices
 mod FewAlternatives
 mod AllCorners
+mod FirstLists

@@ -1,5 +1,7 @@
 -- Which nonterminals can begin which.
-use Rattle.std.specs.Prelude.{◌≡◌, ℕ, List, ◌∷◌, slice_get, Some, Contains}
+use Rattle.std.specs.Prelude.{◌≡◌, ◌⊎◌, ℕ, ◌<◌, List, ◌∷◌, length, slice_get, Some, Contains, Vec}
+use Rattle.std.specs.Global.{Global}
+use Rattle.chart_parse.specs.Places.{row_at}
 use Rattle.source_lex.specs.Numbered.{Alternative, Numbered, alternative_of}
 use Rattle.source_lex.specs.declared.numbered.Symbol.TheVariants.{Phrase}
 use Rattle.tree_pick.specs.declared.corners.Beginning.{Beginning}
@@ -24,3 +26,26 @@ HasFirsts g pairs m n =
 pub record AreAllCorners (g : Numbered) (pairs : List Beginning) : Type 0 where
   pub first : (n : ℕ) → HasFirsts g pairs n n
   pub more : (x : Beginning) → Contains pairs x → HasFirsts g pairs x.first x.whole
+
+-- lists, one for each nonterminal, of nonterminals
+pub record AreLists (total : ℕ) (lists : List (Vec ℕ Global)) : Type 0 where
+  pub count : length lists ≡ total
+  pub below : (n c : ℕ) → Contains (row_at lists n) c → c < total
+
+-- each nonterminal is in its own list
+abbrev pub HaveOwn : (count : ℕ) → List (Vec ℕ Global) → Type 0
+HaveOwn count lists = (n : ℕ) → n < count → Contains (row_at lists n) n
+
+-- the one of the pair is in the list of the other
+abbrev pub HasFirst : (count : ℕ) → List (Vec ℕ Global) → Beginning → Type 0
+HasFirst count lists x = x.first < count → x.whole < count → Contains (row_at lists x.whole) x.first
+
+-- the new lists have what the old ones have
+abbrev pub AreMore : (old new : List (Vec ℕ Global)) → Type 0
+AreMore old new = (n c : ℕ) → Contains (row_at old n) c → Contains (row_at new n) c
+
+-- for each nonterminal itself and those that begin it
+pub record AreFirsts (count : ℕ) (pairs : List Beginning) (all : List (Vec ℕ Global)) : Type 0 where
+  pub lists : AreLists count all
+  pub own : HaveOwn count all
+  pub firsts : (x : Beginning) → Contains pairs x → HasFirst count all x

@@ -17,6 +17,10 @@ HaveFewAlternatives g =
 abbrev pub AreWithin : (w : List LexKind) → (places : List ℕ) → Type 0
 AreWithin w places = (k : ℕ) → Contains places k → k ≤ length w
 
+-- the parts are words alone
+abbrev pub AreWords : Alternative → Type 0
+AreWords parts = (k : ℕ) → k < length parts → (c : LexKind) × (slice_get parts k ≡ Some (Word c))
+
 -- the part leads from k to e
 abbrev pub Leads : (g : Numbered) (w : List LexKind) → Symbol → (k e : ℕ) → Type 0
 Leads g w (Word c) k e = (slice_get w k ≡ Some c) × (k + 1 ≡ e)

@@ -1,10 +1,10 @@
 //! What can be chosen at a spot of a tree, and whether it is the only choice.
-ghost use Rattle.std.specs.Prelude.{◌≡◌, ◌<◌, ◌≤◌, ◌⊎◌, ◌↔◌, ℕ, length, Some, IfOk, OnOk, IsTrue, MatchOption, Contains};
+ghost use Rattle.std.specs.Prelude.{◌≡◌, ◌<◌, ◌≤◌, ◌⊎◌, ◌↔◌, ℕ, length, Some, IfOk, OnOk, IsTrue, MatchOption, Contains, true};
 ghost use Rattle.source_lex.specs.Numbered.{Alternative, alternative_of};
 ghost use Rattle.source_lex.specs.Trees.{Has};
 ghost use Rattle.chart_parse.specs.Growths.{HasPieces};
 ghost use Rattle.tree_pick.specs.declared.phrases.Corner.TheVariants.{Leaf, Branch};
-ghost use Rattle.tree_pick.specs.Runs.{AreWithin, Cuts, CutsAmong};
+ghost use Rattle.tree_pick.specs.Runs.{AreWithin, AreWords, Cuts, CutsAmong};
 ghost use Rattle.tree_pick.specs.Spines.{CanGrow, GrowsAlone};
 ghost use Rattle.tree_pick.specs.Choices.{IsChoice, BeginsNot, IsBehind, IsWithin, CanTake, Takes, CanLeaf, CanStep};
 
@@ -261,8 +261,9 @@ fn all_taken(parse: &Parse<'_>, corner: Corner, into: Span) -> Result<Vec<Taken>
         ↔ CanTake parse.now.grammar parse.now.kinds corner into.nonterm into.end x) }
 {
     let mut found = Vec::new(parse.alloc());
-    for production in 0..parse.nonterminals() {
-        add_production(parse, corner, production, into, &mut found)?;
+    let firsts = parse.firsts(into.nonterm);
+    for k in 0..firsts.len() {
+        add_production(parse, corner, firsts[k], into, &mut found)?;
     }
     Ok(found)
 }
@@ -366,6 +367,19 @@ fn cut_among(
     })
 }
 
+/// Whether the parts are words alone.
+fn are_words(parts: &[Symbol]) -> bool
+    ensures { result ≡ true → AreWords parts.now }
+{
+    for k in 0..parts.len() {
+        match parts[k] {
+            Symbol::Word(_) => {}
+            Symbol::Phrase(_) => return false,
+        }
+    }
+    true
+}
+
 /// Where the phrase of the nonterminal ends, of which the rest leads to the end.
 pub fn cut(
     parse: &Parse<'_>,
@@ -380,9 +394,9 @@ pub fn cut(
     ensures { IfOk result (IsChoice (Cuts parse.now.grammar parse.now.kinds
         nonterm rest.now at end)) }
 {
-    if rest.is_empty() {
+    if are_words(rest) {
         return Ok(Choice {
-            first: end,
+            first: end - rest.len() as u32,
             only: true,
         });
     }

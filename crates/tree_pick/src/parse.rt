@@ -2,15 +2,14 @@
 ghost use Rattle.std.specs.Prelude.{◌≡◌, ◌<◌, ◌≤◌, ◌↔◌, false, ℕ, length, slice_get, Some, IsTrue, IfOk, Contains};
 ghost use Rattle.source_lex.specs.Numbered.{Alternative, alternative_of, plain_alternatives, plain_numbered};
 ghost use Rattle.source_lex.specs.Trees.{Has};
-ghost use Rattle.tree_pick.specs.Corners.{AreAllCorners};
+ghost use Rattle.tree_pick.specs.Corners.{AreAllCorners, AreFirsts};
 ghost use Rattle.tree_pick.specs.Runs.{HaveFewAlternatives};
 ghost use Rattle.tree_pick.specs.Spines.{CanGrow, GrowsAlone};
 
-use crate::corners::{Beginning, is_corner};
+use crate::corners::{Corners, is_corner};
 use crate::phrases::Span;
 use acg_base::Memory;
 use chart_parse::Chart;
-use indexmap::IndexSet;
 use source_lex::{LexKind, Symbol};
 use std::alloc::Global;
 use std::marker::Model;
@@ -24,14 +23,14 @@ pub struct Parse<'c> {
     kinds: &'c [LexKind],
     chart: &'c Chart<'c>,
     count: u32,
-    corners: &'c IndexSet<Beginning>,
+    corners: &'c Corners,
 }
 
 impl<'c> Model for Parse<'c> {
     ghost use Rattle.std.specs.Prelude.{◌≡◌, ◌<◌, length};
     ghost use Rattle.source_lex.specs.Numbered.{plain_numbered};
     ghost use Rattle.chart_parse.specs.Charts.{PlainChart};
-    ghost use Rattle.tree_pick.specs.Corners.{AreAllCorners};
+    ghost use Rattle.tree_pick.specs.Corners.{AreAllCorners, AreFirsts};
     ghost use Rattle.tree_pick.specs.Runs.{HaveFewAlternatives};
 
     ghost Value = { PlainChart };
@@ -45,7 +44,9 @@ impl<'c> Model for Parse<'c> {
         × (p.chart.now.kinds ≡ p.kinds.now)
         × (length p.nonterminals.now < 4294967296) × (length p.kinds.now ≡ p.count)
         × HaveFewAlternatives (plain_numbered p.nonterminals.now)
-        × AreAllCorners (plain_numbered p.nonterminals.now) p.corners.now.keys };
+        × AreAllCorners (plain_numbered p.nonterminals.now) p.corners.now.pairs.keys
+        × AreFirsts (length p.nonterminals.now) p.corners.now.pairs.keys
+        p.corners.now.firsts.items };
 }
 
 impl<'c> Parse<'c> {
@@ -55,13 +56,15 @@ impl<'c> Parse<'c> {
         nonterminals: &'c [&'c [&'c [Symbol]]],
         kinds: &'c [LexKind],
         chart: &'c Chart<'c>,
-        corners: &'c IndexSet<Beginning>,
+        corners: &'c Corners,
     ) -> Parse<'c>
         requires grammar { chart.now.grammar ≡ plain_numbered nonterminals.now }
         requires kinds { chart.now.kinds ≡ kinds.now }
         requires few { length nonterminals.now < 4294967296 }
         requires alternatives { HaveFewAlternatives (plain_numbered nonterminals.now) }
-        requires corners { AreAllCorners (plain_numbered nonterminals.now) corners.now.keys }
+        requires corners { AreAllCorners (plain_numbered nonterminals.now) corners.now.pairs.keys }
+        requires firsts { AreFirsts (length nonterminals.now) corners.now.pairs.keys
+            corners.now.firsts.items }
         ensures grammar { result.grammar ≡ plain_numbered nonterminals.now }
         ensures kinds { result.kinds ≡ kinds.now }
         ensures short { length kinds.now < 4294967296 }
@@ -86,13 +89,6 @@ impl<'c> Parse<'c> {
         ensures { result ≡ length self.now.kinds }
     {
         self.count
-    }
-
-    /// How many nonterminals there are.
-    pub fn nonterminals(&self) -> u32
-        ensures { result ≡ length self.now.grammar }
-    {
-        self.nonterminals.len() as u32
     }
 
     /// Whether a lexeme of the kind stands at the place.
@@ -152,11 +148,23 @@ impl<'c> Parse<'c> {
         self.chart.grows(from, k, into.nonterm, into.end)
     }
 
+    /// The nonterminal itself and those that begin it: what grows into it is one of these.
+    pub fn firsts(&self, whole: u32) -> &'c [u32]
+        ensures below { (c : ℕ) → Contains result.now c → c < length self.now.grammar }
+        ensures all { (j c k : ℕ) → c < length self.now.grammar
+            → CanGrow self.now.grammar self.now.kinds whole j c k → Contains result.now c }
+    {
+        match self.corners.firsts.get(whole as usize) {
+            Some(list) => list.as_slice(),
+            None => &[],
+        }
+    }
+
     /// Whether a phrase of `whole` can begin with one of `first`; if not, one of `first` grows into
     /// no other.
     pub fn leads(&self, first: u32, whole: u32) -> bool
         ensures { result ≡ false → GrowsAlone self.now.grammar self.now.kinds first whole }
     {
-        is_corner(self.corners, first, whole)
+        is_corner(&self.corners.pairs, first, whole)
     }
 }

@@ -8,7 +8,7 @@ ghost use Rattle.tree_pick.specs.Uniform.{IsUniform};
 ghost use Rattle.tree_pick.specs.Picked.{IsTreeError};
 
 use crate::building::build;
-use crate::corners::corners;
+use crate::corners::find_corners;
 use crate::errors::TreeError;
 use crate::parse::Parse;
 use crate::phrases::Span;
@@ -78,7 +78,7 @@ pub fn pick<'a>(
 {
     let numbered = NumberedGrammar::new(alloc, arena, grammar)?;
     let kinds = kinds(arena, lexemes.list)?;
-    let corners = corners(alloc, numbered.nonterminals)?;
+    let corners = find_corners(alloc, numbered.nonterminals)?;
     let parse = Parse::new(alloc, numbered.nonterminals, kinds, chart, &corners);
     pick_of(arena, &parse)
 }

@@ -2,6 +2,12 @@
 #![tactic(auto)]
 
 #[cfg(test)]
+mod counting;
+#[cfg(test)]
+mod limits;
+#[cfg(test)]
+mod random;
+#[cfg(test)]
 mod sources;
 #[cfg(test)]
 mod trees;

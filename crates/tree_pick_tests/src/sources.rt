@@ -8,7 +8,7 @@ use acg_base::Memory;
 use bumpalo::Bump;
 use chart_parse::filling::chart;
 use gram_form::{Grammar, Production, Tree, TreePart};
-use source_lex::scan;
+use source_lex::{ScanError, scan};
 use std::alloc::Global;
 use std::test::Fail;
 use tree_pick::{TreeError, pick};
@@ -42,6 +42,27 @@ pub fn answer<'a>(
         Err(TreeError::NoTree) => Ok(Picked::NoTree),
         Err(TreeError::Ambiguous) => Ok(Picked::Ambiguous),
         Err(TreeError::Memory) => Err(Memory)?,
+    }
+}
+
+/// Whether the source has more lexemes than there may be, by a grammar of fewer than 100 literals.
+pub fn has_too_many(
+    alloc: Global,
+    arena: &Bump,
+    list: &[Production<'_>],
+    source: &[u8],
+) -> Result<bool, Fail>
+    requires distinct { HaveDistinctNames (map plain_production list.now) }
+    requires few { AreFew (map plain_production list.now) }
+{
+    let grammar = Grammar::build(alloc, arena, list)?;
+    if grammar.literals.len() >= 100 || source.len() >= 10000 {
+        return Err(Memory)?;
+    }
+    match scan(alloc, arena, &grammar, source) {
+        Err(ScanError::Count) => Ok(true),
+        Ok(_) | Err(ScanError::BadByte { offset: _ }) => Ok(false),
+        Err(ScanError::Memory) => Err(Memory)?,
     }
 }
 

@@ -10,54 +10,54 @@ use Rattle.chart_parse.proofs.rules.add_itself.Goals as goal
 
 pub add_at-requires-clause-inside : goal.add_at-requires-clause-inside
 add_at-requires-clause-inside c =
-    let lt : c.args.into.place < length c.args.places.now.items = omega (arith, c.requires.part.count, c.requires.into.0) in
-    let len = ap length (lists_there c.args.places.now.items c.args.into.place c.index_mut.result.now lt c.index_mut.ensures.value) in
-    omega (arith, len, c.requires.part.tables c.args.into.place c.requires.into.0, c.requires.into.1)
+    let lt : c.args.site.place < length c.args.places.now.items = omega (arith, c.requires.part.count, c.requires.into.0) in
+    let len = ap length (lists_there c.args.places.now.items c.args.site.place c.index_mut.result.now lt c.index_mut.ensures.value) in
+    omega (arith, len, c.requires.part.tables c.args.site.place c.requires.into.0, c.requires.into.1)
 
 pub add_at-requires-clause-wide : goal.add_at-requires-clause-wide
 add_at-requires-clause-wide c =
-    let lt : c.args.into.place < length c.args.places.now.items = omega (arith, c.requires.part.count, c.requires.into.0) in
-    subst (AllWide (width_of c.args.source.now.kinds.now)) (lists_there c.args.places.now.items c.args.into.place c.index_mut.result.now lt c.index_mut.ensures.value) (λ n. c.requires.part.wide c.args.into.place n)
+    let lt : c.args.site.place < length c.args.places.now.items = omega (arith, c.requires.part.count, c.requires.into.0) in
+    subst (AllWide (width_of c.args.site.source.now.kinds.now)) (lists_there c.args.places.now.items c.args.site.place c.index_mut.result.now lt c.index_mut.ensures.value) (λ n. c.requires.part.wide c.args.site.place n)
 
 pub returns-clause-added : goal.returns-clause-added
 returns-clause-added c =
-    let g = grammar_of c.args.source.now in
-    let w = c.args.source.now.kinds.now in
+    let g = grammar_of c.args.site.source.now in
+    let w = c.args.site.source.now.kinds.now in
     let p : Places = c.args.places.now.items in
-    let k : ℕ = c.args.into.place in
+    let k : ℕ = c.args.site.place in
     let v : Vec (Vec Entry Global) Global = c.add_at.new.table in
     let was : Vec (Vec Entry Global) Global = c.index_mut.result.now in
     let itself : List Entry = record { nonterm = c.args.nonterminal; row = record { ref_ptr = (0, 0); now = c.in-Ok.copy.now } } ∷ [] in
-    on_four c.add_at.result (length v.items ≡ length was.items) ((n : ℕ) → n ≢ c.args.into.number → list_at v.items n ≡ list_at was.items n) (AllWide (width_of w) v.items)
-    (ListsBoth (width_of w) (list_at was.items c.args.into.number) itself (list_at v.items c.args.into.number)) (IsAdded g w k p (slice_set p k v)) c.add_at.ensures.len c.add_at.ensures.others c.add_at.ensures.wide c.add_at.ensures.joined
-    (λ a b d f. list_taken g w p k c.args.into.number itself was v c.requires.part c.requires.into.0 c.requires.into.1 c.index_mut.ensures.value a b d f
+    on_four c.add_at.result (length v.items ≡ length was.items) ((n : ℕ) → n ≢ c.args.into → list_at v.items n ≡ list_at was.items n) (AllWide (width_of w) v.items)
+    (ListsBoth (width_of w) (list_at was.items c.args.into) itself (list_at v.items c.args.into)) (IsAdded g w k p (slice_set p k v)) c.add_at.ensures.len c.add_at.ensures.others c.add_at.ensures.wide c.add_at.ensures.joined
+    (λ a b d f. list_taken g w p k c.args.into itself was v c.requires.part c.requires.into.0 c.requires.into.1 c.index_mut.ensures.value a b d f
     (λ n x le h. elim h [
-      | inl q ↦ subst (λ (i : ℕ). IsTrueOf g w c.args.into.number k i x) q.0 (c.requires.right x le (subst (λ (r : List ℕ). Has r x) c.in-Ok.ensures q.1))
+      | inl q ↦ subst (λ (i : ℕ). IsTrueOf g w c.args.into k i x) q.0 (c.requires.right x le (subst (λ (r : List ℕ). Has r x) c.in-Ok.ensures q.1))
       | inr q ↦ absurd q
     ]))
 
 pub returns-clause-same : goal.returns-clause-same
 returns-clause-same c =
     let p : Places = c.args.places.now.items in
-    let k : ℕ = c.args.into.place in
+    let k : ℕ = c.args.site.place in
     let v : Vec (Vec Entry Global) Global = c.add_at.new.table in
     let was : Vec (Vec Entry Global) Global = c.index_mut.result.now in
     let lt : k < length p = omega (arith, c.requires.part.count, c.requires.into.0) in
-    if_on c.add_at.result (λ more. more ≡ false → list_at v.items c.args.into.number ≡ list_at was.items c.args.into.number) (λ more. more ≡ false → IsSame p (slice_set p k v)) ((n : ℕ) → n ≢ c.args.into.number → list_at v.items n ≡ list_at was.items n)
+    if_on c.add_at.result (λ more. more ≡ false → list_at v.items c.args.into ≡ list_at was.items c.args.into) (λ more. more ≡ false → IsSame p (slice_set p k v)) ((n : ℕ) → n ≢ c.args.into → list_at v.items n ≡ list_at was.items n)
     c.add_at.ensures.same c.add_at.ensures.others
-    (λ more h others q. same_set c.args.source.now.kinds.now p k c.args.into.number was v lt c.index_mut.ensures.value others (h q))
+    (λ more h others q. same_set c.args.site.source.now.kinds.now p k c.args.into was v lt c.index_mut.ensures.value others (h q))
 
 pub returns-clause-has : goal.returns-clause-has
 returns-clause-has c =
-    let g = grammar_of c.args.source.now in
-    let w = c.args.source.now.kinds.now in
+    let g = grammar_of c.args.site.source.now in
+    let w = c.args.site.source.now.kinds.now in
     let p : Places = c.args.places.now.items in
-    let k : ℕ = c.args.into.place in
+    let k : ℕ = c.args.site.place in
     let v : Vec (Vec Entry Global) Global = c.add_at.new.table in
     let was : Vec (Vec Entry Global) Global = c.index_mut.result.now in
     let itself : List Entry = record { nonterm = c.args.nonterminal; row = record { ref_ptr = (0, 0); now = c.in-Ok.copy.now } } ∷ [] in
-    on_four c.add_at.result (length v.items ≡ length was.items) ((n : ℕ) → n ≢ c.args.into.number → list_at v.items n ≡ list_at was.items n) (AllWide (width_of w) v.items)
-    (ListsBoth (width_of w) (list_at was.items c.args.into.number) itself (list_at v.items c.args.into.number))
-    ((e : ℕ) → e ≤ length w → Has c.args.ends.now e → IsListed w (slice_set p k v) k c.args.into.number c.args.nonterminal e) c.add_at.ensures.len c.add_at.ensures.others c.add_at.ensures.wide c.add_at.ensures.joined
-    (λ a b d f x le h. then_listed g w p k c.args.into.number itself was v c.requires.part c.requires.into.0 c.requires.into.1 c.index_mut.ensures.value a b d f c.args.nonterminal x le
+    on_four c.add_at.result (length v.items ≡ length was.items) ((n : ℕ) → n ≢ c.args.into → list_at v.items n ≡ list_at was.items n) (AllWide (width_of w) v.items)
+    (ListsBoth (width_of w) (list_at was.items c.args.into) itself (list_at v.items c.args.into))
+    ((e : ℕ) → e ≤ length w → Has c.args.ends.now e → IsListed w (slice_set p k v) k c.args.into c.args.nonterminal e) c.add_at.ensures.len c.add_at.ensures.others c.add_at.ensures.wide c.add_at.ensures.joined
+    (λ a b d f x le h. then_listed g w p k c.args.into itself was v c.requires.part c.requires.into.0 c.requires.into.1 c.index_mut.ensures.value a b d f c.args.nonterminal x le
     (inl (refl, subst (λ (r : List ℕ). Has r x) (sym c.in-Ok.ensures) h)))

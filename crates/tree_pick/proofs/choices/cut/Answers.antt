@@ -1,17 +1,24 @@
-use Rattle.std.proofs.Common.{ℕ, List, Contains, sym, subst}
+use Rattle.std.proofs.Common.{ℕ, List, Contains, sym, subst, arith}
 use Rattle.std.specs.Prelude.{◌↔◌}
 use Rattle.std.proofs.lemmas.Result.{IfOk-weaker}
 use Rattle.source_lex.specs.Trees.{Has}
 use Rattle.chart_parse.proofs.LeftCorners.{tree_within}
 use Rattle.tree_pick.specs.Runs.{Cuts, CutsAmong}
-use Rattle.tree_pick.proofs.LeftParts.{empty_list}
 use Rattle.tree_pick.proofs.FollowedParts.{choice_of}
-use Rattle.tree_pick.proofs.FoundChoices.{last_cut}
+use Rattle.tree_pick.proofs.FoundChoices.{last_cut, words_within}
 use Rattle.tree_pick.proofs.choices.cut.Goals as goal
 
-pub returns-then-is_empty : goal.returns-then-is_empty
-returns-then-is_empty c =
-    last_cut c.args.parse.now.grammar c.args.parse.now.kinds c.args.nonterm c.args.rest.now c.args.at c.args.end (empty_list c.args.rest.now c.if-is_empty.ensures) c.requires.some
+pub overflow_cast-result : goal.overflow_cast-result
+overflow_cast-result c =
+    let le = words_within c.args.parse.now.grammar c.args.parse.now.kinds c.args.nonterm c.args.rest.now c.args.at c.args.end (c.are_words.ensures c.if-are_words.true) c.requires.some in
+    omega (arith, le, c.requires.places.1, c.requires.short)
+
+pub overflow_sub-result : goal.overflow_sub-result
+overflow_sub-result c = words_within c.args.parse.now.grammar c.args.parse.now.kinds c.args.nonterm c.args.rest.now c.args.at c.args.end (c.are_words.ensures c.if-are_words.true) c.requires.some
+
+pub returns-then-are_words : goal.returns-then-are_words
+returns-then-are_words c =
+    last_cut c.args.parse.now.grammar c.args.parse.now.kinds c.args.nonterm c.args.rest.now c.args.at c.args.end (c.are_words.ensures c.if-are_words.true) c.requires.some
 
 pub cut_among-requires-clause-some : goal.cut_among-requires-clause-some
 cut_among-requires-clause-some c =

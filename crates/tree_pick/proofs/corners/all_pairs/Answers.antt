@@ -3,7 +3,7 @@ use Rattle.source_lex.specs.Numbered.{Numbered, plain_numbered}
 use Rattle.tree_pick.specs.declared.corners.Beginning.{Beginning}
 use Rattle.tree_pick.proofs.AllCorners.{firsts_kept, firsts_more}
 use Rattle.tree_pick.proofs.Longer.{all_below, longer_kept}
-use Rattle.tree_pick.proofs.corners.corners.Goals as goal
+use Rattle.tree_pick.proofs.corners.all_pairs.Goals as goal
 
 pub returns-in_default : goal.returns-in_default
 returns-in_default c =
