@@ -73,7 +73,7 @@ performance-runs _ is = absurd is
 -- what is replied to `act` over a store that tells its contents
 pub act-performs :
     (contents : Contents) (c : Capacity) (budget : ℕ) (action : List ℕ) (input : Option (List ℕ)) (givens : List (List ℕ)) (text : List ℕ) (s : Status) →
-    AreGiven contents (readings_of (files_if (Some (Act c budget action input))) givens) → Replies (Act c budget action input) givens None text s →
+    AreGiven contents (readings_of (files_if (Some (Act c budget action input))) givens) → Replies (Act c budget action input) givens text s →
     s ≢ status.ReadFault → PerformsAsked contents (Some (Act c budget action input)) s
 act-performs contents c budget action input [] text s given (inl (line, unread, says)) not content g bytes there built sorted is within =
     subst IsOfRun (sym says.1) (unread-runs action line unread (λ e. not (says.1 ∙ e)))

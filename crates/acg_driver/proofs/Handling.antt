@@ -50,11 +50,10 @@ module _ {S K : Type 0} {store : Store S} {sink : Sink K} where
   handled-refused {A} {Wanted} {old} {new} {out} {gained} {result} command line gathered answered some = record {
     served = record {
       givens = gathered.refused.0;
-      written = None;
       text = bytes_of line;
       status = status_of line;
       said = inl (line, gathered.refused.1, (refl, refl));
-      stored = gathered.refused.2;
+      read = gathered.refused.2;
       answered = answered;
     };
     surely = λ sure. let asks = gathered.surely sure in record {
@@ -76,11 +75,10 @@ module _ {S K : Type 0} {store : Store S} {sink : Sink K} where
   handled-said {A} {Wanted} {old} {new} {out} {gained} {result} command a gathered said quiet some = record {
     served = record {
       givens = gathered.wanted.0;
-      written = None;
       text = said.text;
       status = said.status;
       said = inr said.said;
-      stored = reads-as said.status quiet gathered.wanted.2;
+      read = reads-as said.status quiet gathered.wanted.2;
       answered = said.answered;
     };
     surely = λ sure. let asks = gathered.surely sure in record {
@@ -98,11 +96,10 @@ module _ {S K : Type 0} {store : Store S} {sink : Sink K} where
   handled-none {store_now} answered = record {
     served = record {
       givens = [];
-      written = None;
       text = bytes_of Words;
       status = status_of Words;
       said = (refl, (refl, refl));
-      stored = reads-as status.Words (λ e. cc) (reads-none store_now);
+      read = reads-as status.Words (λ e. cc) (reads-none store_now);
       answered = answered;
     };
     surely = λ sure. record {
@@ -118,11 +115,10 @@ module _ {S K : Type 0} {store : Store S} {sink : Sink K} where
   handled-alone {store_now} {out} {gained} {result} command text none carries answered = record {
     served = record {
       givens = [];
-      written = None;
       text = text;
       status = status.Done;
       said = inr carries;
-      stored = subst (λ files. ReadOnly store (readings_of files []) status.Done store_now store_now) (sym none) (reads-none store_now);
+      read = subst (λ files. ReadOnly store (readings_of files []) status.Done store_now store_now) (sym none) (reads-none store_now);
       answered = answered;
     };
     surely = λ sure. record {

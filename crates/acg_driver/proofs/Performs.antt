@@ -9,14 +9,14 @@ use Rattle.acg_base.specs.declared.status.Status.TheVariants as status
 use Rattle.action_terms.specs.Acting.{End, Done, Esc, Fail, Tree}
 use Rattle.action_terms.specs.Numbering.{Listed}
 use Rattle.rv_code.specs.Machine.{State, Outcome, Ran, Exited, Trapped}
-use Rattle.acg_words.specs.Commands.{Command, Compile, Go, Sorts, Act, Run, Perform, Help, Version}
+use Rattle.acg_words.specs.Commands.{Command, Act, Run, Perform, Help, Version}
 use Rattle.acg_words.specs.Lines.{status_of, exit_status}
 use Rattle.acg_words.specs.declared.line.Line.{Line}
 use Rattle.acg_words.specs.declared.line.Line.TheVariants.{LimitInput, Memory, ReadFault, Running}
 use Rattle.acg_driver.specs.Files.{files_if, readings_of, AreGiven}
 use Rattle.acg_driver.specs.Commands.Run.{EndsAs}
 use Rattle.acg_driver.specs.Commands.Perform.{end_line, IsOutcome, IsPerformed}
-use Rattle.acg_driver.specs.Serving.{Replies, RepliesIf, IsOfPerformance, IsOfImage, PerformsAsked, Stores, Served}
+use Rattle.acg_driver.specs.Serving.{Replies, RepliesIf, IsOfPerformance, IsOfImage, PerformsAsked, Served}
 use Rattle.acg_driver.proofs.ImageLemmas.{content-image}
 use Rattle.acg_driver.proofs.ActRuns.{act-performs}
 use Rattle.acg_driver.proofs.Fronts.{given-is}
@@ -38,7 +38,7 @@ performed-performs n g input text s (steps, state, line, scheduled, outcome, say
     subst IsOfPerformance (sym says.1) (outcome-performs (length steps) state.tree line outcome)
 
 perform-performs : (contents : Contents) (n : ℕ) (action : List ℕ) (input : Option (List ℕ)) (givens : List (List ℕ)) (text : List ℕ) (s : Status)
-    → AreGiven contents (readings_of (files_if (Some (Perform n action input))) givens) → Replies (Perform n action input) givens None text s → s ≢ status.ReadFault → PerformsAsked contents (Some (Perform n action input)) s
+    → AreGiven contents (readings_of (files_if (Some (Perform n action input))) givens) → Replies (Perform n action input) givens text s → s ≢ status.ReadFault → PerformsAsked contents (Some (Perform n action input)) s
 perform-performs contents n action input [] text s given (inl (line, unread, says)) not content g bytes there reads is within =
     subst IsOfPerformance (sym says.1) (unread-performs action line unread (λ e. not (says.1 ∙ e)))
 perform-performs contents n action input [] text s given (inr none) not content g bytes there reads is within = absurd none
@@ -72,7 +72,7 @@ ends-image (Exited code output) before text s says = subst IsOfImage (sym says.1
 ends-image (Trapped cause) before text s says = subst IsOfImage (sym says.1) tt
 
 run-performs : (contents : Contents) (budget : ℕ) (image : List ℕ) (input : Option (List ℕ)) (givens : List (List ℕ)) (text : List ℕ) (s : Status)
-    → AreGiven contents (readings_of (files_if (Some (Run budget image input))) givens) → Replies (Run budget image input) givens None text s → s ≢ status.ReadFault → PerformsAsked contents (Some (Run budget image input)) s
+    → AreGiven contents (readings_of (files_if (Some (Run budget image input))) givens) → Replies (Run budget image input) givens text s → s ≢ status.ReadFault → PerformsAsked contents (Some (Run budget image input)) s
 run-performs contents budget image input [] text s given (inl (line, unread, says)) not content x bytes there gives is within =
     performance-image s (subst IsOfPerformance (sym says.1) (unread-performs image line unread (λ e. not (says.1 ∙ e))))
 run-performs contents budget image input [] text s given (inr none) not content x bytes there gives is within = absurd none
@@ -85,32 +85,19 @@ run-performs contents budget image input (b ∷ givens) text s given (inr (few, 
     ends-image _ _ text s runs
 
 -- what is replied to a command over a store that tells its contents
-pub reply-performs : (contents : Contents) (asked : Option Command) (givens : List (List ℕ)) (written : Option (List ℕ)) (text : List ℕ) (s : Status) → AreGiven contents (readings_of (files_if asked) givens)
-    → RepliesIf asked givens written text s → s ≢ status.ReadFault → PerformsAsked contents asked s
-reply-performs contents None givens written text s given reply not = tt
-reply-performs contents (Some (Compile c description source out)) givens written text s given reply not = tt
-reply-performs contents (Some (Go c budget description source input)) givens written text s given reply not = tt
-reply-performs contents (Some (Sorts description source)) givens written text s given reply not = tt
-reply-performs contents (Some (Act c budget action input)) givens None text s given reply not = act-performs contents c budget action input givens text s given reply not
-reply-performs contents (Some (Act c budget action input)) givens (Some file) text s given reply not = absurd reply
-reply-performs contents (Some (Run budget image input)) givens None text s given reply not = run-performs contents budget image input givens text s given reply not
-reply-performs contents (Some (Run budget image input)) givens (Some file) text s given reply not = absurd reply
-reply-performs contents (Some (Perform n action input)) givens None text s given reply not = perform-performs contents n action input givens text s given reply not
-reply-performs contents (Some (Perform n action input)) givens (Some file) text s given reply not = absurd reply
-reply-performs contents (Some Help) givens written text s given reply not = tt
-reply-performs contents (Some Version) givens written text s given reply not = tt
-
--- what a store gave, where it tells its contents
-stored-given : {S : Type 0} (store : Store S) (asked : Option Command) (givens : List (List ℕ)) (written : Option (List ℕ)) (s : Status) (old new : S) → Stores store asked givens written s old new → IsTrue (store.tells old)
-    → AreGiven (store.contents old) (readings_of (files_if asked) givens)
-stored-given store asked givens None s old new stored told = stored.given told
-stored-given store asked givens (Some file) s old new stored told = stored.1.given told
+reply-performs : (contents : Contents) (asked : Option Command) (givens : List (List ℕ)) (text : List ℕ) (s : Status) → AreGiven contents (readings_of (files_if asked) givens) → RepliesIf asked givens text s
+    → s ≢ status.ReadFault → PerformsAsked contents asked s
+reply-performs contents None givens text s given reply not = tt
+reply-performs contents (Some (Act c budget action input)) givens text s given reply not = act-performs contents c budget action input givens text s given reply not
+reply-performs contents (Some (Run budget image input)) givens text s given reply not = run-performs contents budget image input givens text s given reply not
+reply-performs contents (Some (Perform n action input)) givens text s given reply not = perform-performs contents n action input givens text s given reply not
+reply-performs contents (Some Help) givens text s given reply not = tt
+reply-performs contents (Some Version) givens text s given reply not = tt
 
 -- what a request does that is neither refused for a file that isn't there, nor fails to write
 pub served-performs : {S K : Type 0} {store : Store S} {sink : Sink K} (asked : Option Command) {old new : S} {out gained : K} {result : Status} → Served store sink asked old new out gained result
     → IsTrue (store.tells old) → result ≢ status.ReadFault → result ≢ status.WriteFault → PerformsAsked (store.contents old) asked result
-served-performs {S} {K} {store} {sink} asked {old} {new} served told not_read not_write =
+served-performs {S} {K} {store} {sink} asked {old} served told not_read not_write =
     let is = served.answered.answer not_write in
     subst (λ s. PerformsAsked (store.contents old) asked s) (sym is)
-    (reply-performs (store.contents old) asked served.givens served.written served.text served.status (stored-given store asked served.givens served.written served.status old new served.stored told) served.said
-    (λ fault. not_read (is ∙ fault)))
+    (reply-performs (store.contents old) asked served.givens served.text served.status (served.read.given told) served.said (λ fault. not_read (is ∙ fault)))

@@ -1,27 +1,23 @@
 -- The files that a command reads, and what is read of them.
 use Rattle.std.specs.Prelude.{◌≡◌, ◌⊎◌, ℕ, zero, suc, List, [], ◌∷◌, ◌++◌, length, Option, Some, None, IsTrue, Result, Ok, Err, IfOk, IfErr}
 use Rattle.acg_base.specs.Outside.{Contents, SameContents, Reading, counted, front}
-use Rattle.acg_base.specs.declared.limits.TheConstants.{LIMIT_DESCRIPTION, LIMIT_SOURCE, LIMIT_ACTION, LIMIT_IMAGE, LIMIT_INPUT}
+use Rattle.acg_base.specs.declared.limits.TheConstants.{LIMIT_ACTION, LIMIT_IMAGE, LIMIT_INPUT}
 use Rattle.acg_base.specs.declared.status.Status.{Status}
 use Rattle.acg_base.specs.declared.status.Status.TheVariants as status
 use Rattle.acg_base.specs.declared.store.Store.{Ghosts}
-use Rattle.acg_words.specs.Commands.{Command, Compile, Go, Sorts, Act, Run, Perform, Help, Version}
+use Rattle.acg_words.specs.Commands.{Command, Act, Run, Perform, Help, Version}
 use Rattle.acg_words.specs.Lines.{status_of}
 use Rattle.acg_words.specs.declared.line.Line.{Line}
 use Rattle.acg_words.specs.declared.line.Line.TheVariants.{ReadFault}
 
 -- what a file holds
 pub data Role : Type 0 where
-  Description : Role
-  Source : Role
   Action : Role
   Image : Role
   Input : Role
 
 -- the most bytes that it may have
 abbrev pub limit_of : Role → ℕ
-limit_of Description = LIMIT_DESCRIPTION
-limit_of Source = LIMIT_SOURCE
 limit_of Action = LIMIT_ACTION
 limit_of Image = LIMIT_IMAGE
 limit_of Input = LIMIT_INPUT
@@ -40,9 +36,6 @@ input_files None = []
 input_files (Some input) = file Input input ∷ []
 
 abbrev pub files_of : Command → List File
-files_of (Compile capacity description source out) = file Description description ∷ file Source source ∷ []
-files_of (Go capacity budget description source input) = file Description description ∷ file Source source ∷ input_files input
-files_of (Sorts description source) = file Description description ∷ file Source source ∷ []
 files_of (Act capacity budget action input) = file Action action ∷ input_files input
 files_of (Run budget image input) = file Image image ∷ input_files input
 files_of (Perform n action input) = file Action action ∷ input_files input

@@ -1,6 +1,6 @@
 -- What serving a command line says, and what it does to the store and the sink.
 use Rattle.std.specs.Prelude.{◌≡◌, ◌⊎◌, ℕ, ◌≤◌, IsTrue, List, [], ◌∷◌, ◌++◌, length, Option, Some, None}
-use Rattle.acg_base.specs.Outside.{Contents, SameElsewhere, counted}
+use Rattle.acg_base.specs.Outside.{Contents}
 use Rattle.acg_base.specs.declared.limits.TheConstants.{LIMIT_INPUT}
 use Rattle.acg_base.specs.declared.sink.Sink.{Ghosts as Sink}
 use Rattle.acg_base.specs.declared.status.Status.{Status}
@@ -10,7 +10,7 @@ use Rattle.action_terms.specs.Numbering.{Listed}
 use Rattle.action_terms.specs.Meaning.{action_of}
 use Rattle.sort_rules.specs.Admissible.{IsWellSorted}
 use Rattle.rv_code.specs.Images.{Image}
-use Rattle.acg_words.specs.Commands.{Command, Compile, Go, Sorts, Act, Run, Perform, Help, Version, command_of}
+use Rattle.acg_words.specs.Commands.{Command, Act, Run, Perform, Help, Version, command_of}
 use Rattle.acg_words.specs.Lines.{read_fault_line}
 use Rattle.acg_words.specs.Prints.{Answered}
 use Rattle.acg_words.specs.Usage.{usage, version_line}
@@ -26,9 +26,6 @@ use Rattle.acg_driver.specs.Commands.Perform.{RefusesPerform, GoesOnPerform, Say
 
 -- the line with which a command is refused, from what its files gave
 abbrev pub Refuses : Command → (givens : List (List ℕ)) → Line → Type 0
-Refuses (Compile capacity description source out) givens line = ⊥
-Refuses (Go capacity budget description source input) givens line = ⊥
-Refuses (Sorts description source) givens line = ⊥
 Refuses (Act capacity budget action input) givens line = RefusesAct action input givens line
 Refuses (Run budget image input) givens line = RefusesRun image input givens line
 Refuses (Perform n action input) givens line = RefusesPerform action input givens line
@@ -40,79 +37,39 @@ abbrev pub GoesOn : Command → (givens : List (List ℕ)) → Type 0
 GoesOn (Act capacity budget action input) givens = GoesOnAct givens
 GoesOn (Run budget image input) givens = GoesOnRun givens
 GoesOn (Perform n action input) givens = GoesOnPerform givens
-GoesOn command givens = ⊥
+GoesOn Help givens = ⊥
+GoesOn Version givens = ⊥
 
--- what a command says that isn't refused and writes no file
+-- what a command says that isn't refused
 abbrev pub Carries : Command → (givens : List (List ℕ)) → (text : List ℕ) → Status → Type 0
-Carries (Compile capacity description source out) givens text status = ⊥
-Carries (Go capacity budget description source input) givens text status = ⊥
-Carries (Sorts description source) givens text status = ⊥
 Carries (Act capacity budget action input) givens text status = RunsAct capacity budget input givens text status
 Carries (Run budget image input) givens text status = SaysRun budget input givens text status
 Carries (Perform n action input) givens text status = SaysPerform n input givens text status
 Carries Help givens text s = (givens ≡ []) × ((text ≡ usage) × (s ≡ status.Done))
 Carries Version givens text s = (givens ≡ []) × ((text ≡ version_line) × (s ≡ status.Done))
 
--- what a command says that has written the bytes to a file, or has failed to
-abbrev pub Writes : Command → (givens : List (List ℕ)) → (file text : List ℕ) → Status → Type 0
-Writes command givens file text status = ⊥
-
--- what a command says, from what its files gave: a line that refuses it, or what it is there for. It may have a file to
--- write then
-abbrev pub Replies : Command → (givens : List (List ℕ)) → (written : Option (List ℕ)) → (text : List ℕ) → Status → Type 0
-Replies command givens None text status = SaysOne (Refuses command givens) text status ⊎ Carries command givens text status
-Replies command givens (Some file) text status = Writes command givens file text status
+-- what a command says, from what its files gave: a line that refuses it, or what it is there for
+abbrev pub Replies : Command → (givens : List (List ℕ)) → (text : List ℕ) → Status → Type 0
+Replies command givens text status = SaysOne (Refuses command givens) text status ⊎ Carries command givens text status
 
 -- words that are no command are refused
-abbrev pub RepliesIf : Option Command → (givens : List (List ℕ)) → (written : Option (List ℕ)) → (text : List ℕ) → Status → Type 0
-RepliesIf (Some command) givens written text status = Replies command givens written text status
-RepliesIf None givens None text status = (givens ≡ []) × Says Words text status
-RepliesIf None givens (Some file) text status = ⊥
+abbrev pub RepliesIf : Option Command → (givens : List (List ℕ)) → (text : List ℕ) → Status → Type 0
+RepliesIf None givens text status = (givens ≡ []) × Says Words text status
+RepliesIf (Some command) givens text status = Replies command givens text status
 
 abbrev pub GoesOnIf : Option Command → (givens : List (List ℕ)) → Type 0
 GoesOnIf None givens = ⊥
 GoesOnIf (Some command) givens = GoesOn command givens
 
--- the name of the file that a command writes
-abbrev pub out_if : Option Command → List ℕ
-out_if (Some (Compile capacity description source out)) = out
-out_if _ = []
-
--- a count of failed writes behind a request that says a status: one more for a write fault, and no more for any other
-abbrev pub writes_with : Status → ℕ → ℕ
-writes_with status.WriteFault count = counted count
-writes_with _ count = count
-
--- a request with this status asked a store to hold the bytes at the name, and for nothing else. All else is as before; for
--- a write fault, which no sure store has, the content of the name is open
-pub record Wrote {S : Type 0} (store : Store S) (name bytes : List ℕ) (s : Status) (old new : S) : Type 0 where
-  pub there : s ≡ status.Done → IsTrue (store.tells old) → store.contents new name ≡ Some bytes
-  pub others : IsTrue (store.tells old) → SameElsewhere (store.contents old) (store.contents new) name
-  pub failed : store.failed_writes new ≡ writes_with s (store.failed_writes old)
-  pub unsure : s ≡ status.WriteFault → IsTrue (store.sure old) → ⊥
-  pub readings : store.readings new ≡ store.readings old
-  pub reads : store.reads new ≡ store.reads old
-  pub failed_reads : store.failed_reads new ≡ store.failed_reads old
-  pub tells_still : store.tells new ≡ store.tells old
-  pub logs_still : store.logs new ≡ store.logs old
-  pub sure_still : store.sure new ≡ store.sure old
-
--- what a request does to a store: its first files are read, once each, and it changes nothing; or all that it reads is
--- read, and then its one file is written
-abbrev pub Stores : {S : Type 0} (store : Store S) → Option Command → (givens : List (List ℕ)) → (written : Option (List ℕ)) → Status → (old new : S) → Type 0
-Stores store asked givens None status old new = ReadOnly store (readings_of (files_if asked) givens) status old new
-Stores {S} store asked givens (Some file) s old new =
-    (middle : S) × ReadOnly store (readings_of (files_if asked) givens) status.Done old middle × Wrote store (out_if asked) file s middle new
-
--- what a request does. What is said is right for what the files gave that were read. The sink gets that text, and its
--- status is answered. Or the sink gets a front of the text, since its last write failed, and the answer says so
+-- what a request does. The first of its files are read, once each, and what is said is right for what they gave. The
+-- sink gets that text, and its status is answered. Or the sink gets a front of the text, since its last write failed, and
+-- the answer says so
 pub record Served {S K : Type 0} (store : Store S) (sink : Sink K) (asked : Option Command) (old new : S) (out gained : K) (result : Status) : Type 0 where
   pub givens : List (List ℕ)
-  pub written : Option (List ℕ)
   pub text : List ℕ
   pub status : Status
-  pub said : RepliesIf asked givens written text status
-  pub stored : Stores store asked givens written status old new
+  pub said : RepliesIf asked givens text status
+  pub read : ReadOnly store (readings_of (files_if asked) givens) status old new
   pub answered : Answered sink text status out gained result
 
 -- where a read fault is answered, a sink gets its line with this name

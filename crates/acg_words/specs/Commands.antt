@@ -2,9 +2,6 @@
 use Rattle.std.specs.Prelude.{ℕ, ◌^◌, nat_lt, nat_le, ◌&&◌, if◌then◌else◌, List, [], ◌∷◌, length, take, drop, codes, Option, Some, None, option_map, option_and_then}
 use Rattle.std.specs.Str.{bytes_eq}
 use Rattle.acg_base.specs.Decimals.{spelled_number}
-use Rattle.acg_base.specs.declared.capacity.Capacity.{Capacity}
-use Rattle.acg_base.specs.declared.capacity.TheConstants.{DEFAULT_STACK, DEFAULT_UNITS}
-use Rattle.acg_words.specs.Settings.{IsCapacity}
 use Rattle.acg_words.specs.declared.command.Act.{Act as ActValue}
 use Rattle.acg_words.specs.declared.command.Run.{Run as RunValue}
 use Rattle.acg_words.specs.declared.command.Perform.{Perform as PerformValue}
@@ -16,10 +13,7 @@ use Rattle.acg_words.specs.declared.table.Kind.TheVariants as kind
 -- `act ACTION`, `run [budget=N] IMAGE [INPUT]`, `perform N ACTION [INPUT]`, `help` and `version`, with the names of their
 -- files
 pub data Command : Type 0 where
-  Compile : (capacity : Capacity) (description source out : List ℕ) → Command
-  Go : (capacity : Capacity) (budget : ℕ) (description source : List ℕ) (input : Option (List ℕ)) → Command
-  Sorts : (description source : List ℕ) → Command
-  Act : (capacity : Capacity) (budget : ℕ) (action : List ℕ) (input : Option (List ℕ)) → Command
+  Act : (action : List ℕ) → Command
   Run : (budget : ℕ) (image : List ℕ) (input : Option (List ℕ)) → Command
   Perform : (number : ℕ) (action : List ℕ) (input : Option (List ℕ)) → Command
   Help : Command
@@ -54,11 +48,8 @@ schedule_number word = option_and_then (λ n. if nat_lt n (2 ^ 63) then Some n e
 abbrev pub file_name : List ℕ → Option (List ℕ)
 file_name word = if nat_lt 0 (length word) then Some word else None
 
-abbrev pub default_capacity : Capacity
-default_capacity = record { stack = DEFAULT_STACK; units = DEFAULT_UNITS }
-
 abbrev pub act_of : List (List ℕ) → Option Command
-act_of (action ∷ []) = option_map (λ a. Act default_capacity 10000000 a None) (file_name action)
+act_of (action ∷ []) = option_map Act (file_name action)
 act_of _ = None
 
 -- the sign of the option that says the most instructions of a run
@@ -130,7 +121,7 @@ command_of (name ∷ operands) = option_and_then (λ kind. words_of kind operand
 
 -- the commands that values of the program stand for
 abbrev pub act_asked : ActValue → Command
-act_asked act = Act act.capacity act.budget act.action.now (option_map (λ file. file.now) act.input)
+act_asked act = Act act.action.now
 
 abbrev pub run_asked : RunValue → Command
 run_asked run = Run run.budget run.image.now (option_map (λ file. file.now) run.input)
@@ -144,10 +135,3 @@ asked (request.Run run) = run_asked run
 asked (request.Perform perform) = perform_asked perform
 asked request.Help = Help
 asked request.Version = Version
-
--- the numbers of a command's options are in their ranges
-abbrev pub HasRanges : Command → Type 0
-HasRanges (Compile capacity description source out) = IsCapacity capacity
-HasRanges (Go capacity budget description source input) = IsCapacity capacity
-HasRanges (Act capacity budget action input) = IsCapacity capacity
-HasRanges _ = Unit {0}

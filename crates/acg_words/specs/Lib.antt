@@ -1,4 +1,3 @@
-pub mod Settings
 pub mod Lines
 pub mod Prints
 pub mod Commands

@@ -1,7 +1,5 @@
 //! What command lines ask for.
 
-use acg_base::Capacity;
-
 /// A command with its operands.
 #[derive(Clone, Copy, Debug, PartialEq, Eq)]
 pub enum Command<'a> {
@@ -20,14 +18,8 @@ pub enum Command<'a> {
 /// The operands of `act`.
 #[derive(Clone, Copy, Debug, PartialEq, Eq)]
 pub struct Act<'a> {
-    /// The words and units of the run.
-    pub capacity: Capacity,
-    /// The most instructions that are run, from 1 to 1000000000.
-    pub budget: u64,
     /// The file with the action.
     pub action: &'a str,
-    /// The file with the input; where there is none, the input is empty.
-    pub input: Option<&'a str>,
 }
 
 /// The option and the operands of `run`.

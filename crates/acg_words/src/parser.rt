@@ -6,7 +6,7 @@ ghost use Rattle.acg_words.specs.Commands.{schedule_number, behind_sign, budget_
 
 use crate::command::{Act, Command, Perform, Run};
 use crate::table::{Kind, kind_named};
-use acg_base::{Capacity, DEFAULT_BUDGET, DEFAULT_STACK, DEFAULT_UNITS, Words, read_decimal};
+use acg_base::{DEFAULT_BUDGET, Words, read_decimal};
 
 // The sign of the option that says the most instructions of a run.
 const BUDGET_SIGN: &str = "budget=";
@@ -38,15 +38,7 @@ fn act(operands: &[String]) -> Option<Command<'_>>
         return None;
     };
     let action = file_name(action.as_str())?;
-    Some(Command::Act(Act {
-        capacity: Capacity {
-            stack: DEFAULT_STACK,
-            units: DEFAULT_UNITS,
-        },
-        budget: DEFAULT_BUDGET,
-        action,
-        input: None,
-    }))
+    Some(Command::Act(Act { action }))
 }
 
 // `N ACTION`, or `N ACTION INPUT`.
