@@ -18,7 +18,7 @@ returns-in_err-image-clause-refused g c =
     let input = option_map {T = Bor (List ℕ)} (λ f. f.now) c.args.command.input in
     let bytes = c.in_ok-bytes.bytes.items in
     let line = c.in_err-image.field-0.0 in
-    let refused : RefusesImage bytes line = subst (λ b. RefusesImage b line) c.deref.ensures.value c.in_err-image.ensures.refusal in
+    let refused : RefusesImage bytes line = c.in_err-image.ensures.refusal in
     let Refused : Line → Type 0 = λ l. (givens : List (List ℕ)) × RefusesRun c.args.command.image.now input givens l
     × ReadOnly g.S.Store (readings_of (file Image c.args.command.image.now ∷ input_files input) givens) (status_of l) c.args.store.now c.read_file.new.store in
     at-err Refused c.from_residual-in_err-image.result line error.0 error.1 error.2
@@ -31,7 +31,7 @@ returns-in_err-image-clause-surely g c = λ sure.
     let contents = g.S.Store.contents c.args.store.now in
     let bytes = c.in_ok-bytes.bytes.items in
     let line = c.in_err-image.field-0.0 in
-    let refused : RefusesImage bytes line = subst (λ b. RefusesImage b line) c.deref.ensures.value c.in_err-image.ensures.refusal in
+    let refused : RefusesImage bytes line = c.in_err-image.ensures.refusal in
     let given = (c.in_ok-bytes.ensures.given.given (g.met.S.Store.sure_tells c.args.store.now sure)).0 in
     asks-at contents (file Image c.args.command.image.now ∷ input_files input) c.from_residual-in_err-image.result line error.0 error.1 error.2
     (asks-refused-at contents (file Image c.args.command.image.now) (input_files input) given.0 line given.1 (image-other bytes line refused)
@@ -44,7 +44,7 @@ returns-in_err-input-clause-refused g c =
     let bytes = c.in_ok-bytes.bytes.items in
     let line = c.in_err-input.field-0.0 in
     let image = c.in_ok-image.image in
-    let gives : GivesImage bytes image = subst (λ b. GivesImage b image) c.deref.ensures.value c.in_ok-image.ensures.image in
+    let gives : GivesImage bytes image = c.in_ok-image.ensures.image in
     let refused = c.in_err-input.ensures.refused in
     let Refused : Line → Type 0 = λ l. (givens : List (List ℕ)) × RefusesRun c.args.command.image.now input givens l
     × ReadOnly g.S.Store (readings_of (file Image c.args.command.image.now ∷ input_files input) givens) (status_of l) c.args.store.now c.read_input.new.store in
@@ -60,7 +60,7 @@ returns-in_err-input-clause-surely g c = λ sure.
     let bytes = c.in_ok-bytes.bytes.items in
     let line = c.in_err-input.field-0.0 in
     let image = c.in_ok-image.image in
-    let gives : GivesImage bytes image = subst (λ b. GivesImage b image) c.deref.ensures.value c.in_ok-image.ensures.image in
+    let gives : GivesImage bytes image = c.in_ok-image.ensures.image in
     let told = g.met.S.Store.sure_tells c.args.store.now sure in
     let read = c.in_ok-bytes.ensures.given in
     let given = (read.given told).0 in
@@ -76,7 +76,7 @@ returns-in_err-machine-clause-refused g c =
     let name = c.args.command.image.now in
     let bytes = c.in_ok-bytes.bytes.items in
     let image = c.in_ok-image.image in
-    let gives : GivesImage bytes image = subst (λ b. GivesImage b image) c.deref.ensures.value c.in_ok-image.ensures.image in
+    let gives : GivesImage bytes image = c.in_ok-image.ensures.image in
     let taken = c.in_ok-input.ensures.taken in
     let Refused : Line → Type 0 = λ l. (givens : List (List ℕ)) × RefusesRun name input givens l
     × ReadOnly g.S.Store (readings_of (file Image name ∷ input_files input) givens) (status_of l) c.args.store.now c.read_input.new.store in
@@ -87,7 +87,7 @@ pub returns-clause-ready : goal.returns-clause-ready
 returns-clause-ready g c =
     let bytes = c.in_ok-bytes.bytes.items in
     let image = c.in_ok-image.image in
-    let gives : GivesImage bytes image = subst (λ b. GivesImage b image) c.deref.ensures.value c.in_ok-image.ensures.image in
+    let gives : GivesImage bytes image = c.in_ok-image.ensures.image in
     let taken = c.in_ok-input.ensures.taken in
     (bytes ∷ taken.0, (image, gives, (taken.1, c.in_ok-machine.ensures.loaded)), reads-then c.in_ok-bytes.ensures.given taken.2)
 
@@ -98,7 +98,7 @@ returns-clause-surely g c = λ sure.
     let contents' = g.S.Store.contents c.read_file.new.store in
     let bytes = c.in_ok-bytes.bytes.items in
     let image = c.in_ok-image.image in
-    let gives : GivesImage bytes image = subst (λ b. GivesImage b image) c.deref.ensures.value c.in_ok-image.ensures.image in
+    let gives : GivesImage bytes image = c.in_ok-image.ensures.image in
     let told = g.met.S.Store.sure_tells c.args.store.now sure in
     let read = c.in_ok-bytes.ensures.given in
     let given = (read.given told).0 in
