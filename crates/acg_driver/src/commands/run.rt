@@ -31,7 +31,7 @@ fn prepare<S: Store>(alloc: Global, command: Run<'_>, store: &mut S) -> Result<R
         store.old store.new result }
 {
     let bytes = read_file(alloc, command.image, LIMIT_IMAGE, store)?;
-    let image = image_of(alloc, &bytes)?;
+    let image = image_of(alloc, bytes)?;
     let input = read_input(alloc, command.input, store)?;
     let machine = Machine::load(alloc, image)?;
     Ok(Ready { machine, input })
