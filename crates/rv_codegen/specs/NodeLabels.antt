@@ -15,6 +15,10 @@ failed_label = 1
 abbrev pub escaped_label : ℕ
 escaped_label = 2
 
+-- the end of one that needs more than there is
+abbrev pub full_label : ℕ
+full_label = 3
+
 -- the entry for failures
 abbrev pub fail_label : ℕ
 fail_label = 4
@@ -56,3 +60,7 @@ stop_of k = first_label + 2 + 4 * k
 -- where the trap k copies what was caught for its handler
 abbrev pub joint_of : ℕ → ℕ
 joint_of k = first_label + 3 + 4 * k
+
+-- where the bodies of an action of so many nodes go on once they have completed
+abbrev pub return_of : (nodes : ℕ) → ℕ
+return_of nodes = stop_of nodes

@@ -3,6 +3,7 @@
 #![tactic(auto)]
 
 mod built;
+mod calls;
 mod data;
 mod data_tables;
 mod entries;

@@ -16,6 +16,7 @@ ghost use Rattle.rv_codegen.specs.GivenItems.{escape_with_items, point_items};
 ghost use Rattle.rv_codegen.specs.Marks.{extended, AreFresh, PlacesStop};
 ghost use Rattle.rv_codegen.specs.Built.{are_built, is_built_node};
 
+use crate::calls::append_calling;
 use crate::data::{append_data, append_them};
 use crate::entries::{ARGUMENT, FRAME, RETURN, append_opening};
 use crate::handlers::{append_handler, append_trapped};
@@ -30,7 +31,7 @@ use rv_yield::{Source, condition_code, value_code};
 
 /// Appends the way to a label from before another: nothing where that is the one.
 #[tactic(auto, using(crate::proofs::Fresh::freshness))]
-fn append_way(asm: &mut Asm, next: Label, label: Label) -> Result<(), Memory>
+pub(crate) fn append_way(asm: &mut Asm, next: Label, label: Label) -> Result<(), Memory>
     requires { label < asm.old.labels }
     ensures items { OnOk result (asm.new ≡ extended asm.old (goes next label)) }
     ensures marks { OnOk result ((k : ℕ) → PlacesStop k asm.old.items asm.new.items) }
@@ -44,7 +45,7 @@ fn append_way(asm: &mut Asm, next: Label, label: Label) -> Result<(), Memory>
 
 /// Appends what puts the address of the word at an offset of the frame into the register of
 /// arguments.
-fn append_address(asm: &mut Asm, offset: u32) -> Result<(), Memory>
+pub(crate) fn append_address(asm: &mut Asm, offset: u32) -> Result<(), Memory>
     requires { offset < 33554432 }
     ensures { OnOk result (asm.new ≡ extended asm.old (map Plain (address_items offset))) }
 {
@@ -66,7 +67,7 @@ fn append_address(asm: &mut Asm, offset: u32) -> Result<(), Memory>
 }
 
 /// The first of some words of the frame, or that of the frame itself where there is none.
-fn first_word(words: &[u32]) -> u32
+pub(crate) fn first_word(words: &[u32]) -> u32
     requires { All (λ o. o < 33554432) words.now }
     ensures first { result ≡ slice_index words.now 0 }
     ensures near { result < 33554432 }
@@ -444,7 +445,7 @@ fn append_primitive(
     ensures items { OnOk result (asm.new ≡ extended asm.old
         (body (table_words (lists_of plan.entry.given.now)
         (lists_of plan.entry.out.now) (lists_of plan.entry.escaped.now)
-        plan.entry.keeps.now) k exit
+        plan.entry.keeps.now plan.entry.frames.now) k exit
         (Simple (primitive_viewed plan.entry.graph.now.yielders primitive.entry)))) }
     ensures marks { OnOk result (PlacesStop k asm.old.items asm.new.items) }
     ensures short { OnOk result (total asm.new.items ≤ total asm.old.items + 530
@@ -539,7 +540,7 @@ fn append_body(asm: &mut Asm, plan: Plan<'_, '_, '_>, k: usize, exit: Label) -> 
     ensures items { OnOk result (asm.new
         ≡ extended asm.old (body (table_words (lists_of plan.entry.given.now)
         (lists_of plan.entry.out.now) (lists_of plan.entry.escaped.now)
-        plan.entry.keeps.now) k exit
+        plan.entry.keeps.now plan.entry.frames.now) k exit
         (node_at (action_of plan.entry.graph.now) k))) }
     ensures marks { OnOk result (PlacesStop k asm.old.items asm.new.items) }
     ensures short { OnOk result (total asm.new.items ≤ total asm.old.items + 530
@@ -566,6 +567,9 @@ fn append_body(asm: &mut Asm, plan: Plan<'_, '_, '_>, k: usize, exit: Label) -> 
             asm.jump(exit)?;
             append_handler(asm, plan, k, right)
         }
+        NodeView::Unfolding { body } | NodeView::Unfold { body } => {
+            append_calling(asm, plan, k, exit, body as usize)
+        }
         _ => Ok(()),
     }
 }
@@ -584,7 +588,7 @@ pub(crate) fn append_node(
     ensures items { OnOk result (asm.new
         ≡ extended asm.old (block (table_words (lists_of plan.entry.given.now)
         (lists_of plan.entry.out.now) (lists_of plan.entry.escaped.now)
-        plan.entry.keeps.now) k exit
+        plan.entry.keeps.now plan.entry.frames.now) k exit
         (node_at (action_of plan.entry.graph.now) k))) }
     ensures fresh { OnOk result (AreFresh (k + 1) asm.new.items) }
     ensures short { OnOk result (total asm.new.items ≤ total asm.old.items + 530
