@@ -92,3 +92,14 @@ pub mod Catching
 pub mod SharedEnds
 pub mod TrapCodes
 pub mod CaughtCode
+pub mod CallCode
+pub mod CalledItems
+pub mod FrameWords
+pub mod UnfoldedBodies
+pub mod CallStands
+pub mod CalledBodies
+pub mod OutRows
+pub mod Calling
+pub mod ReturnCode
+pub mod Returning
+pub mod SuitedCalls
