@@ -19,7 +19,7 @@ use Rattle.rv_asm.proofs.Words.{load-runs, store-runs}
 use Rattle.rv_prelude.proofs.Jumps.{addressed, address-runs, jumped, jump-runs}
 use Rattle.rv_codegen.specs.AddressItems.{address_items}
 use Rattle.rv_codegen.specs.CallItems.{behind_items, room_items}
-use Rattle.rv_codegen.proofs.FrameAddresses.{address-comes, length-address}
+use Rattle.rv_codegen.proofs.FrameAddresses.{address-comes}
 
 pub length-behind : (to from words : ℕ) → length (behind_items to from words) ≡ length (load_constant to (8 * words)) + 1
 length-behind to from words = length-append (load_constant to (8 * words)) (Op Add to to from ∷ [])

@@ -1,6 +1,6 @@
 -- The bodies that nodes call by their numbers: each is a node of the action behind the first, and no part of a node, so it is the root of a procedure.
 use Rattle.std.proofs.Common.{◌≡◌, ◌⊎◌, ⊎_elim, ℕ, suc, ◌+◌, ◌<◌, List, [], ◌∷◌, length, get_or, refl, sym, ap, subst, ◌∙◌, inl, inr, arith}
-use Rattle.std.specs.Prelude.{All, Option, Some, None, slice_get}
+use Rattle.std.specs.Prelude.{Option, Some, None, slice_get}
 use Rattle.std.proofs.lemmas.List.Elements.{All-get_or}
 use Rattle.std.proofs.lemmas.Option.{get_or_from_slice_get, slice_get_within}
 use Rattle.action_terms.specs.Actions.{Node, Unfolding, Unfold, Furthermore, Both, Phases, Either, Trapping, Branch, Action, node_at, node_or_stray}
@@ -18,8 +18,8 @@ use Rattle.sort_rules.specs.Procedures.{parts_at, procedure_of, whole_of}
 use Rattle.sort_rules.proofs.Choices.{either, member_cases}
 use Rattle.frame_layout.proofs.GraphParts.{HasTrees}
 use Rattle.frame_layout.proofs.ProcedureRoots.{procedure-own, whole-part}
-use Rattle.rv_codegen.proofs.Framed.{Names, NamesWithin}
-use Rattle.rv_codegen.proofs.GraphNodes.{HasListed, has_listed, length-action_of, part_of, tree-of-graph}
+use Rattle.rv_codegen.proofs.Framed.{NamesWithin}
+use Rattle.rv_codegen.proofs.GraphNodes.{has_listed, length-action_of, part_of, tree-of-graph}
 use Rattle.rv_codegen.proofs.NodeParts.{CallsByNumber, IsPartOf}
 use Rattle.rv_codegen.proofs.UnfoldedBodies.{HasBody, NoChildren, bodies-tree, no_children-tree}
 

@@ -1,10 +1,9 @@
 -- How much code a call is, and that it places one label.
-use Rattle.std.proofs.Common.{◌≡◌, ◌≢◌, ℕ, ◌+◌, ◌*◌, ◌≤◌, false, List, [], ◌∷◌, ◌++◌, length, map, get_or, refl, ap, arith, length-append}
-use Rattle.rv_code.specs.declared.instruction.Inst.TheVariants.{Op, OpImm, Load, Store}
+use Rattle.std.proofs.Common.{◌≡◌, ◌≢◌, ℕ, ◌+◌, ◌*◌, ◌≤◌, false, List, [], ◌∷◌, ◌++◌, length, map, get_or, refl, arith, length-append}
+use Rattle.rv_code.specs.declared.instruction.Inst.TheVariants.{Op, OpImm, Load}
 use Rattle.rv_code.specs.declared.instruction.OpOp.TheVariants.{Add}
 use Rattle.rv_code.specs.declared.instruction.OpImmOp.TheVariants.{Addi}
 use Rattle.rv_code.specs.declared.instruction.LoadOp.TheVariants.{Ld}
-use Rattle.rv_code.specs.declared.instruction.StoreOp.TheVariants.{Sd}
 use Rattle.rv_code.specs.declared.instruction.BranchOp.TheVariants.{Bltu}
 use Rattle.rv_asm.specs.Assembly.{is_placed, total}
 use Rattle.rv_asm.specs.Pieces.{copy_words, load_constant}

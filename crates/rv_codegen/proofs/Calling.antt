@@ -1,5 +1,5 @@
 -- A node calls a body by its number: in a frame behind its own, or the run ends as full where there is no room.
-use Rattle.std.proofs.Common.{◌≡◌, ◌≢◌, ⊎_elim, ℕ, ◌+◌, ◌*◌, ◌-◌, ◌^◌, ◌<◌, ◌≤◌, List, [], ◌∷◌, ◌++◌, length, get_or, set, pos, refl, sym, ap, ◌∙◌, subst, arith, inl, inr, append_assoc, length-append, length-set, get_or-set_same, get_or-set_other}
+use Rattle.std.proofs.Common.{◌≡◌, ⊎_elim, ℕ, ◌+◌, ◌*◌, ◌^◌, ◌<◌, ◌≤◌, List, [], ◌∷◌, ◌++◌, length, get_or, set, pos, refl, sym, ap, ◌∙◌, subst, arith, inl, inr, append_assoc, length-append, length-set, get_or-set_same, get_or-set_other}
 use Rattle.std.proofs.Math.Nat.{mul-le-mul_left}
 use Rattle.std.proofs.lemmas.Bool.{cases_lt}
 use Rattle.rv_code.specs.declared.instruction.Inst.TheVariants.{OpImm, Store}
@@ -13,18 +13,18 @@ use Rattle.rv_asm.proofs.Places.{Has-front, Has-back}
 use Rattle.rv_asm.proofs.Registers.{put-other}
 use Rattle.rv_asm.proofs.Stretches.{then-runs}
 use Rattle.action_terms.specs.Acting.{Called, Run}
-use Rattle.action_terms.specs.Actions.{Node, Unfolding, Unfold, node_at}
+use Rattle.action_terms.specs.Actions.{node_at}
 use Rattle.action_terms.specs.Frames.{Frame, InCalled, plug, plugged}
 use Rattle.action_terms.specs.Information.{Token, Binds, Data, World}
 use Rattle.action_terms.specs.Need.{node_yielder_count}
 use Rattle.action_terms.specs.Performances.{OneOf, Here}
-use Rattle.action_terms.specs.Steps.{Step, open_steps, silent}
+use Rattle.action_terms.specs.Steps.{Step, silent}
 use Rattle.action_terms.proofs.Parts.{Reaches, reaches-quiet}
 use Rattle.rv_prelude.proofs.Jumps.{jumped, jump-runs}
 use Rattle.rv_yield.specs.Evaluates.{HasFrame}
 use Rattle.rv_codegen.specs.AddressItems.{address_items}
-use Rattle.rv_codegen.specs.Blocks.{full_label, return_of, start_of, stop_of}
-use Rattle.rv_codegen.specs.CallItems.{enter_items, return_items, room_items}
+use Rattle.rv_codegen.specs.Blocks.{full_label, start_of, stop_of}
+use Rattle.rv_codegen.specs.CallItems.{return_items, room_items}
 use Rattle.rv_codegen.specs.CaughtItems.{caught_items}
 use Rattle.rv_codegen.proofs.Around.{CalledFrame}
 use Rattle.rv_codegen.proofs.AroundKept.{Agrees, around-kept, frames-high}
@@ -36,7 +36,7 @@ use Rattle.rv_codegen.proofs.Configurations.{depth, performances}
 use Rattle.rv_codegen.proofs.Escaping.{first-low, first-near, in-row}
 use Rattle.rv_codegen.proofs.Fullness.{call-full, open-call}
 use Rattle.rv_codegen.proofs.GivenItems.{holds-length}
-use Rattle.rv_codegen.proofs.Holding.{Holds, HoldsBinds, Slot, apart-fewer, grows-same, holds-kept, in_row}
+use Rattle.rv_codegen.proofs.Holding.{Holds, HoldsBinds, apart-fewer, grows-same, holds-kept, in_row}
 use Rattle.rv_codegen.proofs.InputLeft.{left-same}
 use Rattle.rv_codegen.proofs.NodeParts.{Calls, CallsByNumber, IsNode}
 use Rattle.rv_codegen.proofs.RestPoints.{Laid, Region, IsAt, Starting, starts, StartGoesOn, near}

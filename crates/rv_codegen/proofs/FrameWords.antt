@@ -66,7 +66,7 @@ put-frame_words (g ∷ fs) xs f n w one within x m =
     let long = length-put_words g.nodes g.words xs in
     either
     (λ e. let there : OneOf n g.nodes = subst (λ (h : Frame). OneOf n h.nodes) e m in
-        kept-frame_words fs (put_words g.nodes g.words xs) n.node w (λ h k y. one h k (Later y)) (omega (arith, within, long)) (put-words g.nodes g.words xs n within there ∙ one g n Here there refl))
+    kept-frame_words fs (put_words g.nodes g.words xs) n.node w (λ h k y. one h k (Later y)) (omega (arith, within, long)) (put-words g.nodes g.words xs n within there ∙ one g n Here there refl))
     (λ later. put-frame_words fs (put_words g.nodes g.words xs) f n w (λ h k y. one h k (Later y)) (omega (arith, within, long)) later m) (member_cases x)
 
 module _ (a : Action) (trees : HasTrees a) (t : MarkedTable) (fs : List Frame) (laid : IsLayout a t fs) (apart : All HasApartNodes fs) (ns : List PlacedNode) (by_number : AreByNumber a fs ns) where
@@ -75,7 +75,7 @@ module _ (a : Action) (trees : HasTrees a) (t : MarkedTable) (fs : List Frame) (
       let h = has-frame a trees t fs laid apart ns by_number k within in
       let n = h.member in
       let same : (g : Frame) (m : PlacedNode) → OneOf g fs → OneOf m g.nodes → m.node ≡ k → g.words ≡ words_at fs (procedure_of a k) = λ g m x y e.
-          let root : procedure_of a m.node ≡ g.root = eq_of_test (procedure_of a m.node) g.root (node-in a t fs laid g m x y).1 in
-          sym (ap (words_at fs) (ap (procedure_of a) (sym e) ∙ root) ∙ words-are fs g (roots-rise a t fs laid) x) in
+      let root : procedure_of a m.node ≡ g.root = eq_of_test (procedure_of a m.node) g.root (node-in a t fs laid g m x y).1 in
+      sym (ap (words_at fs) (ap (procedure_of a) (sym e) ∙ root) ∙ words-are fs g (roots-rise a t fs laid) x) in
       subst (λ i. get_or (put_frame_words fs (replicate (length a) 0)) i 0 ≡ words_at fs (procedure_of a k)) h.node
       (put-frame_words fs (replicate (length a) 0) h.frame _ (words_at fs (procedure_of a k)) (λ g m x y e. same g m x y (e ∙ h.node)) (omega (arith, h.node, within, length-replicate {A = ℕ} (length a) 0)) h.listed n)

@@ -1,5 +1,5 @@
 -- Nodes leave their data in consecutive words.
-use Rattle.std.proofs.Common.{◌≡◌, ⊎_elim, ℕ, zero, suc, ◌+◌, ◌≤◌, List, [], ◌∷◌, ◌++◌, length, get_or, drop, take, refl, sym, ap, subst, ◌∙◌, arith}
+use Rattle.std.proofs.Common.{◌≡◌, ℕ, zero, suc, ◌+◌, List, [], ◌∷◌, length, get_or, drop, take, refl, ap, ◌∙◌}
 use Rattle.std.specs.Prelude.{All, Option, Some, None, nat_eq}
 use Rattle.std.specs.List.{range_with_len}
 use Rattle.action_terms.specs.Actions.{Action, AndThen, Before, Both, Hence, Node, Phases, Then, node_at}

@@ -1,11 +1,11 @@
 -- A body has completed: the code returns to the node that has called it, which takes back what the body has left.
-use Rattle.std.proofs.Common.{◌≡◌, ⊎_elim, ℕ, ◌+◌, ◌*◌, ◌%◌, ◌^◌, ◌<◌, ◌≤◌, List, [], ◌∷◌, ◌++◌, length, length-append, get_or, pos, refl, sym, ap, ◌∙◌, subst, arith, inl, append_assoc}
+use Rattle.std.proofs.Common.{◌≡◌, ⊎_elim, ℕ, ◌+◌, ◌*◌, ◌<◌, ◌≤◌, List, [], ◌∷◌, ◌++◌, length, length-append, get_or, pos, refl, sym, ap, ◌∙◌, subst, arith, inl, append_assoc}
 use Rattle.std.proofs.Math.Nat.{mul-le-mul_left}
 use Rattle.rv_code.specs.declared.instruction.Inst.{Inst}
 use Rattle.rv_code.specs.declared.instruction.Inst.TheVariants.{Load}
 use Rattle.rv_code.specs.declared.instruction.LoadOp.TheVariants.{Ld}
 use Rattle.rv_asm.specs.Assembly.{address_of}
-use Rattle.rv_asm.specs.WordMachine.{WordState, Goes, Has, run_words}
+use Rattle.rv_asm.specs.WordMachine.{Goes, Has, run_words}
 use Rattle.rv_asm.proofs.Moments.{quiet-advance}
 use Rattle.rv_asm.proofs.Places.{Has-front, Has-back}
 use Rattle.rv_asm.proofs.Stretches.{then-runs}
@@ -14,7 +14,7 @@ use Rattle.action_terms.specs.Acting.{Called, Done, Ended, Tree}
 use Rattle.action_terms.specs.Frames.{InCalled, plugged}
 use Rattle.action_terms.specs.Need.{node_yielder_count}
 use Rattle.action_terms.specs.Performances.{OneOf, Here}
-use Rattle.action_terms.specs.Steps.{Step, open_steps, silent}
+use Rattle.action_terms.specs.Steps.{open_steps, silent}
 use Rattle.action_terms.proofs.Parts.{reaches-quiet}
 use Rattle.rv_yield.specs.Evaluates.{HasFrame}
 use Rattle.rv_codegen.specs.AddressItems.{address_items}

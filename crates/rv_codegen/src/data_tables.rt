@@ -7,7 +7,9 @@ ghost use Rattle.frame_layout.specs.Places.{Frame, PlacedNode, frames_of, placed
 ghost use Rattle.rv_codegen.specs.Aliases.{back_places, front_places, given_in, given_of, handed_to, list_at, lists_of, out_in, out_of, place_at, put_frame_words, whole_places};
 ghost use Rattle.sort_rules.specs.Procedures.{parts_at};
 
-use crate::node_places::{escaped_rows, frame_words, own_escaped, own_given, own_out, record_words};
+use crate::node_places::{
+    escaped_rows, frame_words, own_escaped, own_given, own_out, record_words,
+};
 use acg_base::Memory;
 use action_terms::{Chain, Graph, NodeView};
 use frame_layout::{Layout, NodePlaces};

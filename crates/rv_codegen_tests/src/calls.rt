@@ -107,15 +107,7 @@ fn calls_without_end_are_full(rt: HostRuntime) -> Result<(), Fail> {
 // Not even the frame of the main procedure fits.
 #[test]
 fn the_main_procedure_has_no_room(rt: HostRuntime) -> Result<(), Fail> {
-    runs(
-        &rt,
-        rt.alloc(),
-        &endless(),
-        39,
-        2,
-        Run::Budget,
-        &[],
-    )?;
+    runs(&rt, rt.alloc(), &endless(), 39, 2, Run::Budget, &[])?;
     runs(
         &rt,
         rt.alloc(),
@@ -129,15 +121,7 @@ fn the_main_procedure_has_no_room(rt: HostRuntime) -> Result<(), Fail> {
 
 #[test]
 fn calls_go_on_within_a_budget(rt: HostRuntime) -> Result<(), Fail> {
-    runs(
-        &rt,
-        rt.alloc(),
-        &endless(),
-        40000,
-        1000,
-        Run::Budget,
-        &[],
-    )
+    runs(&rt, rt.alloc(), &endless(), 40000, 1000, Run::Budget, &[])
 }
 
 // unfolding send 1

@@ -1,4 +1,4 @@
-use Rattle.std.proofs.Common.{◌≡◌, [], ◌∷◌, ◌++◌, ap, ◌∙◌, map, refl, subst, sym, false}
+use Rattle.std.proofs.Common.{◌≡◌, [], ◌∷◌, ap, ◌∙◌, map, subst, sym, false}
 use Rattle.std.specs.Prelude.{slice_index}
 use Rattle.rv_asm.specs.Assembly.{is_placed}
 use Rattle.rv_asm.specs.declared.item.Item.TheVariants.{Mark, Plain}

@@ -1,4 +1,4 @@
-use Rattle.std.proofs.Common.{◌≡◌, ◌≤◌, ap, ◌∙◌, add-one, arith, length, subst, sym, false}
+use Rattle.std.proofs.Common.{◌≡◌, ap, ◌∙◌, add-one, arith, subst, sym, false}
 use Rattle.rv_asm.specs.Assembly.{is_placed, total}
 use Rattle.rv_asm.proofs.Labels.{total-append}
 use Rattle.rv_codegen.specs.Aliases.{lists_of}

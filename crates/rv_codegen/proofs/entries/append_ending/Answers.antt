@@ -1,4 +1,4 @@
-use Rattle.std.proofs.Common.{◌≡◌, ◌++◌, [], ◌∷◌, ap, ◌∙◌, refl, map, subst, sym, inl, inr, arith, false}
+use Rattle.std.proofs.Common.{◌≡◌, ◌++◌, [], ◌∷◌, ap, ◌∙◌, refl, map, subst, sym, inr, arith, false}
 use Rattle.rv_asm.specs.Assembly.{is_placed}
 use Rattle.rv_asm.specs.declared.item.Item.TheVariants.{Jump, Mark, Plain}
 use Rattle.rv_codegen.specs.Blocks.{completed_label, end_label, opening, return_of}
