@@ -48,7 +48,7 @@ use Rattle.rv_codegen.proofs.LayoutWords.{in-fits, keep-reached, keep-within, la
 use Rattle.rv_codegen.proofs.NodeParts.{CallsByNumber, IsNode, IsPartOf, IsTailOf, KeepsRecord, part-node}
 use Rattle.rv_codegen.proofs.CalledBodies.{HasBodies, body-root, body-whole}
 use Rattle.rv_codegen.proofs.CallStands.{CallStands, call-stands}
-use Rattle.rv_codegen.proofs.Calling.{LaidCalls}
+use Rattle.rv_codegen.proofs.CallsLaid.{LaidCalls}
 use Rattle.rv_codegen.proofs.OutRows.{out-row}
 use Rattle.rv_codegen.proofs.SuitedCalls.{call-ends}
 use Rattle.rv_codegen.proofs.EscapingWith.{EscapesPlaces}

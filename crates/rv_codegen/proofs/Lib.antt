@@ -99,6 +99,7 @@ pub mod UnfoldedBodies
 pub mod CallStands
 pub mod CalledBodies
 pub mod OutRows
+pub mod CallsLaid
 pub mod Calling
 pub mod ReturnCode
 pub mod Returning

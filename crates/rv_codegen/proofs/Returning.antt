@@ -24,7 +24,7 @@ use Rattle.rv_codegen.specs.CaughtItems.{caught_items}
 use Rattle.rv_codegen.proofs.Around.{BindsLeft, CalledFrame}
 use Rattle.rv_codegen.proofs.AroundKept.{Agrees, around-kept, frames-high}
 use Rattle.rv_codegen.proofs.CallStands.{FetchStands}
-use Rattle.rv_codegen.proofs.Calling.{LaidCalls}
+use Rattle.rv_codegen.proofs.CallsLaid.{LaidCalls}
 use Rattle.rv_codegen.proofs.CaughtPlaces.{row-inside}
 use Rattle.rv_codegen.proofs.CaughtWords.{Catches, catches-run}
 use Rattle.rv_codegen.proofs.Configurations.{depth, performances}

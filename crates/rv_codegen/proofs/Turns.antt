@@ -21,7 +21,8 @@ use Rattle.rv_codegen.specs.Built.{is_built_node}
 use Rattle.rv_prelude.proofs.Jumps.{jumped, jump-runs}
 use Rattle.rv_codegen.proofs.Alternating.{Alternative, or-starts}
 use Rattle.rv_codegen.proofs.ArmsDone.{or-done, cut-done}
-use Rattle.rv_codegen.proofs.Calling.{LaidCalls, call-goes}
+use Rattle.rv_codegen.proofs.CallsLaid.{LaidCalls}
+use Rattle.rv_codegen.proofs.Calling.{call-goes}
 use Rattle.rv_codegen.proofs.Catching.{escapes-go}
 use Rattle.rv_codegen.proofs.Checking.{IsCheckable, check-goes}
 use Rattle.rv_codegen.proofs.Completions.{tail-done}
