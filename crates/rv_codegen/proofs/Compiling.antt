@@ -16,7 +16,7 @@ use Rattle.action_terms.specs.Information.{Binds, Data, NoBinds, World}
 use Rattle.action_terms.specs.Literals.{NumbersFit}
 use Rattle.action_terms.specs.Need.{node_yielder_count}
 use Rattle.action_terms.specs.Performances.{OneOf, Here, Later}
-use Rattle.rv_codegen.specs.Blocks.{completed_label, failed_label, escaped_label, first_label, front_of, start_of, stop_of, exits_of, framed_items, opening, goes, body}
+use Rattle.rv_codegen.specs.Blocks.{completed_label, failed_label, escaped_label, full_label, first_label, front_of, start_of, stop_of, exits_of, framed_items, opening, goes, body}
 use Rattle.sort_rules.specs.Admissible.{IsAdmissible}
 use Rattle.sort_rules.specs.Measures.{sizes, width}
 use Rattle.sort_rules.specs.Procedures.{procedure_of}
@@ -62,7 +62,7 @@ use Rattle.rv_codegen.proofs.Turns.{Compiled}
 use Rattle.rv_codegen.proofs.Unbound.{joins-none, chains-none}
 use Rattle.rv_prelude.specs.Items.{entries_from}
 use Rattle.rv_prelude.proofs.Cursors.{Cursor}
-use Rattle.rv_prelude.proofs.Entered.{Entry as EntryAt, escapes, escapes-out, fails, fails-out}
+use Rattle.rv_prelude.proofs.Entered.{Entry as EntryAt, allocates-back, allocates-nothing, escapes, escapes-out, fails, fails-out, receives-back, receives-nothing}
 use Rattle.rv_codegen.proofs.Walk.{way-stands}
 
 -- an action whose nodes have code and make a tree
@@ -399,10 +399,18 @@ module _ (x : Subject) (fs : List Frame) (ok : IsCompilable x.action) (framed : 
         numbers = ok.numbers;
         few = ok.few;
         within = λ k h. omega (arith, within k h);
+        joint_within = λ k h. omega (arith, within k h);
         uncalled = λ n c h. h;
         completed = subst (λ i. Has (code s) (address_of (spot s.items i)) (far_jump (spot s.items i) (spot s.items completed_label))) (sym (root-exit x.action ok.tree ok.some)) stood.completed;
         completed_exits = ending-at completed_label 0 there.completed;
         send = subst (λ n. Has (code s) (address_of n) send_code) (sym there.send.is) there.send.stands;
+        storage = record {
+          allocates = allocates-back s.items e x.stack x.units there whole-laid.small;
+          allocates_none = allocates-nothing s.items e x.stack x.units there whole-laid.small;
+          full_exits = ending-at full_label 3 there.full;
+          receives = receives-back s.items e x.stack x.units there whole-laid.small;
+          receives_none = receives-nothing s.items e x.stack x.units there whole-laid.small;
+        };
       }
 
   -- the region lies below

@@ -8,7 +8,7 @@ use Rattle.rv_asm.specs.Conventions.{frame_register}
 use Rattle.rv_asm.specs.Pieces.{load_constant}
 use Rattle.rv_asm.specs.declared.item.Item.{Item}
 use Rattle.rv_asm.specs.declared.item.Item.TheVariants.{Plain, Mark, Jump, Address}
-use Rattle.action_terms.specs.Actions.{Yielder, Item as DataItem, Complete, Failing, Escape, EscapeWith, Commit, Regive, Give, Check, Send, Node, Simple, Both, Phases, Either, Trapping, Action}
+use Rattle.action_terms.specs.Actions.{Yielder, Item as DataItem, Complete, Failing, Escape, EscapeWith, Commit, Regive, Give, Check, Store, Allocate, Receive, Send, Node, Simple, Both, Phases, Either, Trapping, Action}
 use Rattle.rv_yield.specs.Conditions.{condition_items}
 use Rattle.rv_yield.specs.Registers.{first_register}
 use Rattle.rv_yield.specs.YielderCode.{value_items}
@@ -16,8 +16,9 @@ use Rattle.rv_prelude.specs.Items.{entries_from, prelude_items}
 use Rattle.rv_prelude.specs.Pieces.{commit, close_alternative, open_alternative_items}
 use Rattle.frame_layout.specs.Places.{Frame, PlacedNode}
 use Rattle.rv_codegen.specs.Aliases.{given_of, list_at, out_of, places_in}
-pub use Rattle.rv_codegen.specs.NodeLabels.{completed_label, failed_label, escaped_label, fail_label, escape_label, send_label, start_label, end_label, first_label, front_of, start_of, stop_of, joint_of}
+pub use Rattle.rv_codegen.specs.NodeLabels.{completed_label, failed_label, escaped_label, full_label, fail_label, escape_label, send_label, receive_label, allocate_label, start_label, end_label, first_label, front_of, start_of, stop_of, joint_of}
 use Rattle.rv_codegen.specs.TrapItems.{traps}
+use Rattle.rv_codegen.specs.StorageItems.{fetches, stores}
 use Rattle.rv_codegen.specs.GivenItems.{escape_with_items, give_items, moves_items}
 
 -- ---- nodes
@@ -105,6 +106,9 @@ body ws k exit (Simple Failing) = Jump fail_label ∷ []
 body ws k exit (Simple Escape) = escapes (ws k).given
 body ws k exit (Simple (EscapeWith is)) = escapes_with (ws k).given (ws k).escaped is
 body ws k exit (Simple (Check y)) = checks (ws k).given k y ++ leaves k exit
+body ws k exit (Simple (Store y1 y2)) = stores (ws k).given k y1 y2 ++ leaves k exit
+body ws k exit (Simple Allocate) = fetches allocate_label (ws k).out k ++ leaves k exit
+body ws k exit (Simple Receive) = fetches receive_label (ws k).out k ++ leaves k exit
 body ws k exit (Simple (Send y)) = sends (ws k).given k y ++ leaves k exit
 body ws k exit (Both j l r) = goes (start_of (suc k)) (start_of l)
 body ws k exit (Phases q l r) = goes (start_of (suc k)) (start_of l)

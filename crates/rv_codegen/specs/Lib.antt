@@ -9,3 +9,4 @@ pub mod GivenItems
 pub mod ItemCode
 pub mod CaughtItems
 pub mod TrapItems
+pub mod StorageItems

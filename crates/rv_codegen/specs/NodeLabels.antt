@@ -15,6 +15,10 @@ failed_label = 1
 abbrev pub escaped_label : ℕ
 escaped_label = 2
 
+-- the end of one that passes the capacity
+abbrev pub full_label : ℕ
+full_label = 3
+
 -- the entry for failures
 abbrev pub fail_label : ℕ
 fail_label = 4
@@ -26,6 +30,14 @@ escape_label = 5
 -- the entry that sends
 abbrev pub send_label : ℕ
 send_label = 7
+
+-- the entry that receives
+abbrev pub receive_label : ℕ
+receive_label = 8
+
+-- the entry that allocates
+abbrev pub allocate_label : ℕ
+allocate_label = 9
 
 -- where the first instructions arrive
 abbrev pub start_label : ℕ
