@@ -65,6 +65,6 @@ start_of k = first_label + 1 + 4 * k
 abbrev pub stop_of : ℕ → ℕ
 stop_of k = first_label + 2 + 4 * k
 
--- where the trap k copies what was caught for its handler
+-- where the trap k copies what was caught for its handler, or the place behind what node k does with the word that an entry returned
 abbrev pub joint_of : ℕ → ℕ
 joint_of k = first_label + 3 + 4 * k
