@@ -69,7 +69,7 @@ use Rattle.rv_codegen.proofs.Turns.{Compiled}
 use Rattle.rv_codegen.proofs.Unbound.{joins-none, chains-none}
 use Rattle.rv_prelude.specs.Items.{entries_from}
 use Rattle.rv_prelude.proofs.Cursors.{Cursor}
-use Rattle.rv_prelude.proofs.Entered.{Entry as EntryAt, escapes, escapes-out, fails, fails-out}
+use Rattle.rv_prelude.proofs.Entered.{Entry as EntryAt, allocates-back, allocates-nothing, escapes, escapes-out, fails, fails-out, receives-back, receives-nothing}
 use Rattle.rv_codegen.proofs.Walk.{way-stands}
 
 -- an action whose nodes have code and make a tree
@@ -444,10 +444,18 @@ module _ (x : Subject) (fs : List Frame) (ok : IsCompilable x.action) (framed : 
         numbers = ok.numbers;
         few = ok.few;
         within = λ k h. omega (arith, within k h);
+        joint_within = λ k h. omega (arith, within k h);
         calls = calls-laid;
         completed = subst (λ i. Has (code s) (address_of (spot s.items i)) (far_jump (spot s.items i) (spot s.items completed_label))) (sym (root-exit x.action ok.tree ok.some)) stood.completed;
         completed_exits = ending-at completed_label 0 there.completed;
         send = subst (λ n. Has (code s) (address_of n) send_code) (sym there.send.is) there.send.stands;
+        storage = record {
+          allocates = allocates-back s.items e x.stack x.units there whole-laid.small;
+          allocates_none = allocates-nothing s.items e x.stack x.units there whole-laid.small;
+          full_exits = ending-at full_label 3 there.full;
+          receives = receives-back s.items e x.stack x.units there whole-laid.small;
+          receives_none = receives-nothing s.items e x.stack x.units there whole-laid.small;
+        };
       }
 
   -- the region lies below

@@ -6,7 +6,7 @@ use Rattle.std.proofs.lemmas.Bool.{cases_lt}
 use Rattle.std.proofs.lemmas.List.{get_or_past, length-map, length-replicate}
 use Rattle.rv_asm.specs.declared.item.Item.{Item}
 use Rattle.rv_asm.specs.declared.item.Item.TheVariants.{Jump, Mark}
-use Rattle.action_terms.specs.Actions.{Action, Check, Either, Escape, EscapeWith, Give, Node, Regive, Send, Simple, Trapping, Unfold, Unfolding}
+use Rattle.action_terms.specs.Actions.{Action, Check, Either, Escape, EscapeWith, Give, Node, Regive, Store, Allocate, Receive, Send, Simple, Trapping, Unfold, Unfolding}
 use Rattle.sort_rules.specs.Measures.{width}
 use Rattle.sort_rules.specs.Procedures.{procedure_of}
 use Rattle.sort_rules.specs.Tables.{MarkedTable}
@@ -16,7 +16,8 @@ use Rattle.frame_layout.proofs.GraphParts.{HasTrees}
 use Rattle.frame_layout.proofs.Words.{all-members}
 use Rattle.rv_prelude.specs.Items.{entries_from, prelude_items}
 use Rattle.rv_codegen.specs.Aliases.{AreByNumber, given_of, list_at, lists_of, nowhere, out_of, place_at, places_in, put_frames, words_at}
-use Rattle.rv_codegen.specs.Blocks.{NodeWords, action_items, arms, block, blocks_from, body, calls, checks, ending, escapes, escapes_with, exits_of, framed_items, gives, leaves, opening, placed_words, regives, sends, start_label, table_words}
+use Rattle.rv_codegen.specs.StorageItems.{fetches, stores}
+use Rattle.rv_codegen.specs.Blocks.{NodeWords, action_items, allocate_label, arms, block, blocks_from, body, calls, checks, ending, escapes, escapes_with, exits_of, framed_items, gives, leaves, opening, placed_words, receive_label, regives, sends, start_label, table_words}
 use Rattle.rv_codegen.specs.TrapItems.{traps}
 use Rattle.rv_codegen.specs.ItemCode.{AreReached}
 use Rattle.rv_codegen.proofs.AliasPlaces.{HasOwnWords, given-within, out-within}
@@ -40,6 +41,9 @@ body-same ws vs k exit (Simple (Give is)) e f = ap (λ (w : NodeWords). gives w.
 body-same ws vs k exit (Simple Escape) e f = ap (λ (w : NodeWords). escapes w.given) e
 body-same ws vs k exit (Simple (EscapeWith is)) e f = ap (λ (w : NodeWords). escapes_with w.given w.escaped is) e
 body-same ws vs k exit (Simple (Check y)) e f = ap (λ (w : NodeWords). checks w.given k y ++ leaves k exit) e
+body-same ws vs k exit (Simple (Store y1 y2)) e f = ap (λ (w : NodeWords). stores w.given k y1 y2 ++ leaves k exit) e
+body-same ws vs k exit (Simple Allocate) e f = ap (λ (w : NodeWords). fetches allocate_label w.out k ++ leaves k exit) e
+body-same ws vs k exit (Simple Receive) e f = ap (λ (w : NodeWords). fetches receive_label w.out k ++ leaves k exit) e
 body-same ws vs k exit (Simple (Send y)) e f = ap (λ (w : NodeWords). sends w.given k y ++ leaves k exit) e
 body-same ws vs k exit (Either l r) e f = ap (λ (w : NodeWords). arms w.keep k l r ++ (Jump exit ∷ [])) e
 body-same ws vs k exit (Trapping l r) e f =

@@ -92,6 +92,14 @@ pub mod Catching
 pub mod SharedEnds
 pub mod TrapCodes
 pub mod CaughtCode
+pub mod InputTaken
+pub mod Fetching
+pub mod StorageEntries
+pub mod Allocating
+pub mod Receiving
+pub mod OperandRegisters
+pub mod CellWritten
+pub mod Storing
 pub mod CallCode
 pub mod CalledItems
 pub mod FrameWords

@@ -2,7 +2,7 @@
 use Rattle.std.specs.Prelude.{ℕ, suc, nat_eq, if◌then◌else◌, true, List, [], ◌∷◌, ◌++◌, map, slice_index, slice_set, replicate, length}
 use Rattle.rv_asm.specs.declared.item.Item.{Item}
 use Rattle.rv_asm.specs.declared.item.Item.TheVariants.{Plain, Mark, Jump, Address}
-use Rattle.action_terms.specs.Actions.{Yielder, Item as DataItem, Complete, Failing, Escape, EscapeWith, Commit, Regive, Give, Check, Send, Node, Simple, Unfolding, Unfold, Both, Phases, Either, Trapping, Action}
+use Rattle.action_terms.specs.Actions.{Yielder, Item as DataItem, Complete, Failing, Escape, EscapeWith, Commit, Regive, Give, Check, Store, Allocate, Receive, Send, Node, Simple, Unfolding, Unfold, Both, Phases, Either, Trapping, Action}
 use Rattle.rv_yield.specs.Conditions.{condition_items}
 use Rattle.rv_yield.specs.YielderCode.{value_items}
 use Rattle.rv_prelude.specs.Items.{entries_from, prelude_items}
@@ -10,10 +10,11 @@ use Rattle.rv_prelude.specs.Pieces.{commit, close_alternative, open_alternative_
 use Rattle.sort_rules.specs.Procedures.{procedure_of}
 use Rattle.frame_layout.specs.Places.{Frame, PlacedNode}
 use Rattle.rv_codegen.specs.Aliases.{given_of, list_at, out_of, places_in, words_at}
-pub use Rattle.rv_codegen.specs.NodeLabels.{completed_label, failed_label, escaped_label, full_label, fail_label, escape_label, send_label, start_label, end_label, first_label, front_of, start_of, stop_of, joint_of, return_of}
+pub use Rattle.rv_codegen.specs.NodeLabels.{completed_label, failed_label, escaped_label, full_label, fail_label, escape_label, send_label, receive_label, allocate_label, start_label, end_label, first_label, front_of, start_of, stop_of, joint_of, return_of}
 pub use Rattle.rv_codegen.specs.AddressItems.{address_items}
 use Rattle.rv_codegen.specs.CallItems.{call_items, fetch_items, return_items}
 use Rattle.rv_codegen.specs.TrapItems.{traps}
+use Rattle.rv_codegen.specs.StorageItems.{fetches, stores}
 use Rattle.rv_codegen.specs.GivenItems.{escape_with_items, give_items, moves_items}
 
 -- ---- nodes
@@ -105,6 +106,9 @@ body ws k exit (Simple Failing) = Jump fail_label ∷ []
 body ws k exit (Simple Escape) = escapes (ws k).given
 body ws k exit (Simple (EscapeWith is)) = escapes_with (ws k).given (ws k).escaped is
 body ws k exit (Simple (Check y)) = checks (ws k).given k y ++ leaves k exit
+body ws k exit (Simple (Store y1 y2)) = stores (ws k).given k y1 y2 ++ leaves k exit
+body ws k exit (Simple Allocate) = fetches allocate_label (ws k).out k ++ leaves k exit
+body ws k exit (Simple Receive) = fetches receive_label (ws k).out k ++ leaves k exit
 body ws k exit (Simple (Send y)) = sends (ws k).given k y ++ leaves k exit
 body ws k exit (Both j l r) = goes (start_of (suc k)) (start_of l)
 body ws k exit (Phases q l r) = goes (start_of (suc k)) (start_of l)

@@ -11,3 +11,4 @@ pub mod CaughtItems
 pub mod TrapItems
 pub mod AddressItems
 pub mod CallItems
+pub mod StorageItems

@@ -15,7 +15,7 @@ failed_label = 1
 abbrev pub escaped_label : ℕ
 escaped_label = 2
 
--- the end of one that needs more than there is
+-- the end of one that passes the capacity
 abbrev pub full_label : ℕ
 full_label = 3
 
@@ -30,6 +30,14 @@ escape_label = 5
 -- the entry that sends
 abbrev pub send_label : ℕ
 send_label = 7
+
+-- the entry that receives
+abbrev pub receive_label : ℕ
+receive_label = 8
+
+-- the entry that allocates
+abbrev pub allocate_label : ℕ
+allocate_label = 9
 
 -- where the first instructions arrive
 abbrev pub start_label : ℕ
@@ -57,7 +65,7 @@ start_of k = first_label + 1 + 4 * k
 abbrev pub stop_of : ℕ → ℕ
 stop_of k = first_label + 2 + 4 * k
 
--- where the trap k copies what was caught for its handler
+-- where the trap k copies what was caught for its handler, or the place behind what node k does with the word that an entry returned
 abbrev pub joint_of : ℕ → ℕ
 joint_of k = first_label + 3 + 4 * k
 

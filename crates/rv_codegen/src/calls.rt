@@ -16,8 +16,9 @@ ghost use Rattle.rv_codegen.specs.CallItems.{behind_items, room_items, enter_ite
 ghost use Rattle.rv_codegen.specs.Marks.{extended, PlacesStop};
 
 use crate::entries::FRAME;
+use crate::escapes::{append_address, first_word};
 use crate::handlers::append_catch;
-use crate::node::{append_address, append_way, first_word};
+use crate::jumps::append_way;
 use crate::plan::Plan;
 use acg_base::Memory;
 use rv_asm::pieces::load_constant;

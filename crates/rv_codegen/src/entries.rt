@@ -4,7 +4,7 @@ ghost use Rattle.std.specs.Prelude.{◌≡◌, ◌+◌, ◌*◌, ◌<◌, ◌≤
 ghost use Rattle.rv_asm.specs.Assembly.{total};
 ghost use Rattle.rv_asm.specs.declared.item.Item.TheVariants.{Mark};
 ghost use Rattle.rv_prelude.specs.Items.{entries_from, prelude_items};
-ghost use Rattle.rv_codegen.specs.Blocks.{completed_label, full_label, fail_label, escape_label, send_label, start_label, end_label, first_label, opening, ending};
+ghost use Rattle.rv_codegen.specs.Blocks.{completed_label, full_label, fail_label, escape_label, send_label, receive_label, allocate_label, start_label, end_label, first_label, opening, ending};
 ghost use Rattle.rv_codegen.specs.Marks.{extended, AreFresh};
 
 use crate::calls::append_return;
@@ -31,12 +31,16 @@ pub(crate) struct Entries {
     pub(crate) fail: Label,
     pub(crate) escape: Label,
     pub(crate) send: Label,
+    pub(crate) receive: Label,
+    pub(crate) allocate: Label,
     pub(crate) end: Label,
     ghost completed_is: { completed ≡ completed_label },
     ghost full_is: { full ≡ full_label },
     ghost fail_is: { fail ≡ fail_label },
     ghost escape_is: { escape ≡ escape_label },
     ghost send_is: { send ≡ send_label },
+    ghost receive_is: { receive ≡ receive_label },
+    ghost allocate_is: { allocate ≡ allocate_label },
     ghost end_is: { end ≡ end_label },
 }
 
@@ -65,6 +69,8 @@ pub(crate) fn append_prelude(asm: &mut Asm, capacity: Capacity) -> Result<Entrie
         fail: entries.fail,
         escape: entries.escape,
         send: entries.send,
+        receive: entries.receive,
+        allocate: entries.allocate,
         end: entries.code_end,
     })
 }

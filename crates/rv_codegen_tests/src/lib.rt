@@ -8,4 +8,6 @@ mod counts;
 #[cfg(test)]
 mod generation;
 #[cfg(test)]
+mod storage;
+#[cfg(test)]
 mod tools;
