@@ -10,6 +10,8 @@ use Rattle.rv_asm.proofs.Labels.{total-append}
 use Rattle.rv_yield.proofs.ItemLaws.{IsShort, placed-unmarked}
 use Rattle.rv_codegen.specs.Blocks.{end_label, front_of, start_of, stop_of, joint_of, opening, ending, address_items}
 use Rattle.rv_codegen.specs.Marks.{extended, AreFresh, PlacesStop}
+use Rattle.rv_codegen.specs.StorageItems.{kept_items}
+use Rattle.rv_yield.proofs.Stored.{length-store}
 use Rattle.rv_codegen.proofs.Fresh.{fresh-mark, fresh-plain, fresh-jump, fresh-opening, total-jump, total-plain}
 use Rattle.rv_codegen.proofs.FrameAddresses.{length-address}
 
@@ -46,10 +48,10 @@ joint-fresh s s1 k fresh e = subst (λ z. is_placed z.items (joint_of k) ≡ fal
 pub total-opened : (s s1 : Listing) (k : ℕ) → s1 ≡ record s { items = s.items ++ opening k } → total s1.items ≡ total s.items
 total-opened s s1 k e = ap (λ z. total z.items) e ∙ total-append s.items (opening k) ∙ omega arith
 
--- the ending is a jump
-pub total-ended : (s1 s2 s3 : Listing) (n more : ℕ) → total s2.items ≤ total s1.items + more → s3 ≡ record s2 { items = s2.items ++ ending n } → total s3.items ≤ total s1.items + 2 + more
+-- the ending is a jump, and the way back of bodies
+pub total-ended : (s1 s2 s3 : Listing) (n more : ℕ) → total s2.items ≤ total s1.items + more → s3 ≡ record s2 { items = s2.items ++ ending n } → total s3.items ≤ total s1.items + 4 + more
 total-ended s1 s2 s3 n more nodes last =
-    let b : total s3.items ≡ total s2.items + 2 = ap (λ z. total z.items) last ∙ total-append s2.items (ending n) in
+    let b : total s3.items ≡ total s2.items + 4 = ap (λ z. total z.items) last ∙ total-append s2.items (ending n) in
     omega (arith, b, nodes)
 
 -- ---- labels that are still to be placed, and lengths, as pieces are appended
@@ -128,3 +130,11 @@ address-short s s1 s2 o m first second = omega (arith, jumping-short s s1 s2 (ad
 pub whole-code : (p : List Item) (s s1 s2 : Listing) (l : ℕ) (a b : List Item) → s.items ≡ p ++ (Mark l ∷ []) → s1.items ≡ s.items → s2 ≡ extended s1 a → a ≡ b → s2.items ≡ p ++ (Mark l ∷ b)
 whole-code p s s1 s2 l a b e0 e1 e2 same =
     ap (λ z. z.items) e2 ∙ ap (λ xs. xs ++ a) (e1 ∙ e0) ∙ append_assoc p (Mark l ∷ []) a ∙ ap (λ x. p ++ (Mark l ∷ x)) same
+
+-- a word that is kept
+pub kept-short : (s s1 : Listing) (out : List ℕ) → s1 ≡ extended s (map Plain (kept_items out)) → total s1.items ≤ total s.items + 10
+kept-short s s1 out e = omega (arith, ap (λ z. total z.items) e, total-append s.items (map Plain (kept_items out)), total-plain (kept_items out), few out)
+  where
+    few : (os : List ℕ) → length (kept_items os) ≤ 10
+    few [] = omega arith
+    few (o ∷ os) = length-store o

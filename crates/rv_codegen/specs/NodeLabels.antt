@@ -15,6 +15,10 @@ failed_label = 1
 abbrev pub escaped_label : ℕ
 escaped_label = 2
 
+-- the end of one that passes the capacity
+abbrev pub full_label : ℕ
+full_label = 3
+
 -- the entry for failures
 abbrev pub fail_label : ℕ
 fail_label = 4
@@ -26,6 +30,14 @@ escape_label = 5
 -- the entry that sends
 abbrev pub send_label : ℕ
 send_label = 7
+
+-- the entry that receives
+abbrev pub receive_label : ℕ
+receive_label = 8
+
+-- the entry that allocates
+abbrev pub allocate_label : ℕ
+allocate_label = 9
 
 -- where the first instructions arrive
 abbrev pub start_label : ℕ
@@ -53,6 +65,10 @@ start_of k = first_label + 1 + 4 * k
 abbrev pub stop_of : ℕ → ℕ
 stop_of k = first_label + 2 + 4 * k
 
--- where the trap k copies what was caught for its handler
+-- where the trap k copies what was caught for its handler, or the place behind what node k does with the word that an entry returned
 abbrev pub joint_of : ℕ → ℕ
 joint_of k = first_label + 3 + 4 * k
+
+-- where the bodies of an action of so many nodes go on once they have completed
+abbrev pub return_of : (nodes : ℕ) → ℕ
+return_of nodes = stop_of nodes

@@ -48,6 +48,8 @@ fn is_built_primitive(graph: &Graph<'_>, needs: &[usize], primitive: PrimitiveVi
     match primitive {
         PrimitiveView::Complete
         | PrimitiveView::Commit
+        | PrimitiveView::Allocate
+        | PrimitiveView::Receive
         | PrimitiveView::Regive
         | PrimitiveView::Failing
         | PrimitiveView::Escape => true,
@@ -56,6 +58,10 @@ fn is_built_primitive(graph: &Graph<'_>, needs: &[usize], primitive: PrimitiveVi
         }
         PrimitiveView::Check { yielder } | PrimitiveView::Send { yielder } => {
             registers_of(graph, needs, yielder).is_some()
+        }
+        PrimitiveView::Store { datum, cell } => {
+            registers_of(graph, needs, datum).is_some()
+                && registers_of(graph, needs, cell).is_some()
         }
         _ => false,
     }
@@ -72,7 +78,9 @@ fn is_built(graph: &Graph<'_>, needs: &[usize], k: usize) -> bool
         NodeView::Both { .. }
         | NodeView::Phases { .. }
         | NodeView::Either { .. }
-        | NodeView::Trapping { .. } => true,
+        | NodeView::Trapping { .. }
+        | NodeView::Unfolding { .. }
+        | NodeView::Unfold { .. } => true,
         _ => false,
     }
 }

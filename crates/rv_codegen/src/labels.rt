@@ -39,7 +39,8 @@ impl NodeLabels<'_> {
         self.row[4 * k + 2]
     }
 
-    /// Where the trap k copies what was caught for its handler.
+    /// Where the trap k copies what was caught for its handler, or the place behind what node k does
+    /// with the word that an entry returned.
     pub(crate) fn joint(self, k: usize) -> Label
         requires { 4 * k + 3 < length self.row.now }
         ensures { result ≡ joint_of k }

@@ -2,8 +2,12 @@
 #![tactic(auto)]
 
 #[cfg(test)]
+mod calls;
+#[cfg(test)]
 mod counts;
 #[cfg(test)]
 mod generation;
+#[cfg(test)]
+mod storage;
 #[cfg(test)]
 mod tools;

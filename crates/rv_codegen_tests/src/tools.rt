@@ -59,11 +59,26 @@ pub fn code_of(
     arena: &Bump,
     graph: &Graph<'_>,
 ) -> Result<Code, Fail> {
-    assert!(rt; first_unbuilt(alloc, graph)?.is_none());
     let capacity = Capacity {
         stack: STACK,
         units: 1,
     };
+    code_for(rt, alloc, arena, graph, capacity)
+}
+
+/// The code of the graph's action, by its least table, for a capacity.
+pub fn code_for(
+    rt: &impl Abort,
+    alloc: Global,
+    arena: &Bump,
+    graph: &Graph<'_>,
+    capacity: Capacity,
+) -> Result<Code, Fail> {
+    assert!(rt; first_unbuilt(alloc, graph)?.is_none());
+    assert!(rt; capacity.stack >= 1);
+    assert!(rt; capacity.stack <= 16777216);
+    assert!(rt; capacity.units >= 1);
+    assert!(rt; capacity.units <= 4194304);
     match infer(alloc, arena, graph) {
         Ok(table) => {
             let frames = layout(alloc, arena, graph, &table)?;
