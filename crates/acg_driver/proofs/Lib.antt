@@ -15,3 +15,4 @@ pub mod ImageRuns
 pub mod Performs
 pub mod ActLemmas
 pub mod PerformLemmas
+pub mod DescriptionSizes
