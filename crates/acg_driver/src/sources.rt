@@ -212,8 +212,8 @@ pub(crate) fn read_source<'a>(
 /// Compiles a source by the description of its language to the bytes of an image for the capacity, in memory of its own. The
 /// words of the capacity, of 8 bytes, are from 1 to 16777216, and its units, of 16 bytes, from 1 to 4194304.
 ///
-/// The errors come in their order in `SourceError`: each only where the cause of none before it holds, and exactly where its own
-/// cause does. `SourceError::Memory` may stand in place of all else.
+/// The causes of errors are looked at in the order in which `SourceError` lists them, and each error comes only where its cause
+/// holds. `SourceError::Memory` may stand in place of all else.
 pub fn compile_source(
     alloc: Global,
     description: &[u8],
