@@ -1,21 +1,26 @@
 -- The command `act`: what it says, from what its file gave.
-use Rattle.std.proofs.Common.{◌≡◌, ◌≢◌, ◌⊎◌, inl, inr, ℕ, List, [], ◌∷◌, None, Result, Ok, Err, slice_get, refl}
-use Rattle.std.specs.Prelude.{IfErr}
+use Rattle.std.proofs.Common.{◌≡◌, ◌≢◌, ◌⊎◌, inl, inr, ℕ, List, [], ◌∷◌, Option, Some, None, slice_get, refl, ap}
+use Rattle.acg_base.specs.declared.capacity.Capacity.{Capacity}
 use Rattle.acg_base.specs.declared.sink.Sink.{Ghosts}
 use Rattle.acg_base.specs.declared.status.Status.{Status}
 use Rattle.acg_base.specs.declared.status.Status.TheVariants as status
 use Rattle.action_terms.specs.Numbering.{Listed}
 use Rattle.action_terms.specs.Meaning.{action_of}
 use Rattle.rv_code.specs.Machine.{run}
+use Rattle.sort_rules.specs.Tables.{MarkedTable}
 use Rattle.acg_words.specs.Lines.{status_of}
 use Rattle.acg_words.specs.declared.line.Line.{Line}
 use Rattle.acg_words.specs.declared.line.Line.TheVariants.{IllSorted, Memory, ReadFault, Unbuilt, Exited}
-use Rattle.acg_driver.specs.declared.running.Loaded.{Loaded}
 use Rattle.acg_driver.specs.Texts.{Reads, RefusesText}
 use Rattle.acg_driver.specs.Says.{Said}
-use Rattle.acg_driver.specs.Runs.{instruction_limit, IsRun, IsLoaded}
-use Rattle.acg_driver.specs.Files.{read_status}
-use Rattle.acg_driver.specs.Commands.Act.{IsCompileLine, IsUncompiled, LoadsAct, RunsAct}
+use Rattle.acg_driver.specs.Runs.{IsRun, IsLoaded}
+use Rattle.acg_driver.specs.Inputs.{IsBytesOf}
+use Rattle.acg_driver.specs.Compiling.{IsCompiled}
+use Rattle.acg_driver.specs.Commands.Act.{IsCompileLine, IsUncompiled, IsCompilable, BuildsAct, RefusesAct, StartsAct, RunsAct}
+use Rattle.acg_driver.specs.declared.compiling.Built.{Built}
+use Rattle.acg_driver.specs.declared.running.Ready.{Ready}
+use Rattle.acg_driver.proofs.ActRuns.{built-compiled}
+use Rattle.acg_driver.proofs.TextErrors.{reads-refused}
 use Rattle.acg_driver.proofs.Asking.{text-other}
 use Rattle.acg_driver.proofs.RunLemmas.{run-other}
 
@@ -41,24 +46,44 @@ pub load-other : (bytes : List ℕ) (line : Line) → RefusesText bytes line ⊎
 load-other bytes line (inl refused) = text-other bytes line refused
 load-other bytes line (inr uncompiled) = uncompiled-other bytes line uncompiled
 
-pub loaded-other : {A : Type 0} (bytes : List ℕ) (result : Result A Line) → IfErr result (λ line. RefusesText bytes line ⊎ IsUncompiled bytes line) → read_status result ≢ status.ReadFault
-loaded-other bytes (Ok a) refused = λ e. cc
-loaded-other bytes (Err line) refused = load-other bytes line refused
+-- an action that is compiled is refused for want of memory alone
+pub compilable-refused : (bytes : List ℕ) (line : Line) → IsCompilable bytes → RefusesText bytes line ⊎ IsUncompiled bytes line → status_of line ≡ status.Memory
+compilable-refused bytes line (g, built, sorted) (inl refused) = ap status_of (reads-refused bytes g line built.0 refused)
+compilable-refused bytes line (g, built, sorted) (inr uncompiled) = absurd (built-compiled bytes g line built sorted uncompiled)
 
-pub act-loaded : (givens : List (List ℕ)) (loaded : Loaded) → LoadsAct givens loaded → (g : Listed) × IsLoaded g loaded
-act-loaded (bytes ∷ []) loaded (g, built, is) = (g, is)
-act-loaded [] loaded loads = absurd loads
-act-loaded (bytes ∷ more ∷ others) loaded loads = absurd loads
+-- bytes from which an image was made are those of an action that is compiled
+pub built-compilable : (bytes : List ℕ) (c : Capacity) (built : Built) → BuildsAct bytes c built → IsCompilable bytes
+built-compilable bytes c built (g, reads, (t, compiled)) = (g, (reads, compiled.whole), (t, compiled.least.admissible))
 
-is_run-other : (g : Listed) (text : List ℕ) (s : Status) → IsRun g text s → s ≢ status.ReadFault
-is_run-other g text s (t, least, (file, image, made, (start, load, (rest, is, runs)))) = run-other (run instruction_limit start) rest s runs
+-- the image that was made is loaded, beside the input
+pub act-starts : (c : Capacity) (input : Option (List ℕ)) (bytes : List ℕ) (givens : List (List ℕ)) (built : Built) (ready : Ready) → BuildsAct bytes c built
+    → ((g : Listed) (t : MarkedTable) (c : Capacity) → IsCompiled g t c built → IsLoaded g c ready.loaded) → IsBytesOf input givens ready.input.items → StartsAct c input (bytes ∷ givens) ready
+act-starts c input bytes givens built ready (g, reads, (t, compiled)) loads is = (g, (reads, compiled.whole), (is, loads g t c compiled))
+
+-- where the input is taken, memory may still run out
+pub memory-refuses-act : (action : List ℕ) (input : Option (List ℕ)) (bytes : List ℕ) (givens : List (List ℕ)) (left : List ℕ) → IsCompilable bytes → IsBytesOf input givens left
+    → RefusesAct action input (bytes ∷ givens) Memory
+memory-refuses-act action None bytes [] left compiled is = inl (refl, inl tt)
+memory-refuses-act action None bytes (taken ∷ givens) left compiled is = absurd is
+memory-refuses-act action (Some i) bytes [] left compiled is = absurd is
+memory-refuses-act action (Some i) bytes (taken ∷ []) left compiled is = inr (compiled, tt)
+memory-refuses-act action (Some i) bytes (taken ∷ more ∷ givens) left compiled is = absurd is
+
+pub act-loaded : (c : Capacity) (input : Option (List ℕ)) (givens : List (List ℕ)) (ready : Ready) → StartsAct c input givens ready → (g : Listed) × IsLoaded g c ready.loaded
+act-loaded c input [] ready starts = absurd starts
+act-loaded c input (bytes ∷ givens) ready (g, built, (is, loaded)) = (g, loaded)
+
+is_run-other : (g : Listed) (c : Capacity) (budget : ℕ) (left text : List ℕ) (s : Status) → IsRun g c budget left text s → s ≢ status.ReadFault
+is_run-other g c budget left text s (t, least, (file, image, made, (start, load, (rest, is, runs)))) = run-other (run budget start) rest s runs
 
 module _ {K : Type 0} {sink : Ghosts K} where
   -- the run of what was loaded is what the command says
-  pub act-said : (givens : List (List ℕ)) (loaded : Loaded) {old new : K} {result : Status} → LoadsAct givens loaded → ((g : Listed) → IsLoaded g loaded → Said sink (IsRun g) old new result)
-      → (said : Said sink (RunsAct givens) old new result) × (said.status ≢ status.ReadFault)
-  act-said (bytes ∷ []) loaded (g, built, is) runs =
-      let said = runs g is in
-      (record { text = said.text; status = said.status; said = (g, built, said.said); answered = said.answered }, is_run-other g said.text said.status said.said)
-  act-said [] loaded loads runs = absurd loads
-  act-said (bytes ∷ more ∷ others) loaded loads runs = absurd loads
+  pub act-said : (c : Capacity) (budget : ℕ) (input : Option (List ℕ)) (givens : List (List ℕ)) (ready : Ready) {old new : K} {result : Status} → StartsAct c input givens ready
+      → ((g : Listed) → IsLoaded g c ready.loaded → Said sink (IsRun g c budget ready.input.items) old new result)
+      → (said : Said sink (RunsAct c budget input givens) old new result) × (said.status ≢ status.ReadFault)
+  act-said c budget input [] ready starts runs = absurd starts
+  act-said c budget input (bytes ∷ givens) ready (g, built, (is, loaded)) runs =
+      let said = runs g loaded in (
+        record { text = said.text; status = said.status; said = (g, built, (ready.input.items, is, said.said)); answered = said.answered },
+        is_run-other g c budget ready.input.items said.text said.status said.said,
+      )

@@ -10,8 +10,8 @@ use Rattle.acg_words.specs.Prints.{Answered}
 use Rattle.acg_words.specs.declared.line.Line.{Line}
 use Rattle.acg_words.specs.declared.line.Line.TheVariants.{ReadFault, Words, Exited}
 use Rattle.acg_driver.specs.Says.{Said}
-use Rattle.acg_driver.specs.Files.{files_of, readings_of, ReadOnly, missing_file, FaultsWhere, NamesFault, AsksSurely}
-use Rattle.acg_driver.specs.Serving.{Refuses, Carries, ServedSurely, Handled}
+use Rattle.acg_driver.specs.Files.{files_of, readings_of, ReadOnly, Lacks, missing_file, FaultsWhere, NamesFault, Gathered}
+use Rattle.acg_driver.specs.Serving.{Refuses, GoesOn, Carries, Handled}
 use Rattle.acg_driver.proofs.Asking.{exit_status-other, reads-as, reads-none}
 
 -- a status is that of a failed write, or another one
@@ -44,19 +44,19 @@ faults-answered {IsLacking} {wanted} {result} faults answers = record {
 
 module _ {S K : Type 0} {store : Store S} {sink : Sink K} where
   -- a refusal says its line
-  pub handled-refused : {A : Type 0} {old new : S} {out gained : K} {result : Status} (command : Command) (givens : List (List ℕ)) (line : Line) → Refuses command givens line
-      → ReadOnly store (readings_of (files_of command) givens) (status_of line) old new → Answered sink (bytes_of line) (status_of line) out gained result
-      → (IsTrue (store.sure old) → AsksSurely {A = A} (store.contents old) (files_of command) (Err line)) → (files_of command ≡ [] → ⊥) → Handled store sink (Some command) old new out gained result
-  handled-refused {A} {old} {new} {out} {gained} {result} command givens line refuses reads answered surely some = record {
+  pub handled-refused : {A : Type 0} {Wanted : List (List ℕ) → A → Type 0} {old new : S} {out gained : K} {result : Status} (command : Command) (line : Line)
+      → Gathered store (files_of command) (GoesOn command) (Refuses command) Wanted old new (Err line) → Answered sink (bytes_of line) (status_of line) out gained result
+      → (files_of command ≡ [] → ⊥) → Handled store sink (Some command) old new out gained result
+  handled-refused {A} {Wanted} {old} {new} {out} {gained} {result} command line gathered answered some = record {
     served = record {
-      givens = givens;
+      givens = gathered.refused.0;
       text = bytes_of line;
       status = status_of line;
-      said = inl (line, refuses, (refl, refl));
-      read = reads;
+      said = inl (line, gathered.refused.1, (refl, refl));
+      read = gathered.refused.2;
       answered = answered;
     };
-    surely = λ sure. let asks = surely sure in record {
+    surely = λ sure. let asks = gathered.surely sure in record {
       faults = faults-answered asks.faults answered.answer;
       named = λ fault told.
           let other = read-not_write fault in
@@ -68,19 +68,20 @@ module _ {S K : Type 0} {store : Store S} {sink : Sink K} where
   }
 
   -- what a command says that isn't refused
-  pub handled-said : {A : Type 0} {old new : S} {out gained : K} {result : Status} (command : Command) (givens : List (List ℕ)) (a : A) (said : Said sink (Carries command givens) out gained result)
-      → said.status ≢ status.ReadFault → ReadOnly store (readings_of (files_of command) givens) status.Done old new
-      → (IsTrue (store.sure old) → AsksSurely {A = A} (store.contents old) (files_of command) (Ok a)) → (files_of command ≡ [] → ⊥) → Handled store sink (Some command) old new out gained result
-  handled-said {A} {old} {new} {out} {gained} {result} command givens a said quiet reads surely some = record {
+  pub handled-said : {A : Type 0} {Wanted : List (List ℕ) → A → Type 0} {old new : S} {out gained : K} {result : Status} (command : Command) (a : A)
+      → (gathered : Gathered store (files_of command) (GoesOn command) (Refuses command) Wanted old new (Ok a))
+      → (said : Said sink (Carries command gathered.wanted.0) out gained result)
+      → said.status ≢ status.ReadFault → (files_of command ≡ [] → ⊥) → Handled store sink (Some command) old new out gained result
+  handled-said {A} {Wanted} {old} {new} {out} {gained} {result} command a gathered said quiet some = record {
     served = record {
-      givens = givens;
+      givens = gathered.wanted.0;
       text = said.text;
       status = said.status;
       said = inr said.said;
-      read = reads-as said.status quiet reads;
+      read = reads-as said.status quiet gathered.wanted.2;
       answered = said.answered;
     };
-    surely = λ sure. let asks = surely sure in record {
+    surely = λ sure. let asks = gathered.surely sure in record {
       faults = record {
         only = λ fault. absurd (quiet (sym (said.answered.answer (read-not_write fault)) ∙ fault));
         all = λ lacks. absurd (elim (asks.faults.all lacks) [ inl e ↦ cc | inr others ↦ elim others [ inl e ↦ cc | inr e ↦ cc ] ]);
@@ -120,9 +121,12 @@ module _ {S K : Type 0} {store : Store S} {sink : Sink K} where
       read = subst (λ files. ReadOnly store (readings_of files []) status.Done store_now store_now) (sym none) (reads-none store_now);
       answered = answered;
     };
-    surely = λ sure. subst (λ files. ServedSurely sink (store.contents store_now) files out gained result) (sym none) (record {
-      faults = record { only = λ fault. let both = sym (answered.answer (read-not_write fault)) ∙ fault in cc; all = λ lacks. absurd lacks };
+    surely = λ sure. record {
+      faults = record {
+        only = λ fault. let both = sym (answered.answer (read-not_write fault)) ∙ fault in cc;
+        all = λ lacks. absurd (subst (Lacks (GoesOn command) (store.contents store_now)) none lacks);
+      };
       named = λ fault told. let both = sym (answered.answer (read-not_write fault)) ∙ fault in cc;
-    });
+    };
     idle = λ _. refl;
   }

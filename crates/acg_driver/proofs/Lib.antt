@@ -5,9 +5,11 @@ pub mod Fronts
 pub mod TextErrors
 pub mod Asking
 pub mod Saying
+pub mod InputLemmas
 pub mod Handling
 pub mod RightRuns
 pub mod RunLemmas
+pub mod LoadedRuns
 pub mod PerformanceLemmas
 pub mod ActRuns
 pub mod ImageLemmas

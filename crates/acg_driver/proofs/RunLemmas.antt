@@ -15,43 +15,43 @@ use Rattle.acg_driver.specs.Sending.{IsWhole, SendsMessages}
 use Rattle.acg_driver.proofs.MessageLemmas.{output_lines-append}
 
 -- every run sends whole messages, exits with a code of 0 to 3 and doesn't trap
-abbrev pub Sane : MachineValue → Type 0
-Sane m = (n : ℕ) → SendsMessages (run n (state_of m [] []))
+abbrev pub Sane : MachineValue → (input : List ℕ) → Type 0
+Sane m i = (n : ℕ) → SendsMessages (run n (state_of m i []))
 
-sent-whole : (n : ℕ) (m k : MachineValue) (j : List ℕ) → Sane m → Runs n m [] k j → IsWhole (sent_in n m [])
-sent-whole n m k j sane r = let shown = sane n in rw (r []) at shown
+sent-whole : (n : ℕ) (m k : MachineValue) (i j : List ℕ) → Sane m i → Runs n m i k j → IsWhole (sent_in n m i)
+sent-whole n m k i j sane r = let shown = sane n in rw (r []) at shown
 
 -- the lines of one more instruction stand behind the others
-pub lines-more : (n : ℕ) (m k l : MachineValue) (j q : List ℕ) → Sane m → Runs n m [] k j → Steps k j l q →
-    output_lines (sent_in (n + 1) m []) ≡ output_lines (sent_in n m []) ++ output_lines (sent k)
-lines-more n m k l j q sane r s =
-    ap output_lines (sent_in-more n m [] k j l q r s) ∙ output_lines-append (sent_in n m []) (sent k) (sent-whole n m k j sane r)
+pub lines-more : (n : ℕ) (m k l : MachineValue) (i j q : List ℕ) → Sane m i → Runs n m i k j → Steps k j l q →
+    output_lines (sent_in (n + 1) m i) ≡ output_lines (sent_in n m i) ++ output_lines (sent k)
+lines-more n m k l i j q sane r s =
+    ap output_lines (sent_in-more n m i k j l q r s) ∙ output_lines-append (sent_in n m i) (sent k) (sent-whole n m k i j sane r)
 
 -- instructions behind others that send nothing
-pub quiet-behind : (n p : ℕ) (m k l : MachineValue) (j q : List ℕ) → Runs n m [] k j → Runs p k j l q → sent_in p k j ≡ [] →
-    sent_in (n + p) m [] ≡ sent_in n m []
-quiet-behind n p m k l j q r s none = sent_in-then n p m [] k j l q r s ∙ ap (λ more. sent_in n m [] ++ more) none ∙ append-nil (sent_in n m [])
+pub quiet-behind : (n p : ℕ) (m k l : MachineValue) (i j q : List ℕ) → Runs n m i k j → Runs p k j l q → sent_in p k j ≡ [] →
+    sent_in (n + p) m i ≡ sent_in n m i
+quiet-behind n p m k l i j q r s none = sent_in-then n p m i k j l q r s ∙ ap (λ more. sent_in n m i ++ more) none ∙ append-nil (sent_in n m i)
 
-pub never-traps : (n b : ℕ) (m k : MachineValue) (j : List ℕ) (cause : Cause) → Sane m → Runs n m [] k j → StepTraps k j cause → n < b → ⊥
-never-traps n b m k j cause sane r s h = let shown = sane b in rw (run-traps n b m [] k j cause r s h []) at shown
+pub never-traps : (n b : ℕ) (m k : MachineValue) (i j : List ℕ) (cause : Cause) → Sane m i → Runs n m i k j → StepTraps k j cause → n < b → ⊥
+never-traps n b m k i j cause sane r s h = let shown = sane b in rw (run-traps n b m i k j cause r s h []) at shown
 
-pub exit-code : (n b : ℕ) (m k : MachineValue) (j : List ℕ) (code : ℕ) → Sane m → Runs n m [] k j → StepExits k j code → n < b → code ≤ 3
-exit-code n b m k j code sane r s h =
+pub exit-code : (n b : ℕ) (m k : MachineValue) (i j : List ℕ) (code : ℕ) → Sane m i → Runs n m i k j → StepExits k j code → n < b → code ≤ 3
+exit-code n b m k i j code sane r s h =
     let shown = sane b in
-    let exits : SendsMessages (Exited code (sent_in b m [])) = rw (run-exits n b m [] k j code r s h []) at shown in
+    let exits : SendsMessages (Exited code (sent_in b m i)) = rw (run-exits n b m i k j code r s h []) at shown in
     exits.1
 
 -- what is said of a run that exits
-pub exit-answer : (n b : ℕ) (m k : MachineValue) (j : List ℕ) (code : ℕ) (line : Line) → Runs n m [] k j → StepExits k j code →
-    n < b → IsExit code line → IsRunOf (run b (state_of m [] [])) (output_lines (sent_in n m []) ++ bytes_of line) (status_of line)
-exit-answer n b m k j code line r s h e =
-    let same = sent_in-exit n b m [] k j code r s h in
-    rw (run-exits n b m [] k j code r s h []) (line, e, (ap (λ output. output_lines output ++ bytes_of line) (sym same), refl))
+pub exit-answer : (n b : ℕ) (m k : MachineValue) (i j : List ℕ) (code : ℕ) (line : Line) → Runs n m i k j → StepExits k j code →
+    n < b → IsExit code line → IsRunOf (run b (state_of m i [])) (output_lines (sent_in n m i) ++ bytes_of line) (status_of line)
+exit-answer n b m k i j code line r s h e =
+    let same = sent_in-exit n b m i k j code r s h in
+    rw (run-exits n b m i k j code r s h []) (line, e, (ap (λ output. output_lines output ++ bytes_of line) (sym same), refl))
 
 -- what is said of a run that doesn't end
-pub running-answer : (b : ℕ) (m k : MachineValue) (j : List ℕ) → Runs b m [] k j →
-    IsRunOf (run b (state_of m [] [])) (output_lines (sent_in b m []) ++ bytes_of Running) (status_of Running)
-running-answer b m k j r = rw (r []) (refl, refl)
+pub running-answer : (b : ℕ) (m k : MachineValue) (i j : List ℕ) → Runs b m i k j →
+    IsRunOf (run b (state_of m i [])) (output_lines (sent_in b m i) ++ bytes_of Running) (status_of Running)
+running-answer b m k i j r = rw (r []) (refl, refl)
 
 -- ---- what a whole run says
 
@@ -89,9 +89,9 @@ outcome-ends (Exited code sent) output sends is = exit-ends code sent output is 
 outcome-ends (Trapped cause) output sends is = absurd sends
 
 -- a run says something, which begins with its messages
-pub whole-run : (b : ℕ) (m : MachineValue) → Sane m → Ends (run b (state_of m [] [])) (output_lines (sent_in b m []))
+pub whole-run : (b : ℕ) (m : MachineValue) (i : List ℕ) → Sane m i → Ends (run b (state_of m i [])) (output_lines (sent_in b m i))
 unfolding sent_in
-whole-run b m sane = outcome-ends (run b (state_of m [] [])) (sent_in b m []) (sane b) (run-output b (state_of m [] []))
+whole-run b m i sane = outcome-ends (run b (state_of m i [])) (sent_in b m i) (sane b) (run-output b (state_of m i []))
 
 whole-sent : (o : Outcome) (output : List ℕ) → output_behind o ≡ output → (output ≡ [] → ⊥) → SendsMessages o → IsWhole output
 whole-sent (Ran s) output is some sends = subst IsWhole is sends
@@ -103,31 +103,31 @@ some-behind [] ys some none = some none
 some-behind (x ∷ xs) ys some none = cc
 
 -- the messages before an instruction that sends, and its own, are whole
-sends-whole : (n : ℕ) (m k : MachineValue) (j : List ℕ) → Sane m → Runs n m [] k j → sent k ≢ [] → StepSends k j → IsWhole (sent_in n m [] ++ sent k)
-sends-whole n m k j sane r some sends =
-    let next : run (suc n) (state_of m [] []) ≡ step (state_of k j (sent_in n m [])) = run-suc n (state_of m [] []) _ (r []) in
-    whole-sent (step (state_of k j (sent_in n m []))) (sent_in n m [] ++ sent k) (sends (sent_in n m [])) (some-behind (sent_in n m []) (sent k) some)
+sends-whole : (n : ℕ) (m k : MachineValue) (i j : List ℕ) → Sane m i → Runs n m i k j → sent k ≢ [] → StepSends k j → IsWhole (sent_in n m i ++ sent k)
+sends-whole n m k i j sane r some sends =
+    let next : run (suc n) (state_of m i []) ≡ step (state_of k j (sent_in n m i)) = run-suc n (state_of m i []) _ (r []) in
+    whole-sent (step (state_of k j (sent_in n m i))) (sent_in n m i ++ sent k) (sends (sent_in n m i)) (some-behind (sent_in n m i) (sent k) some)
     (subst SendsMessages next (sane (suc n)))
 
 -- what is said of a run, where it sends at an instruction
-pub record SaysAt (b n : ℕ) (m k : MachineValue) : Type 0 where
+pub record SaysAt (b n : ℕ) (m k : MachineValue) (i : List ℕ) : Type 0 where
   pub rest : List ℕ
   pub status : Status
-  pub right : IsRunOf (run b (state_of m [] [])) ((output_lines (sent_in n m []) ++ output_lines (sent k)) ++ rest) status
+  pub right : IsRunOf (run b (state_of m i [])) ((output_lines (sent_in n m i) ++ output_lines (sent k)) ++ rest) status
 
-pub says-at : (n b : ℕ) (m k : MachineValue) (j : List ℕ) → Sane m → n < b → Runs n m [] k j → sent k ≢ [] → StepSends k j → SaysAt b n m k
-says-at n b m k j sane h r some sends =
-    let all = whole-run b m sane in
-    let passes = sent_in-passes n b m [] k j h r some sends in
-    let both = output_lines-append (sent_in n m []) (sent k) (sent-whole n m k j sane r) in
-    let split : output_lines (sent_in b m []) ≡ (output_lines (sent_in n m []) ++ output_lines (sent k)) ++ output_lines passes.0 =
-    ap output_lines passes.1 ∙ output_lines-append (sent_in n m [] ++ sent k) passes.0 (sends-whole n m k j sane r some sends) ∙ ap (λ lines. lines ++ output_lines passes.0) both
+pub says-at : (n b : ℕ) (m k : MachineValue) (i j : List ℕ) → Sane m i → n < b → Runs n m i k j → sent k ≢ [] → StepSends k j → SaysAt b n m k i
+says-at n b m k i j sane h r some sends =
+    let all = whole-run b m i sane in
+    let passes = sent_in-passes n b m i k j h r some sends in
+    let both = output_lines-append (sent_in n m i) (sent k) (sent-whole n m k i j sane r) in
+    let split : output_lines (sent_in b m i) ≡ (output_lines (sent_in n m i) ++ output_lines (sent k)) ++ output_lines passes.0 =
+    ap output_lines passes.1 ∙ output_lines-append (sent_in n m i ++ sent k) passes.0 (sends-whole n m k i j sane r some sends) ∙ ap (λ lines. lines ++ output_lines passes.0) both
     in
     record {
       rest = output_lines passes.0 ++ bytes_of all.line;
       status = status_of all.line;
-      right = subst (λ text. IsRunOf (run b (state_of m [] [])) text (status_of all.line))
-          (ap (λ lines. lines ++ bytes_of all.line) split ∙ append_assoc (output_lines (sent_in n m []) ++ output_lines (sent k)) (output_lines passes.0) (bytes_of all.line)) all.right;
+      right = subst (λ text. IsRunOf (run b (state_of m i [])) text (status_of all.line))
+          (ap (λ lines. lines ++ bytes_of all.line) split ∙ append_assoc (output_lines (sent_in n m i) ++ output_lines (sent k)) (output_lines passes.0) (bytes_of all.line)) all.right;
     }
 
 -- no run says that a file can't be read

@@ -1,5 +1,5 @@
 -- What is said to a sink, by texts that are printed one behind the other.
-use Rattle.std.proofs.Common.{◌≡◌, ℕ, ℤ, List, [], ◌∷◌, ◌++◌, Result, Ok, Err, true, false, refl, sym, ap, ◌∙◌, subst, append_assoc, append-nil}
+use Rattle.std.proofs.Common.{◌≡◌, ℕ, ℤ, List, [], ◌∷◌, ◌++◌, Result, Ok, Err, true, false, inl, inr, refl, sym, ap, ◌∙◌, subst, append_assoc, append-nil}
 use Rattle.std.specs.Result.{is_err}
 use Rattle.acg_base.specs.declared.sink.Sink.{Ghosts}
 use Rattle.acg_base.specs.declared.sink.SinkError.{SinkError}
@@ -28,7 +28,7 @@ module _ {K : Type 0} {sink : Ghosts K} where
   answered-then begun answered = record {
     answer = answered.answer;
     done = λ other. took-then begun (answered.done other);
-    failed = λ fault. broke-then begun (answered.failed fault);
+    failed = λ fault. elim (answered.failed fault) [ inl broke ↦ inl (broke-then begun broke) | inr other ↦ inr (other.0, took-then begun other.1) ];
   }
 
   -- a write that failed is answered, whatever was wanted
@@ -36,7 +36,7 @@ module _ {K : Type 0} {sink : Ghosts K} where
   answered-broke wanted broke = record {
     answer = λ other. absurd (other refl);
     done = λ other. absurd (other refl);
-    failed = λ _. broke;
+    failed = λ _. inl broke;
   }
 
   -- what is said behind a text

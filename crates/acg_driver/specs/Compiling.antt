@@ -1,7 +1,6 @@
 -- What compiling an action gives: the bytes of an image that is right for it.
-use Rattle.std.specs.Prelude.{◌≡◌, ℕ, ◌<◌, ◌≤◌, All, List, [], Some, slice_get}
+use Rattle.std.specs.Prelude.{◌≡◌, ℕ, ◌<◌, All, List, [], Some, slice_get}
 use Rattle.acg_base.specs.declared.capacity.Capacity.{Capacity}
-use Rattle.acg_base.specs.declared.capacity.TheConstants.{DEFAULT_STACK, DEFAULT_UNITS}
 use Rattle.action_terms.specs.Actions.{Action}
 use Rattle.action_terms.specs.Meaning.{action_of}
 use Rattle.action_terms.specs.Numbering.{Listed}
@@ -17,17 +16,6 @@ use Rattle.sort_rules.specs.Tables.{MarkedTable}
 use Rattle.acg_driver.specs.declared.compiling.Built.{Built}
 use Rattle.acg_driver.specs.declared.compiling.CompileError.{CompileError}
 use Rattle.acg_driver.specs.declared.compiling.CompileError.TheVariants.{Memory, IllSorted, Unbuilt}
-
--- the words of a stack and the units that an image may have
-pub record IsCapacity (c : Capacity) : Type 0 where
-  pub some_words : 1 ≤ c.stack
-  pub words : c.stack ≤ 16777216
-  pub some_units : 1 ≤ c.units
-  pub units : c.units ≤ 4194304
-
--- the capacity where a request says none
-abbrev pub default_capacity : Capacity
-default_capacity = record { stack = DEFAULT_STACK; units = DEFAULT_UNITS }
 
 -- what an image of the graph's action is compared with: a table of its sorts, and a capacity
 abbrev pub subject_for : Listed → MarkedTable → Capacity → Subject

@@ -1,18 +1,14 @@
 -- The files that a command reads, and what is read of them.
-use Rattle.std.specs.Prelude.{◌≡◌, ◌⊎◌, ℕ, zero, suc, List, [], ◌∷◌, ◌++◌, length, Option, Some, None, IsTrue, Result, Ok, Err, IfErr}
+use Rattle.std.specs.Prelude.{◌≡◌, ◌⊎◌, ℕ, zero, suc, List, [], ◌∷◌, ◌++◌, length, Option, Some, None, IsTrue, Result, Ok, Err, IfOk, IfErr}
 use Rattle.acg_base.specs.Outside.{Contents, SameContents, Reading, counted, front}
 use Rattle.acg_base.specs.declared.limits.TheConstants.{LIMIT_ACTION, LIMIT_IMAGE, LIMIT_INPUT}
 use Rattle.acg_base.specs.declared.status.Status.{Status}
 use Rattle.acg_base.specs.declared.status.Status.TheVariants as status
 use Rattle.acg_base.specs.declared.store.Store.{Ghosts}
-use Rattle.action_terms.specs.Numbering.{Listed}
-use Rattle.rv_code.specs.Images.{Image as ImageValue}
-use Rattle.acg_words.specs.Commands.{Command, Act, Run, Perform, Help, Version, command_of}
+use Rattle.acg_words.specs.Commands.{Command, Act, Run, Perform, Help, Version}
 use Rattle.acg_words.specs.Lines.{status_of}
 use Rattle.acg_words.specs.declared.line.Line.{Line}
 use Rattle.acg_words.specs.declared.line.Line.TheVariants.{ReadFault}
-use Rattle.acg_driver.specs.Texts.{Reads}
-use Rattle.acg_driver.specs.ImageFiles.{GivesImage}
 
 -- what a file holds
 pub data Role : Type 0 where
@@ -40,19 +36,16 @@ input_files None = []
 input_files (Some input) = file Input input ∷ []
 
 abbrev pub files_of : Command → List File
-files_of (Act action) = file Action action ∷ []
+files_of (Act capacity budget action input) = file Action action ∷ input_files input
 files_of (Run budget image input) = file Image image ∷ input_files input
 files_of (Perform n action input) = file Action action ∷ input_files input
 files_of Help = []
 files_of Version = []
 
+-- words that are no command have none
 abbrev pub files_if : Option Command → List File
 files_if None = []
 files_if (Some command) = files_of command
-
--- the files of a command line: words that are no command have none
-abbrev pub files_asked : (words : List (List ℕ)) → List File
-files_asked words = files_if (command_of words)
 
 -- the reading of a file, with its limit, that gave these bytes
 abbrev pub reading : File → (given : List ℕ) → Reading
@@ -101,18 +94,13 @@ pub record ReadOnly {S : Type 0} (store : Ghosts S) (gained : List Reading) (sta
   pub logs_still : store.logs new ≡ store.logs old
   pub sure_still : store.sure new ≡ store.sure old
 
--- what makes a command go on to its next file: an action or an image is read
-abbrev pub GoesOn : Role → (content : List ℕ) → Type 0
-GoesOn Action content = (g : Listed) × Reads content g
-GoesOn Image content = (x : ImageValue) × GivesImage content x
-GoesOn Input content = Unit {0}
-
--- one of the files isn't there, and those before it are there and lead to it
-abbrev pub Lacks : Contents → List File → Type 0
-Lacks contents [] = ⊥
-Lacks contents (f ∷ files) =
+-- one of the files isn't there; those before it are there, and with what they give a command goes on to the next one
+abbrev pub Lacks : (GoesOn : (givens : List (List ℕ)) → Type 0) → Contents → List File → Type 0
+Lacks GoesOn contents [] = ⊥
+Lacks GoesOn contents (f ∷ files) =
     (contents f.name ≡ None)
-    ⊎ ((content : List ℕ) × (contents f.name ≡ Some content) × GoesOn f.role content × Lacks contents files)
+    ⊎ ((given : List ℕ) × IsGiven contents (reading f given) × GoesOn (given ∷ [])
+    × Lacks (λ more. GoesOn (given ∷ more)) contents files)
 
 -- the name of the first of the files that isn't there
 abbrev pub first_missing : Option (List ℕ) → (name next : List ℕ) → List ℕ
@@ -138,8 +126,23 @@ abbrev pub NamesFault : (name : List ℕ) → Line → Type 0
 NamesFault name (ReadFault other) = other ≡ name
 NamesFault name _ = Unit {0}
 
+-- no further file is read
+abbrev pub never : (givens : List (List ℕ)) → Type 0
+never givens = ⊥
+
 -- over a store that fails only at names that aren't there: a read fault comes where a file is lacking, and names the
 -- first that isn't there
-pub record AsksSurely {A : Type 0} (contents : Contents) (files : List File) (result : Result A Line) : Type 0 where
-  pub faults : FaultsWhere (Lacks contents files) (read_status result)
+pub record AsksSurely {A : Type 0} (GoesOn : (givens : List (List ℕ)) → Type 0) (contents : Contents) (files : List File) (result : Result A Line) : Type 0 where
+  pub faults : FaultsWhere (Lacks GoesOn contents files) (read_status result)
   pub named : IfErr result (NamesFault (missing_file contents files))
+
+-- what is gathered from files that are read in their order. Either there is what is wanted, for what all of them gave; or a
+-- line that refuses what the first of them gave. `GoesOn` says for which givens the next one is read
+pub record Gathered
+    {S A : Type 0} (store : Ghosts S) (files : List File) (GoesOn : (givens : List (List ℕ)) → Type 0)
+    (Refuses : (givens : List (List ℕ)) → Line → Type 0) (Wanted : (givens : List (List ℕ)) → A → Type 0)
+    (old new : S) (result : Result A Line) : Type 0
+  where
+    pub wanted : IfOk result (λ a. (givens : List (List ℕ)) × Wanted givens a × ReadOnly store (readings_of files givens) status.Done old new)
+    pub refused : IfErr result (λ line. (givens : List (List ℕ)) × Refuses givens line × ReadOnly store (readings_of files givens) (status_of line) old new)
+    pub surely : IsTrue (store.sure old) → AsksSurely GoesOn (store.contents old) files result

@@ -1,6 +1,6 @@
 -- What the run of a graph's action says.
 use Rattle.std.specs.Prelude.{◌≡◌, ℕ, zero, suc, List, [], ◌++◌}
-use Rattle.acg_base.specs.declared.capacity.TheConstants.{DEFAULT_STACK, DEFAULT_UNITS}
+use Rattle.acg_base.specs.declared.capacity.Capacity.{Capacity}
 use Rattle.acg_base.specs.declared.status.Status.{Status}
 use Rattle.action_terms.specs.Numbering.{Listed}
 use Rattle.action_terms.specs.Meaning.{action_of}
@@ -17,13 +17,9 @@ use Rattle.rv_machine.specs.Machines.{MachineValue, loaded_machine}
 use Rattle.acg_words.specs.Lines.{header_line, message_lines}
 use Rattle.acg_words.specs.declared.line.Line.{Line}
 use Rattle.acg_words.specs.declared.line.Line.TheVariants.{Completed, Failed, Escaped, Full, Running}
-use Rattle.acg_driver.specs.Compiling.{default_capacity, subject_for, IsRightFile}
+use Rattle.acg_driver.specs.Compiling.{subject_for, IsRightFile}
 use Rattle.acg_driver.specs.Says.{SaysBehind}
 use Rattle.acg_driver.specs.declared.running.Loaded.{Loaded}
-
--- the most instructions of a run
-abbrev pub instruction_limit : ℕ
-instruction_limit = 10000000
 
 -- the messages of an output, a line each
 abbrev pub output_lines : List ℕ → List ℕ
@@ -43,32 +39,28 @@ IsRunOf (Ran s) text status = SaysBehind (output_lines s.output) Running text st
 IsRunOf (Exited code output) text status = (line : Line) × IsExit code line × SaysBehind (output_lines output) line text status
 IsRunOf (Trapped cause) text status = ⊥
 
--- what an image of the graph's action is compared with: a table of its sorts, and the default capacity
-abbrev pub subject_of : Listed → MarkedTable → Subject
-subject_of g t = subject_for g t default_capacity
+-- the bytes are the file of an image that is right for the graph's action by this table, with the capacity
+abbrev pub IsMadeFor : Listed → MarkedTable → Capacity → (file : List ℕ) → Image → Type 0
+IsMadeFor g t c file image = (file ≡ file_of image) × IsRightFile file image (subject_for g t c)
 
--- the bytes are the file of an image that is right for the graph's action by this table, with the default capacity
-abbrev pub IsMadeFor : Listed → MarkedTable → (file : List ℕ) → Image → Type 0
-IsMadeFor g t file image = (file ≡ file_of image) × IsRightFile file image (subject_of g t)
-
--- the action of the graph is well-sorted, and the file of some image is right for it by its least table, with the default
--- capacity; behind the header line, with the factor by that table, stands the run of the machine that is loaded from the
--- bytes of this file, on no input, for at most so many instructions
-abbrev pub IsRun : Listed → (text : List ℕ) → Status → Type 0
-IsRun g text status =
+-- the action of the graph is well-sorted, and the file of some image is right for it by its least table, with the
+-- capacity; behind the header line, with this capacity and the factor by that table, stands the run of the machine that is
+-- loaded from the bytes of this file, on the bytes of an input, for at most so many instructions
+abbrev pub IsRun : Listed → Capacity → (budget : ℕ) (left text : List ℕ) → Status → Type 0
+IsRun g c budget left text status =
     (t : MarkedTable) × IsLeast (action_of g) t
-    × ((file : List ℕ) × (image : Image) × IsMadeFor g t file image
-    × ((start : State) × IsLoadOf file [] start
-    × ((rest : List ℕ) × (text ≡ header_line DEFAULT_STACK DEFAULT_UNITS (factor_by (action_of g) t) ++ rest)
-    × IsRunOf (run instruction_limit start) rest status)))
+    × ((file : List ℕ) × (image : Image) × IsMadeFor g t c file image
+    × ((start : State) × IsLoadOf file left start
+    × ((rest : List ℕ) × (text ≡ header_line c.stack c.units (factor_by (action_of g) t) ++ rest)
+    × IsRunOf (run budget start) rest status)))
 
 -- the machine stands before the first instruction of the image that such a file gives
-abbrev pub IsRightStart : Listed → MarkedTable → MachineValue → Type 0
-IsRightStart g t machine =
-    (file : List ℕ) × (image : Image) × IsMadeFor g t file image × (machine ≡ loaded_machine image)
+abbrev pub IsRightStart : Listed → MarkedTable → Capacity → MachineValue → Type 0
+IsRightStart g t c machine =
+    (file : List ℕ) × (image : Image) × IsMadeFor g t c file image × (machine ≡ loaded_machine image)
 
 -- so does the machine that is loaded, by the least table, and the factor is that of the action by this table
-abbrev pub IsLoaded : Listed → Loaded → Type 0
-IsLoaded g loaded =
+abbrev pub IsLoaded : Listed → Capacity → Loaded → Type 0
+IsLoaded g c loaded =
     (t : MarkedTable) × IsLeast (action_of g) t
-    × (IsRightStart g t loaded.machine × (loaded.factor ≡ factor_by (action_of g) t))
+    × (IsRightStart g t c loaded.machine × (loaded.factor ≡ factor_by (action_of g) t))

@@ -1,5 +1,5 @@
 -- What serving a command line says, and what it does to the store and the sink.
-use Rattle.std.specs.Prelude.{◌≡◌, ◌⊎◌, ℕ, ◌≤◌, IsTrue, List, [], ◌++◌, length, Option, Some, None}
+use Rattle.std.specs.Prelude.{◌≡◌, ◌⊎◌, ℕ, ◌≤◌, IsTrue, List, [], ◌∷◌, ◌++◌, length, Option, Some, None}
 use Rattle.acg_base.specs.Outside.{Contents}
 use Rattle.acg_base.specs.declared.limits.TheConstants.{LIMIT_INPUT}
 use Rattle.acg_base.specs.declared.sink.Sink.{Ghosts as Sink}
@@ -19,22 +19,30 @@ use Rattle.acg_words.specs.declared.line.Line.TheVariants.{Words}
 use Rattle.acg_driver.specs.Texts.{Reads}
 use Rattle.acg_driver.specs.ImageFiles.{GivesImage}
 use Rattle.acg_driver.specs.Says.{Says, SaysOne}
-use Rattle.acg_driver.specs.Files.{File, files_if, readings_of, ReadOnly, FaultsWhere, Lacks, missing_file}
-use Rattle.acg_driver.specs.Commands.Act.{RefusesAct, IsBuilt, RunsAct}
-use Rattle.acg_driver.specs.Commands.Run.{RefusesRun, SaysRun}
-use Rattle.acg_driver.specs.Commands.Perform.{RefusesPerform, SaysPerform}
+use Rattle.acg_driver.specs.Files.{files_if, readings_of, ReadOnly, FaultsWhere, Lacks, missing_file}
+use Rattle.acg_driver.specs.Commands.Act.{RefusesAct, GoesOnAct, IsBuilt, RunsAct}
+use Rattle.acg_driver.specs.Commands.Run.{RefusesRun, GoesOnRun, SaysRun}
+use Rattle.acg_driver.specs.Commands.Perform.{RefusesPerform, GoesOnPerform, SaysPerform}
 
 -- the line with which a command is refused, from what its files gave
 abbrev pub Refuses : Command → (givens : List (List ℕ)) → Line → Type 0
-Refuses (Act action) givens line = RefusesAct action givens line
+Refuses (Act capacity budget action input) givens line = RefusesAct action input givens line
 Refuses (Run budget image input) givens line = RefusesRun image input givens line
 Refuses (Perform n action input) givens line = RefusesPerform action input givens line
 Refuses Help givens line = ⊥
 Refuses Version givens line = ⊥
 
+-- for what the first of its files gave it reads its next one
+abbrev pub GoesOn : Command → (givens : List (List ℕ)) → Type 0
+GoesOn (Act capacity budget action input) givens = GoesOnAct givens
+GoesOn (Run budget image input) givens = GoesOnRun givens
+GoesOn (Perform n action input) givens = GoesOnPerform givens
+GoesOn Help givens = ⊥
+GoesOn Version givens = ⊥
+
 -- what a command says that isn't refused
 abbrev pub Carries : Command → (givens : List (List ℕ)) → (text : List ℕ) → Status → Type 0
-Carries (Act action) givens text status = RunsAct givens text status
+Carries (Act capacity budget action input) givens text status = RunsAct capacity budget input givens text status
 Carries (Run budget image input) givens text status = SaysRun budget input givens text status
 Carries (Perform n action input) givens text status = SaysPerform n input givens text status
 Carries Help givens text s = (givens ≡ []) × ((text ≡ usage) × (s ≡ status.Done))
@@ -44,23 +52,24 @@ Carries Version givens text s = (givens ≡ []) × ((text ≡ version_line) × (
 abbrev pub Replies : Command → (givens : List (List ℕ)) → (text : List ℕ) → Status → Type 0
 Replies command givens text status = SaysOne (Refuses command givens) text status ⊎ Carries command givens text status
 
+-- words that are no command are refused
 abbrev pub RepliesIf : Option Command → (givens : List (List ℕ)) → (text : List ℕ) → Status → Type 0
 RepliesIf None givens text status = (givens ≡ []) × Says Words text status
 RepliesIf (Some command) givens text status = Replies command givens text status
 
--- what is said for words, from what the files gave that were read, in their order: words that are no command are refused
-abbrev pub IsReply : (words : List (List ℕ)) → (givens : List (List ℕ)) → (text : List ℕ) → Status → Type 0
-IsReply words givens text status = RepliesIf (command_of words) givens text status
+abbrev pub GoesOnIf : Option Command → (givens : List (List ℕ)) → Type 0
+GoesOnIf None givens = ⊥
+GoesOnIf (Some command) givens = GoesOn command givens
 
 -- what a request does. The first of its files are read, once each, and what is said is right for what they gave. The
 -- sink gets that text, and its status is answered. Or the sink gets a front of the text, since its last write failed, and
 -- the answer says so
-pub record Served {S K : Type 0} (store : Store S) (sink : Sink K) (files : List File) (IsSaid : (givens : List (List ℕ)) → (text : List ℕ) → Status → Type 0) (old new : S) (out gained : K) (result : Status) : Type 0 where
+pub record Served {S K : Type 0} (store : Store S) (sink : Sink K) (asked : Option Command) (old new : S) (out gained : K) (result : Status) : Type 0 where
   pub givens : List (List ℕ)
   pub text : List ℕ
   pub status : Status
-  pub said : IsSaid givens text status
-  pub read : ReadOnly store (readings_of files givens) status old new
+  pub said : RepliesIf asked givens text status
+  pub read : ReadOnly store (readings_of (files_if asked) givens) status old new
   pub answered : Answered sink text status out gained result
 
 -- where a read fault is answered, a sink gets its line with this name
@@ -68,11 +77,15 @@ abbrev pub Names : {K : Type 0} (sink : Sink K) (name : List ℕ) (old new : K) 
 Names sink name old new result =
     result ≡ status.ReadFault → IsTrue (sink.tells old) → sink.written new ≡ sink.written old ++ read_fault_line name
 
+-- one of the files that a request reads isn't there
+abbrev pub LacksAny : Contents → Option Command → Type 0
+LacksAny contents asked = Lacks (GoesOnIf asked) contents (files_if asked)
+
 -- over a store that fails only at names that aren't there: a read fault is answered where a file is lacking, and its line
 -- names the first that isn't there
-pub record ServedSurely {K : Type 0} (sink : Sink K) (contents : Contents) (files : List File) (old new : K) (result : Status) : Type 0 where
-  pub faults : FaultsWhere (Lacks contents files) result
-  pub named : Names sink (missing_file contents files) old new result
+pub record ServedSurely {K : Type 0} (sink : Sink K) (contents : Contents) (asked : Option Command) (old new : K) (result : Status) : Type 0 where
+  pub faults : FaultsWhere (LacksAny contents asked) result
+  pub named : Names sink (missing_file contents (files_if asked)) old new result
 
 -- the statuses of a performance that isn't refused
 abbrev pub IsOfPerformance : Status → Type 0
@@ -99,11 +112,12 @@ IsOfImage status.ExitAbove = Unit {0}
 IsOfImage status.Trapped = Unit {0}
 IsOfImage status = IsOfRun status
 
--- nothing is refused, unless memory runs out: an action that reads, is well-sorted and whose nodes have code is run; an
--- image that passes all checks is run with an input within its limit, and so an action that reads is performed
+-- nothing is refused, unless memory runs out: with an input within its limit, an action that reads, is well-sorted and
+-- whose nodes have code is run; so is an image that passes all checks; and an action that reads is performed
 abbrev pub PerformsAsked : Contents → Option Command → Status → Type 0
-PerformsAsked contents (Some (Act action)) result =
-    (content : List ℕ) (g : Listed) → contents action ≡ Some content → IsBuilt content g → IsWellSorted (action_of g) → IsOfRun result
+PerformsAsked contents (Some (Act capacity budget action input)) result =
+    (content : List ℕ) (g : Listed) (bytes : List ℕ) → contents action ≡ Some content → IsBuilt content g → IsWellSorted (action_of g)
+    → IsInput contents input bytes → length bytes ≤ LIMIT_INPUT → IsOfRun result
 PerformsAsked contents (Some (Run budget image input)) result =
     (content : List ℕ) (x : Image) (bytes : List ℕ) → contents image ≡ Some content → GivesImage content x
     → IsInput contents input bytes → length bytes ≤ LIMIT_INPUT → IsOfImage result
@@ -117,6 +131,6 @@ Performs contents words result = PerformsAsked contents (command_of words) resul
 
 -- what a command does, or words that are none, over any store and any sink
 pub record Handled {S K : Type 0} (store : Store S) (sink : Sink K) (asked : Option Command) (old new : S) (out gained : K) (result : Status) : Type 0 where
-  pub served : Served store sink (files_if asked) (RepliesIf asked) old new out gained result
-  pub surely : IsTrue (store.sure old) → ServedSurely sink (store.contents old) (files_if asked) out gained result
+  pub served : Served store sink asked old new out gained result
+  pub surely : IsTrue (store.sure old) → ServedSurely sink (store.contents old) asked out gained result
   pub idle : files_if asked ≡ [] → new ≡ old

@@ -11,7 +11,8 @@ ghost use Rattle.rv_codegen.specs.RightImage.{compiled_image};
 ghost use Rattle.sort_rules.specs.Admissible.{IsLeast};
 ghost use Rattle.sort_rules.specs.Rows.{IsTableOf, unmarked};
 ghost use Rattle.sort_rules.specs.Tables.{MarkedTable};
-ghost use Rattle.acg_driver.specs.Compiling.{IsCapacity, IsCompiled, IsUncompiledFor};
+ghost use Rattle.acg_words.specs.Settings.{IsCapacity};
+ghost use Rattle.acg_driver.specs.Compiling.{IsCompiled, IsUncompiledFor};
 ghost use Rattle.acg_driver.specs.declared.compiling.CompileError.TheVariants as compile_error;
 
 use crate::image::compiled_image;

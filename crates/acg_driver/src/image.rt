@@ -4,7 +4,7 @@ ghost use Rattle.std.specs.Prelude.{◌≡◌, ◌+◌, ◌*◌, ◌≤◌, leng
 ghost use Rattle.rv_code.specs.Images.{IsImage};
 ghost use Rattle.rv_asm.specs.Conventions.{instruction_bytes, region_address, region_size};
 ghost use Rattle.rv_codegen.specs.RightImage.{compiled_image};
-ghost use Rattle.acg_driver.specs.Compiling.{IsCapacity};
+ghost use Rattle.acg_words.specs.Settings.{IsCapacity};
 
 use acg_base::{Capacity, Memory};
 use elf_image::{Image, Segment};

@@ -9,14 +9,17 @@ use elf_image::{Image, ImageError, read_image};
 use std::alloc::Global;
 
 /// Reads bytes as an image, or answers the line with which they are refused.
-pub fn image_of(alloc: Global, bytes: &[u8]) -> Result<Image, Line>
-    ensures image { IfOk result (λ image. GivesImage bytes.now image) }
-    ensures refusal { IfErr result (λ line. RefusesImage bytes.now line) }
+///
+/// The bytes are freed at the end: the image has its own copy of what it loads, and no second one
+/// stands while it is loaded and run.
+pub fn image_of(alloc: Global, bytes: Vec<u8>) -> Result<Image, Line>
+    ensures image { IfOk result (λ image. GivesImage bytes.items image) }
+    ensures refusal { IfErr result (λ line. RefusesImage bytes.items line) }
 {
     if bytes.len() > LIMIT_IMAGE as usize {
         return Err(Line::LimitImage);
     }
-    match read_image(alloc, bytes) {
+    match read_image(alloc, &bytes) {
         Ok(image) => Ok(image),
         Err(ImageError::Memory) => Err(Line::Memory),
         Err(ImageError::Short) => Err(Line::ImageShort),

@@ -1,29 +1,27 @@
-//! The file of an input.
+//! The input of a command: a file, or nothing.
 
-ghost use Rattle.std.specs.Prelude.{◌≤◌, List, ℕ, [], ◌∷◌, Some, length, IfOk, IfErr, IsTrue};
-ghost use Rattle.acg_base.specs.declared.limits.TheConstants.{LIMIT_INPUT};
-ghost use Rattle.acg_base.specs.declared.status.Status.TheVariants.{Done};
-ghost use Rattle.acg_words.specs.Lines.{status_of};
-ghost use Rattle.acg_driver.specs.Files.{file, Input, reading, readings_of, ReadOnly, AsksSurely};
-ghost use Rattle.acg_driver.specs.Inputs.{RefusesInput};
+ghost use Rattle.std.specs.Prelude.{option_map};
+ghost use Rattle.acg_driver.specs.Files.{input_files, Gathered, never};
+ghost use Rattle.acg_driver.specs.Inputs.{RefusesInput, IsBytesOf};
 
 use crate::files::read_file;
 use acg_base::{LIMIT_INPUT, Store};
 use acg_words::Line;
 use std::alloc::Global;
 
-/// Reads the file of an input: its bytes, or the line with which they are refused.
-pub fn read_input_file<S: Store>(alloc: Global, name: &str, store: &mut S) -> Result<Vec<u8>, Line>
-    ensures read { IfOk result (λ bytes. (length bytes.items ≤ LIMIT_INPUT)
-        × ReadOnly S.Store (reading (file Input name.now) bytes.items ∷ [])
-        Done store.old store.new) }
-    ensures refused { IfErr result (λ line. ((givens : List (List ℕ))
-        × RefusesInput (Some name.now) givens line
-        × ReadOnly S.Store (readings_of (file Input name.now ∷ []) givens)
-        (status_of line) store.old store.new)) }
-    ensures surely { IsTrue (S.sure store.old) →
-        AsksSurely (S.contents store.old) (file Input name.now ∷ []) result }
+/// Reads the bytes of an input, or answers the line with which they are refused. Without a file there are none.
+pub fn read_input<S: Store>(
+    alloc: Global,
+    input: Option<&str>,
+    store: &mut S,
+) -> Result<Vec<u8>, Line>
+    ensures { let name = option_map (λ file. file.now) input.entry in
+        Gathered S.Store (input_files name) never (RefusesInput name)
+        (λ givens bytes. IsBytesOf name givens bytes.items) store.old store.new result }
 {
+    let Some(name) = input else {
+        return Ok(Vec::new(alloc));
+    };
     let bytes = read_file(alloc, name, LIMIT_INPUT, store)?;
     if bytes.len() > LIMIT_INPUT as usize {
         return Err(Line::LimitInput);

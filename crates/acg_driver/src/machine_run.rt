@@ -38,15 +38,24 @@ fn exit_line(code: u8) -> Line
     }
 }
 
-/// Runs a machine on no input for at most `budget` instructions, and prints its messages, a decimal on a line, and then
-/// how the run ended. Takes no memory.
+/// Runs a machine on the bytes of an input for at most `budget` instructions, and prints its messages, a decimal on a line,
+/// and then how the run ended. Takes no memory.
 ///
 /// The answer is the status of the outcome, or `WriteFault` where a write of `out` failed.
-pub(crate) fn run_machine<K: Sink>(machine: &mut Machine, budget: u64, out: &mut K) -> Status
-    requires { (m : ℕ) → SendsMessages (run m (state_of machine.old [] [])) }
-    ensures { Said K.Sink (IsRunOf (run budget (state_of machine.old [] []))) out.old out.new result }
+pub(crate) fn run_machine<K: Sink>(
+    machine: &mut Machine,
+    budget: u64,
+    input: &[u8],
+    out: &mut K,
+) -> Status
+    requires { (m : ℕ) → SendsMessages (run m (state_of machine.old input.now [])) }
+    ensures { Said K.Sink (IsRunOf (run budget (state_of machine.old input.now [])))
+        out.old out.new result }
 {
-    let mut input = Input { bytes: &[], at: 0 };
+    let mut input = Input {
+        bytes: input,
+        at: 0,
+    };
     let mut ran = 0;
     'runs: loop {
         let quiet = machine.run_quietly(budget - ran, &mut input);

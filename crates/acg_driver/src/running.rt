@@ -1,17 +1,18 @@
 //! Running the image of an action.
 
 ghost use Rattle.std.specs.Prelude.{◌≡◌, IfOk};
+ghost use Rattle.acg_base.specs.declared.capacity.Capacity.{Capacity as CapacityValue};
 ghost use Rattle.action_terms.specs.Numbering.{Listed};
 ghost use Rattle.rv_code.specs.Images.{Image as ImageValue};
 ghost use Rattle.elf_image.specs.Reading.{IsFileOf};
 ghost use Rattle.sort_rules.specs.Tables.{MarkedTable};
-ghost use Rattle.acg_driver.specs.Compiling.{IsCompiled, default_capacity};
+ghost use Rattle.acg_driver.specs.Compiling.{IsCompiled};
 ghost use Rattle.acg_driver.specs.Says.{Said};
 ghost use Rattle.acg_driver.specs.Runs.{IsRun, IsLoaded};
 
 use crate::compiling::Built;
 use crate::machine_run::run_machine;
-use acg_base::{DEFAULT_BUDGET, DEFAULT_STACK, DEFAULT_UNITS, Memory, Sink, SinkError, Status};
+use acg_base::{Capacity, Memory, Sink, SinkError, Status};
 use acg_words::print_header;
 use elf_image::{Image, ImageError, read_image};
 use rv_machine::Machine;
@@ -36,12 +37,19 @@ fn read_made(alloc: Global, bytes: &[u8]) -> Result<Image, Memory>
     }
 }
 
-/// Reads the image of an action that is compiled for the default capacity from its bytes, and loads
-/// it. Takes all memory of the run.
+/// An action that is loaded, and the bytes of its input.
+#[derive(Drop)]
+pub struct Ready {
+    pub(crate) loaded: Loaded,
+    pub(crate) input: Vec<u8>,
+}
+
+/// Reads the image of an action that is compiled from its bytes, and loads it. Takes all memory of
+/// the run.
 pub fn load(alloc: Global, built: Built) -> Result<Loaded, Memory>
-    requires { (g : Listed) × (t : MarkedTable) × IsCompiled g t default_capacity built }
-    ensures { (g : Listed) (t : MarkedTable) → IsCompiled g t default_capacity built →
-        IfOk result (λ loaded. IsLoaded g loaded) }
+    requires { (g : Listed) × (t : MarkedTable) × (c : CapacityValue) × IsCompiled g t c built }
+    ensures { (g : Listed) (t : MarkedTable) (c : CapacityValue) → IsCompiled g t c built →
+        IfOk result (λ loaded. IsLoaded g c loaded) }
 {
     let image = read_made(alloc, &built.image)?;
     let machine = Machine::load(alloc, image)?;
@@ -51,14 +59,21 @@ pub fn load(alloc: Global, built: Built) -> Result<Loaded, Memory>
     })
 }
 
-/// Prints the header with the factor of the graph's action, and runs on no input within the default budget. Takes no
-/// memory.
-pub fn run<K: Sink>(loaded: &mut Loaded, out: &mut K) -> Status
-    requires { (g : Listed) × IsLoaded g loaded.old }
-    ensures { (g : Listed) → IsLoaded g loaded.old → Said K.Sink (IsRun g) out.old out.new result }
+/// Prints the header with the capacity and the factor of the graph's action, and runs on the bytes of an input within the
+/// budget. Takes no memory.
+pub fn run<K: Sink>(
+    loaded: &mut Loaded,
+    capacity: Capacity,
+    budget: u64,
+    input: &[u8],
+    out: &mut K,
+) -> Status
+    requires { (g : Listed) × IsLoaded g capacity loaded.old }
+    ensures { (g : Listed) → IsLoaded g capacity loaded.old →
+        Said K.Sink (IsRun g capacity budget input.now) out.old out.new result }
 {
-    match print_header(out, DEFAULT_STACK, DEFAULT_UNITS, loaded.factor) {
-        Ok(()) => run_machine(&mut loaded.machine, DEFAULT_BUDGET, out),
+    match print_header(out, capacity.stack, capacity.units, loaded.factor) {
+        Ok(()) => run_machine(&mut loaded.machine, budget, input, out),
         Err(SinkError::Failed) => Status::WriteFault,
     }
 }

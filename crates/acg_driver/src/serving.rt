@@ -1,9 +1,9 @@
 //! Serving command lines.
 
-ghost use Rattle.std.specs.Prelude.{◌≡◌, ◌≢◌, [], IsTrue, option_map};
-ghost use Rattle.acg_words.specs.Commands.{asked};
-ghost use Rattle.acg_driver.specs.Files.{files_asked, FaultsWhere, Lacks, missing_file};
-ghost use Rattle.acg_driver.specs.Serving.{IsReply, Served, Names, Performs, Handled};
+ghost use Rattle.std.specs.Prelude.{◌≡◌, ◌≢◌, [], IsTrue, IfSome, option_map};
+ghost use Rattle.acg_words.specs.Commands.{command_of, asked, HasRanges};
+ghost use Rattle.acg_driver.specs.Files.{files_if, FaultsWhere, missing_file};
+ghost use Rattle.acg_driver.specs.Serving.{Served, LacksAny, Names, Performs, Handled};
 
 use crate::commands::act::act;
 use crate::commands::help::{help, version};
@@ -20,6 +20,7 @@ fn carry_out<S: Store, K: Sink>(
     store: &mut S,
     out: &mut K,
 ) -> Status
+    requires { IfSome command (λ c. HasRanges (asked c)) }
     ensures { Handled S.Store K.Sink (option_map asked command.entry)
         store.old store.new out.old out.new result }
 {
@@ -49,16 +50,16 @@ fn carry_out<S: Store, K: Sink>(
 /// then how it ended; else the one line of a refusal. The status tells the same as the lines. Behind a write that failed nothing is written.
 pub fn serve<S: Store, K: Sink>(alloc: Global, words: &Words, store: &mut S, out: &mut K) -> Status
     // Which files are read, what is said for what they gave, and what store and sink get.
-    ensures served { Served S.Store K.Sink (files_asked words.now) (IsReply words.now)
+    ensures served { Served S.Store K.Sink (command_of words.now)
         store.old store.new out.old out.new result }
 
     // Over a sure store a read fault comes exactly where a file isn't there.
     ensures surely { IsTrue (S.sure store.old) →
-        FaultsWhere (Lacks (S.contents store.old) (files_asked words.now)) result }
+        FaultsWhere (LacksAny (S.contents store.old) (command_of words.now)) result }
 
     // Its line names the first file that isn't there.
-    ensures named { IsTrue (S.sure store.old) →
-        Names K.Sink (missing_file (S.contents store.old) (files_asked words.now)) out.old out.new result }
+    ensures named { IsTrue (S.sure store.old) → Names K.Sink
+        (missing_file (S.contents store.old) (files_if (command_of words.now))) out.old out.new result }
 
     // An action that reads is performed, or run where it has code, and so is an image that passes all
     // checks: only want of memory and faults are free to come.
@@ -66,7 +67,7 @@ pub fn serve<S: Store, K: Sink>(alloc: Global, words: &Words, store: &mut S, out
         Performs (S.contents store.old) words.now result }
 
     // Where there is no file to read, the store isn't asked.
-    ensures idle { files_asked words.now ≡ [] → store.new ≡ store.old }
+    ensures idle { files_if (command_of words.now) ≡ [] → store.new ≡ store.old }
 {
     carry_out(alloc, parse_command(words), store, out)
 }

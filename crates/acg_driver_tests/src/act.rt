@@ -489,7 +489,6 @@ fn command_lines(rt: HostRuntime) -> Result<(), Fail> {
     for list in [
         [""].as_slice(),
         ["act"].as_slice(),
-        ["act", "a", "a"].as_slice(),
         ["help", "act"].as_slice(),
     ] {
         assert!(rt; answers(alloc, list, b"send 42", b"", b"words\n", Status::Words)?);

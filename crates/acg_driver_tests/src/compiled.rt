@@ -1,7 +1,7 @@
 //! Images of compiled actions, as bytes.
 
 ghost use Rattle.std.specs.Prelude.{◌<◌, length};
-ghost use Rattle.acg_driver.specs.Compiling.{IsCapacity};
+ghost use Rattle.acg_words.specs.Settings.{IsCapacity};
 
 use acg_base::{Capacity, DEFAULT_STACK, DEFAULT_UNITS, ListSink};
 use acg_driver::{Built, CompileError, compile_action};

@@ -12,6 +12,8 @@ mod faults;
 #[cfg(test)]
 mod images;
 #[cfg(test)]
+mod options;
+#[cfg(test)]
 mod others;
 #[cfg(test)]
 mod perform;

@@ -1,19 +1,24 @@
 -- Command lines.
-use Rattle.std.specs.Prelude.{ℕ, ◌^◌, nat_lt, nat_le, ◌&&◌, if◌then◌else◌, List, [], ◌∷◌, length, take, drop, codes, Option, Some, None, option_map, option_and_then}
+use Rattle.std.specs.Prelude.{ℕ, ◌^◌, nat_lt, ◌==◌, Bool, if◌then◌else◌, List, [], ◌∷◌, length, codes, Option, Some, None, option_map, option_and_then}
+use Rattle.std.specs.List.{list_any}
 use Rattle.std.specs.Str.{bytes_eq}
 use Rattle.acg_base.specs.Decimals.{spelled_number}
+use Rattle.acg_base.specs.declared.capacity.Capacity.{Capacity}
+use Rattle.acg_words.specs.Settings.{IsCapacity, IsBudget, told_by}
 use Rattle.acg_words.specs.declared.command.Act.{Act as ActValue}
 use Rattle.acg_words.specs.declared.command.Run.{Run as RunValue}
 use Rattle.acg_words.specs.declared.command.Perform.{Perform as PerformValue}
 use Rattle.acg_words.specs.declared.command.Command.{Command as Request}
 use Rattle.acg_words.specs.declared.command.Command.TheVariants as request
+use Rattle.acg_words.specs.declared.settings.Setting.{Setting}
+use Rattle.acg_words.specs.declared.settings.Setting.TheVariants.{Stack, Units, Budget}
+use Rattle.acg_words.specs.declared.settings.Settings.{Settings}
 use Rattle.acg_words.specs.declared.table.Kind.{Kind}
 use Rattle.acg_words.specs.declared.table.Kind.TheVariants as kind
 
--- `act ACTION`, `run [budget=N] IMAGE [INPUT]`, `perform N ACTION [INPUT]`, `help` and `version`, with the names of their
--- files
+-- what a command line asks for: the command with what its options say, and the names of its files
 pub data Command : Type 0 where
-  Act : (action : List ℕ) → Command
+  Act : (capacity : Capacity) (budget : ℕ) (action : List ℕ) (input : Option (List ℕ)) → Command
   Run : (budget : ℕ) (image : List ℕ) (input : Option (List ℕ)) → Command
   Perform : (number : ℕ) (action : List ℕ) (input : Option (List ℕ)) → Command
   Help : Command
@@ -40,88 +45,75 @@ commands = kind.Act ∷ kind.Run ∷ kind.Perform ∷ kind.Help ∷ kind.Version
 abbrev pub kind_of : (name : List ℕ) → Option Kind
 kind_of name = first_named commands name
 
+-- the options of a command, in the order in which words say them
+abbrev pub options_of : Kind → List Setting
+options_of kind.Act = Stack ∷ Units ∷ Budget ∷ []
+options_of kind.Run = Budget ∷ []
+options_of kind.Perform = []
+options_of kind.Help = []
+options_of kind.Version = []
+
 -- a number of `perform`: one digit or more, below 2^63
 abbrev pub schedule_number : List ℕ → Option ℕ
 schedule_number word = option_and_then (λ n. if nat_lt n (2 ^ 63) then Some n else None) (spelled_number word)
 
--- the name of a file: any word that isn't empty
-abbrev pub file_name : List ℕ → Option (List ℕ)
-file_name word = if nat_lt 0 (length word) then Some word else None
+-- `act ACTION [INPUT]`
+abbrev pub act_of : Settings → List (List ℕ) → Option Command
+act_of s (action ∷ []) = Some (Act s.capacity s.budget action None)
+act_of s (action ∷ input ∷ []) = Some (Act s.capacity s.budget action (Some input))
+act_of s _ = None
 
-abbrev pub act_of : List (List ℕ) → Option Command
-act_of (action ∷ []) = option_map Act (file_name action)
-act_of _ = None
+-- `run IMAGE [INPUT]`
+abbrev pub run_of : Settings → List (List ℕ) → Option Command
+run_of s (image ∷ []) = Some (Run s.budget image None)
+run_of s (image ∷ input ∷ []) = Some (Run s.budget image (Some input))
+run_of s _ = None
 
--- the sign of the option that says the most instructions of a run
-abbrev pub budget_sign : List ℕ
-budget_sign = codes "budget="
-
--- what stands behind a sign, in a word that begins with it
-abbrev pub behind_sign : (sign word : List ℕ) → Option (List ℕ)
-behind_sign sign word = if bytes_eq (take (length sign) word) sign then Some (drop (length sign) word) else None
-
--- the most instructions of a run where no option says them
-abbrev pub default_budget : ℕ
-default_budget = 10000000
-
--- the number of that option: one digit or more, from 1 to 1000000000
-abbrev pub budget_number : List ℕ → Option ℕ
-budget_number word =
-    option_and_then (λ n. if nat_lt 0 n && nat_le n 1000000000 then Some n else None) (spelled_number word)
-
--- the operands of `run` behind its options
-abbrev pub run_with : (budget : ℕ) → List (List ℕ) → Option Command
-run_with budget (image ∷ []) = option_map (λ i. Run budget i None) (file_name image)
-run_with budget (image ∷ input ∷ []) =
-    option_and_then (λ i. option_map (λ j. Run budget i (Some j)) (file_name input)) (file_name image)
-run_with budget _ = None
-
--- what stands there only where there is nothing else
-abbrev pub unless : Option (List ℕ) → Option Command → Option Command
-unless None command = command
-unless (Some other) command = None
-
--- the words behind the option: the first of them isn't that option again
-abbrev pub run_behind : (budget : ℕ) → List (List ℕ) → Option Command
-run_behind budget [] = None
-run_behind budget (word ∷ words) = unless (behind_sign budget_sign word) (run_with budget (word ∷ words))
-
--- the words of `run`, from what its first word says behind the sign, where it begins with it
-abbrev pub run_by : (digits : Option (List ℕ)) → (words behind : List (List ℕ)) → Option Command
-run_by None words behind = run_with default_budget words
-run_by (Some digits) words behind = option_and_then (λ n. run_behind n behind) (budget_number digits)
-
-abbrev pub run_of : List (List ℕ) → Option Command
-run_of [] = None
-run_of (word ∷ words) = run_by (behind_sign budget_sign word) (word ∷ words) words
-
+-- `perform N ACTION [INPUT]`
 abbrev pub perform_of : List (List ℕ) → Option Command
-perform_of (number ∷ action ∷ []) =
-    option_and_then (λ n. option_map (λ a. Perform n a None) (file_name action)) (schedule_number number)
-perform_of (number ∷ action ∷ input ∷ []) =
-    option_and_then (λ n. option_and_then (λ a. option_map (λ i. Perform n a (Some i)) (file_name input)) (file_name action)) (schedule_number number)
+perform_of (number ∷ action ∷ []) = option_map (λ n. Perform n action None) (schedule_number number)
+perform_of (number ∷ action ∷ input ∷ []) = option_map (λ n. Perform n action (Some input)) (schedule_number number)
 perform_of _ = None
 
+-- `help`, `version`
 abbrev pub alone_of : Command → List (List ℕ) → Option Command
 alone_of command [] = Some command
 alone_of command _ = None
 
--- the command with these operands. Every other list of operands is none
-abbrev pub words_of : Kind → List (List ℕ) → Option Command
-words_of kind.Act operands = act_of operands
-words_of kind.Run operands = run_of operands
-words_of kind.Perform operands = perform_of operands
-words_of kind.Help operands = alone_of Help operands
-words_of kind.Version operands = alone_of Version operands
+-- the command with what its options say and these operands. Every other list of operands is none
+abbrev pub words_of : Kind → Settings → List (List ℕ) → Option Command
+words_of kind.Act s operands = act_of s operands
+words_of kind.Run s operands = run_of s operands
+words_of kind.Perform s operands = perform_of operands
+words_of kind.Help s operands = alone_of Help operands
+words_of kind.Version s operands = alone_of Version operands
 
--- what a list of words asks for: the first is the command's name, and the others are its operands. Every other list of words is no command
+-- what a command's words behind its name ask for: first its options, and then its operands
+abbrev pub command_by : Kind → List (List ℕ) → Option Command
+command_by kind words = option_and_then (λ told. words_of kind told.0 told.1) (told_by (options_of kind) words)
+
+-- what words ask for, none of which is empty: the first is the command's name
+abbrev pub command_with : List (List ℕ) → Option Command
+command_with [] = None
+command_with (name ∷ words) = option_and_then (λ kind. command_by kind words) (kind_of name)
+
+-- a word with no bytes
+abbrev pub is_empty : (word : List ℕ) → Bool
+is_empty word = length word == 0
+
+-- what a list of words asks for. Every list of words that is none of these, or has an empty word, is no command
 unfoldable pub command_of : List (List ℕ) → Option Command
-command_of [] = None
-command_of (name ∷ operands) = option_and_then (λ kind. words_of kind operands) (kind_of name)
+command_of words = if list_any is_empty words then None else command_with words
+
+-- the numbers of a command's options are in their ranges
+abbrev pub HasRanges : Command → Type 0
+HasRanges (Act capacity budget action input) = IsCapacity capacity × IsBudget budget
+HasRanges (Run budget image input) = IsBudget budget
+HasRanges _ = Unit {0}
 
 -- the commands that values of the program stand for
 abbrev pub act_asked : ActValue → Command
-act_asked act = Act act.action.now
+act_asked act = Act act.capacity act.budget act.action.now (option_map (λ file. file.now) act.input)
 
 abbrev pub run_asked : RunValue → Command
 run_asked run = Run run.budget run.image.now (option_map (λ file. file.now) run.input)

@@ -1,4 +1,5 @@
 pub mod Lines
 pub mod Prints
+pub mod Settings
 pub mod Commands
 pub mod Usage

@@ -1,5 +1,5 @@
 -- What a print does to a sink.
-use Rattle.std.specs.Prelude.{◌≡◌, ◌≢◌, ℕ, zero, suc, List, ◌∷◌, ◌++◌, length, IsTrue, Result, OnOk, OnErr}
+use Rattle.std.specs.Prelude.{◌≡◌, ◌≢◌, ◌⊎◌, ℕ, zero, suc, List, ◌∷◌, ◌++◌, length, IsTrue, Result, OnOk, OnErr}
 use Rattle.std.specs.List.{concat}
 use Rattle.acg_base.specs.Outside.{counted, GainsFrontOf}
 use Rattle.acg_base.specs.declared.sink.Sink.{Ghosts}
@@ -40,8 +40,9 @@ pub record Printed {K : Type 0} (sink : Ghosts K) (text : List ℕ) (old new : K
   pub done : OnOk result (Took sink text old new)
   pub failed : OnErr result (Broke sink text old new)
 
--- the text is printed and its status answered, or a write failed, the last one, and the answer says so
+-- the text is printed and its status answered, or a write failed, the last one, and the answer says so. Where the status is
+-- itself that of a failed write, of the store, the answer is the same in both cases
 pub record Answered {K : Type 0} (sink : Ghosts K) (text : List ℕ) (wanted : Status) (old new : K) (result : Status) : Type 0 where
   pub answer : result ≢ status.WriteFault → result ≡ wanted
   pub done : result ≢ status.WriteFault → Took sink text old new
-  pub failed : result ≡ status.WriteFault → Broke sink text old new
+  pub failed : result ≡ status.WriteFault → Broke sink text old new ⊎ ((wanted ≡ status.WriteFault) × Took sink text old new)

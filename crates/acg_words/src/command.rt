@@ -1,6 +1,8 @@
 //! What command lines ask for.
 
-/// A command with its operands.
+use acg_base::Capacity;
+
+/// A command with its options and operands.
 #[derive(Clone, Copy, Debug, PartialEq, Eq)]
 pub enum Command<'a> {
     /// To run the image of an action.
@@ -15,11 +17,17 @@ pub enum Command<'a> {
     Version,
 }
 
-/// The operands of `act`.
+/// The options and the operands of `act`.
 #[derive(Clone, Copy, Debug, PartialEq, Eq)]
 pub struct Act<'a> {
+    /// The room of the run: from 1 to 16777216 words of the stack, and from 1 to 4194304 units.
+    pub capacity: Capacity,
+    /// The most instructions that are run, from 1 to 1000000000.
+    pub budget: u64,
     /// The file with the action.
     pub action: &'a str,
+    /// The file with the input; where there is none, the input is empty.
+    pub input: Option<&'a str>,
 }
 
 /// The option and the operands of `run`.

@@ -4,8 +4,10 @@
 mod buffer;
 mod command;
 mod line;
+mod number;
 mod parser;
 mod prints;
+mod settings;
 mod table;
 mod usage;
 

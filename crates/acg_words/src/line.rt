@@ -4,9 +4,12 @@ ghost use Rattle.std.specs.Prelude.{◌≡◌};
 ghost use Rattle.acg_words.specs.Lines.{bytes_of, status_of, exit_status};
 ghost use Rattle.acg_words.specs.Prints.{Printed, Answered};
 
-use crate::prints::{print, print_numbered, print_read_fault, print_trapped};
+use crate::prints::{
+    print, print_named, print_numbered, print_rule, print_trapped, print_uncovered,
+};
 use acg_base::{
-    LIMIT_ACTION, LIMIT_IMAGE, LIMIT_INPUT, LIMIT_NODES, Memory, Name, Sink, SinkError, Status,
+    LIMIT_ACTION, LIMIT_DESCRIPTION, LIMIT_IMAGE, LIMIT_INPUT, LIMIT_LEXEMES, LIMIT_NODES,
+    LIMIT_SOURCE, Memory, Name, Sink, SinkError, Status,
 };
 use rv_code::Cause;
 
@@ -21,6 +24,17 @@ pub enum Line {
         /// The name that was read.
         name: Name,
     },
+    /// A write of the store failed.
+    WriteFault {
+        /// The name that was written.
+        name: Name,
+    },
+    /// The file of the description has more bytes than `LIMIT_DESCRIPTION`.
+    LimitDescription,
+    /// The file of the source has more bytes than `LIMIT_SOURCE`.
+    LimitSource,
+    /// The source has more lexemes than `LIMIT_LEXEMES`.
+    LimitLexemes,
     /// The file of the action has more bytes than `LIMIT_ACTION`.
     LimitAction,
     /// The file of the input has more bytes than `LIMIT_INPUT`.
@@ -29,6 +43,46 @@ pub enum Line {
     LimitImage,
     /// The action has more nodes and yielders than `LIMIT_NODES`.
     LimitNodes,
+    /// After tokens and blanks of the description, no token begins there.
+    DescriptionByte {
+        /// Where it is.
+        offset: u32,
+    },
+    /// An item of the description isn't formed as one.
+    DescriptionItem {
+        /// Which item.
+        index: u32,
+    },
+    /// The description breaks a rule.
+    DescriptionRule {
+        /// Which rule, from 1 to 9.
+        rule: u8,
+        /// The item that breaks it.
+        item: u32,
+    },
+    /// After lexemes and blanks of the source, no lexeme begins there.
+    SourceByte {
+        /// Where it is.
+        offset: u32,
+    },
+    /// The lexemes of the source have no tree.
+    NoTree,
+    /// The lexemes of the source have more than one tree.
+    Ambiguous,
+    /// A semantic function has no equation for a phrase.
+    Uncovered {
+        /// The name of the function.
+        function: Vec<u8>,
+        /// The name of the phrase's production.
+        production: Vec<u8>,
+        /// The number of its alternative, from 1.
+        alternative: u32,
+    },
+    /// A numeral of the source whose value is asked for is above 9223372036854775807.
+    Numeral {
+        /// Where it is.
+        offset: u32,
+    },
     /// After tokens and blanks, no token begins there.
     ActionByte {
         /// Where it is.
@@ -123,9 +177,9 @@ impl From<Memory> for Line {
 }
 
 impl Line {
-    ghost use Rattle.std.specs.Prelude.{◌≡◌, ◌≢◌, length, IsTrue, OnOk, OnErr};
+    ghost use Rattle.std.specs.Prelude.{◌≡◌, ◌≢◌, ◌⊎◌, length, IsTrue, OnOk, OnErr};
     ghost use Rattle.acg_base.specs.Outside.{counted};
-    ghost use Rattle.acg_words.specs.Lines.{bytes_of, status_of, is_one_piece, pieces_of};
+    ghost use Rattle.acg_words.specs.Lines.{bytes_of, status_of, is_one_piece, pieces_of, TellsWriteFault};
     ghost use Rattle.acg_words.specs.Prints.{Printed, Answered, PiecesBroke, writes_behind};
 
     /// The status that goes with the line.
@@ -135,8 +189,20 @@ impl Line {
         match self {
             Line::Words => Status::Words,
             Line::ReadFault { .. } => Status::ReadFault,
-            Line::LimitAction | Line::LimitInput | Line::LimitImage | Line::LimitNodes =>
-                Status::Limit,
+            Line::WriteFault { .. } => Status::WriteFault,
+            Line::LimitDescription
+            | Line::LimitSource
+            | Line::LimitLexemes
+            | Line::LimitAction
+            | Line::LimitInput
+            | Line::LimitImage
+            | Line::LimitNodes => Status::Limit,
+            Line::DescriptionByte { .. }
+            | Line::DescriptionItem { .. }
+            | Line::DescriptionRule { .. } => Status::Description,
+            Line::SourceByte { .. } | Line::NoTree | Line::Ambiguous => Status::Source,
+            Line::Uncovered { .. } => Status::Uncovered,
+            Line::Numeral { .. } => Status::Numeral,
             Line::ActionByte { .. }
             | Line::ActionText { .. }
             | Line::StrayUnfold { .. }
@@ -160,7 +226,7 @@ impl Line {
         }
     }
 
-    /// Prints the line, by one write or, for a read fault, by three. Answers `Failed` where the
+    /// Prints the line, by one write or, where it has names, by one for each piece. Answers `Failed` where the
     /// sink fails: it has the pieces before the failed one and a front of that one then.
     pub fn print<K: Sink>(&self, out: &mut K) -> Result<(), SinkError>
         ensures printed { Printed K.Sink (bytes_of self.now) out.old out.new result }
@@ -172,11 +238,27 @@ impl Line {
     {
         match self {
             Line::Words => print(out, b"words\n"),
-            Line::ReadFault { name } => print_read_fault(out, name.bytes()),
+            Line::ReadFault { name } => print_named(out, b"read fault ", name.bytes()),
+            Line::WriteFault { name } => print_named(out, b"write fault ", name.bytes()),
+            Line::LimitDescription => print_numbered(out, b"limit description ", LIMIT_DESCRIPTION),
+            Line::LimitSource => print_numbered(out, b"limit source ", LIMIT_SOURCE),
+            Line::LimitLexemes => print_numbered(out, b"limit lexemes ", LIMIT_LEXEMES),
             Line::LimitAction => print_numbered(out, b"limit action ", LIMIT_ACTION),
             Line::LimitInput => print_numbered(out, b"limit input ", LIMIT_INPUT),
             Line::LimitImage => print_numbered(out, b"limit image ", LIMIT_IMAGE),
             Line::LimitNodes => print_numbered(out, b"limit nodes ", LIMIT_NODES),
+            Line::DescriptionByte { offset } => print_numbered(out, b"description byte ", *offset),
+            Line::DescriptionItem { index } => print_numbered(out, b"description item ", *index),
+            Line::DescriptionRule { rule, item } => print_rule(out, *rule, *item),
+            Line::SourceByte { offset } => print_numbered(out, b"source byte ", *offset),
+            Line::NoTree => print(out, b"source no tree\n"),
+            Line::Ambiguous => print(out, b"source ambiguous\n"),
+            Line::Uncovered {
+                function,
+                production,
+                alternative,
+            } => print_uncovered(out, function, production, *alternative),
+            Line::Numeral { offset } => print_numbered(out, b"numeral ", *offset),
             Line::ActionByte { offset } => print_numbered(out, b"action byte ", *offset),
             Line::ActionText { offset } => print_numbered(out, b"action text ", *offset),
             Line::StrayUnfold { node } => print_numbered(out, b"stray unfold ", *node),
@@ -200,14 +282,16 @@ impl Line {
         }
     }
 
-    /// Prints the line, and answers its status, or `WriteFault` where the sink fails.
+    /// Prints the line, and answers its status, or `WriteFault` where the sink fails. So for the
+    /// line of a write of the store that failed it answers `WriteFault` in both cases.
     pub fn answer<K: Sink>(&self, out: &mut K) -> Status
         ensures answered { Answered K.Sink (bytes_of self.now) (status_of self.now)
             out.old out.new result }
         ensures pieces { result ≢ Status.WriteFault →
             K.writes out.new ≡ writes_behind (length (pieces_of self.now)) (K.writes out.old) }
         ensures broken { result ≡ Status.WriteFault →
-            PiecesBroke K.Sink (pieces_of self.now) out.old out.new }
+            PiecesBroke K.Sink (pieces_of self.now) out.old out.new
+            ⊎ TellsWriteFault K.Sink self.now out.old out.new }
         ensures once { IsTrue (is_one_piece self.now) →
             K.writes out.new ≡ counted (K.writes out.old) }
     {

@@ -1,9 +1,9 @@
 //! Pieces of text that a sink gets, each by one write.
 
-ghost use Rattle.std.specs.Prelude.{◌≡◌, ◌≤◌, [], ◌∷◌, length, map, codes, OnOk, OnErr};
+ghost use Rattle.std.specs.Prelude.{◌≡◌, ◌≤◌, [], ◌∷◌, length, map, OnOk, OnErr};
 ghost use Rattle.std.specs.List.{flat_map};
 ghost use Rattle.acg_base.specs.Outside.{counted};
-ghost use Rattle.acg_words.specs.Lines.{numbered_line, header_line, message_line, read_fault_line, cause_name, trapped_line};
+ghost use Rattle.acg_words.specs.Lines.{numbered_line, header_line, message_line, named_line, named_pieces, rule_line, uncovered_line, uncovered_pieces, cause_name, trapped_line};
 ghost use Rattle.acg_words.specs.Prints.{Printed, PiecesBroke, writes_behind};
 
 use crate::buffer::Buffer;
@@ -53,15 +53,60 @@ pub(crate) fn print_numbered<K: Sink>(
     print(out, line.as_slice())
 }
 
-/// Prints that a read of the store failed, with the name that was read, of any length, by three
-/// writes.
-pub(crate) fn print_read_fault<K: Sink>(out: &mut K, name: &[u8]) -> Result<(), SinkError>
-    ensures printed { Printed K.Sink (read_fault_line name.now) out.old out.new result }
+/// Prints a text, a name of any length and a line feed, by three writes.
+pub(crate) fn print_named<K: Sink>(out: &mut K, text: &[u8], name: &[u8]) -> Result<(), SinkError>
+    ensures printed { Printed K.Sink (named_line text.now name.now) out.old out.new result }
     ensures three { OnOk result (K.writes out.new ≡ writes_behind 3 (K.writes out.old)) }
     ensures broken { OnErr result (PiecesBroke K.Sink
-        (codes "read fault " ∷ (name.now ∷ (codes "\n" ∷ []))) out.old out.new) }
+        (named_pieces text.now name.now) out.old out.new) }
 {
-    print_all(out, &[b"read fault ".as_slice(), name, b"\n".as_slice()])
+    print_all(out, &[text, name, b"\n".as_slice()])
+}
+
+/// Prints that a description breaks a rule at an item, by one write.
+pub(crate) fn print_rule<K: Sink>(out: &mut K, rule: u8, item: u32) -> Result<(), SinkError>
+    ensures printed { Printed K.Sink (rule_line rule item) out.old out.new result }
+    ensures once { K.writes out.new ≡ counted (K.writes out.old) }
+    ensures broken { OnErr result
+        (PiecesBroke K.Sink (rule_line rule item ∷ []) out.old out.new) }
+{
+    let mut line = Buffer::new();
+    line.put(b"description rule ");
+    line.put_unsigned(u64::from(rule));
+    line.put(b" item ");
+    line.put_unsigned(u64::from(item));
+    line.put(b"\n");
+    print(out, line.as_slice())
+}
+
+/// Prints that a function has no equation for an alternative of a production, with their names, of
+/// any length, by five writes.
+pub(crate) fn print_uncovered<K: Sink>(
+    out: &mut K,
+    function: &[u8],
+    production: &[u8],
+    alternative: u32,
+) -> Result<(), SinkError>
+    ensures printed { Printed K.Sink (uncovered_line function.now production.now alternative)
+        out.old out.new result }
+    ensures five { OnOk result (K.writes out.new ≡ writes_behind 5 (K.writes out.old)) }
+    ensures broken { OnErr result (PiecesBroke K.Sink
+        (uncovered_pieces function.now production.now alternative) out.old out.new) }
+{
+    let mut end = Buffer::new();
+    end.put(b" ");
+    end.put_unsigned(u64::from(alternative));
+    end.put(b"\n");
+    print_all(
+        out,
+        &[
+            b"uncovered ".as_slice(),
+            function,
+            b" ".as_slice(),
+            production,
+            end.as_slice(),
+        ],
+    )
 }
 
 // The name of the cause of a trap.

@@ -5,6 +5,7 @@ ghost use Rattle.std.specs.Str.{bytes_eq};
 ghost use Rattle.acg_words.specs.Commands.{name_of, kind_of};
 ghost use Rattle.acg_words.specs.Usage.{IsRow, meaning_of};
 
+use crate::settings::Setting;
 use acg_base::Status;
 
 /// Which command it is.
@@ -36,7 +37,9 @@ pub(crate) static KINDS: [Kind; 5] = [
 pub(crate) struct Row {
     /// The first word.
     pub(crate) name: &'static str,
-    /// The words behind it, each with a blank before it; one in brackets may be left out.
+    /// Its options, in the order in which words say them.
+    pub(crate) settings: &'static [Setting],
+    /// The words behind these, each with a blank before it; one in brackets may be left out.
     pub(crate) operands: &'static str,
     /// What it does.
     pub(crate) about: &'static str,
@@ -49,26 +52,31 @@ pub(crate) fn row_of(kind: Kind) -> Row
     match kind {
         Kind::Act => Row {
             name: "act",
-            operands: " ACTION",
+            settings: &[Setting::Stack, Setting::Units, Setting::Budget],
+            operands: " ACTION [INPUT]",
             about: "compiles the action in the file ACTION, and runs its image",
         },
         Kind::Run => Row {
             name: "run",
-            operands: " [budget=N] IMAGE [INPUT]",
-            about: "runs the image in the file IMAGE for at most N instructions, 10000000 where none is said",
+            settings: &[Setting::Budget],
+            operands: " IMAGE [INPUT]",
+            about: "runs the image in the file IMAGE",
         },
         Kind::Perform => Row {
             name: "perform",
+            settings: &[],
             operands: " N ACTION [INPUT]",
             about: "performs the action; N, a number below 2^63, chooses each step",
         },
         Kind::Help => Row {
             name: "help",
+            settings: &[],
             operands: "",
             about: "prints this",
         },
         Kind::Version => Row {
             name: "version",
+            settings: &[],
             operands: "",
             about: "prints the version",
         },

@@ -1,6 +1,6 @@
 //! Command lines, and what is printed for `help` and `version`.
 
-use acg_base::{ListSink, Name, Status, Words};
+use acg_base::{Capacity, ListSink, Name, Status, Words};
 use acg_words::{Act, Command, Line, Perform, Run, parse_command, print_usage, print_version};
 use rv_code::Cause;
 use std::alloc::Global;
@@ -24,11 +24,6 @@ fn is_refused(alloc: Global, list: &[&str]) -> Result<bool, Fail> {
 #[test]
 fn command_lines(rt: HostRuntime) -> Result<(), Fail> {
     let alloc = rt.alloc();
-    let act = words(alloc, &["act", "a"])?;
-    assert_eq!(rt;
-        parse_command(&act),
-        Some(Command::Act(Act { action: "a" }))
-    );
     let perform = words(alloc, &["perform", "9223372036854775807", "a", "help"])?;
     assert_eq!(rt;
         parse_command(&perform),
@@ -51,7 +46,8 @@ fn command_lines(rt: HostRuntime) -> Result<(), Fail> {
     assert!(rt; is_refused(alloc, &["Act", "a"])?);
     assert!(rt; is_refused(alloc, &["act"])?);
     assert!(rt; is_refused(alloc, &["act", ""])?);
-    assert!(rt; is_refused(alloc, &["act", "a", "a"])?);
+    assert!(rt; is_refused(alloc, &["act", "a", "i", "i"])?);
+    assert!(rt; is_refused(alloc, &["act", "a", ""])?);
     assert!(rt; is_refused(alloc, &["help", "act"])?);
     assert!(rt; is_refused(alloc, &["version", ""])?);
     assert!(rt; is_refused(alloc, &["perform", "0"])?);
@@ -60,6 +56,79 @@ fn command_lines(rt: HostRuntime) -> Result<(), Fail> {
     assert!(rt; is_refused(alloc, &["perform", "9223372036854775808", "a"])?);
     assert!(rt; is_refused(alloc, &["perform", "0", "a", ""])?);
     assert!(rt; is_refused(alloc, &["perform", "0", "a", "i", "i"])?);
+    Ok(())
+}
+
+// The command with which the image of an action is run.
+fn act<'a>(
+    stack: u64,
+    units: u64,
+    budget: u64,
+    action: &'a str,
+    input: Option<&'a str>,
+) -> Option<Command<'a>> {
+    Some(Command::Act(Act {
+        capacity: Capacity { stack, units },
+        budget,
+        action,
+        input,
+    }))
+}
+
+// Each option may be said, in one order; the first word that begins with no sign ends them.
+#[rattlefmt::skip]
+const ACTS: [(&[&str], u64, u64, u64, &str, Option<&str>); 12] = [
+    (&["act", "a"], 1_048_576, 262_144, 10_000_000, "a", None),
+    (&["act", "a", "i"], 1_048_576, 262_144, 10_000_000, "a", Some("i")),
+    (&["act", "stack=40", "a"], 40, 262_144, 10_000_000, "a", None),
+    (&["act", "units=1", "a", "i"], 1_048_576, 1, 10_000_000, "a", Some("i")),
+    (&["act", "budget=10", "a"], 1_048_576, 262_144, 10, "a", None),
+    (&["act", "stack=1", "units=2", "budget=3", "a", "i"], 1, 2, 3, "a", Some("i")),
+    (&["act", "stack=1", "budget=3", "a"], 1, 262_144, 3, "a", None),
+    (&["act", "stack=16777216", "units=4194304", "budget=1000000000", "a"],
+        16_777_216, 4_194_304, 1_000_000_000, "a", None),
+    (&["act", "stack=0001", "a"], 1, 262_144, 10_000_000, "a", None),
+    (&["act", "a", "stack=1"], 1_048_576, 262_144, 10_000_000, "a", Some("stack=1")),
+    (&["act", "Stack=1", "stack=1"], 1_048_576, 262_144, 10_000_000, "Stack=1", Some("stack=1")),
+    (&["act", "units=3", "stack", "budget="], 1_048_576, 3, 10_000_000, "stack", Some("budget=")),
+];
+
+#[test]
+fn acts(rt: HostRuntime) -> Result<(), Fail> {
+    for (list, stack, units, budget, action, input) in ACTS {
+        assert_eq!(rt;
+            parse_command(&words(rt.alloc(), list)?),
+            act(stack, units, budget, action, input)
+        );
+    }
+    Ok(())
+}
+
+#[rattlefmt::skip]
+const NO_ACTS: [&[&str]; 16] = [
+    &["act", "stack=1"],
+    &["act", "stack=0", "a"],
+    &["act", "stack=16777217", "a"],
+    &["act", "units=0", "a"],
+    &["act", "units=4194305", "a"],
+    &["act", "budget=0", "a"],
+    &["act", "budget=1000000001", "a"],
+    &["act", "stack=", "a"],
+    &["act", "stack=+1", "a"],
+    &["act", "stack=-1", "a"],
+    &["act", "stack=1 ", "a"],
+    &["act", "stack=1", "stack=1", "a"],
+    &["act", "units=1", "stack=1", "a"],
+    &["act", "budget=1", "units=1", "a"],
+    &["act", "budget=1", "stack=1", "a"],
+    &["act", "stack=99999999999999999999", "a"],
+];
+
+#[test]
+fn no_acts(rt: HostRuntime) -> Result<(), Fail> {
+    for list in NO_ACTS {
+        assert!(rt; is_refused(rt.alloc(), list)?);
+    }
     Ok(())
 }
 
@@ -123,22 +192,25 @@ fn no_runs(rt: HostRuntime) -> Result<(), Fail> {
 // A sink with room for the usage.
 fn sink(alloc: Global) -> Result<ListSink, Fail> {
     Ok(
-        ListSink::new(alloc, 2048, Vec::new(alloc))
+        ListSink::new(alloc, 4096, Vec::new(alloc))
             .ok()
             .ok_or("memory")?,
     )
 }
 
-const USAGE: &[u8] = b"acg act ACTION
+const USAGE: &[u8] = b"acg act [stack=N] [units=N] [budget=N] ACTION [INPUT]
     compiles the action in the file ACTION, and runs its image
 acg run [budget=N] IMAGE [INPUT]
-    runs the image in the file IMAGE for at most N instructions, 10000000 where none is said
+    runs the image in the file IMAGE
 acg perform N ACTION [INPUT]
     performs the action; N, a number below 2^63, chooses each step
 acg help
     prints this
 acg version
     prints the version
+option stack=N: words of 8 bytes for the frames of a run, from 1 to 16777216, or 1048576 where none are said
+option units=N: units of 16 bytes for the cells and closures of a run, from 1 to 4194304, or 262144 where none are said
+option budget=N: instructions that are run at most, from 1 to 1000000000, or 10000000 where none are said
 status 0: done, or the action has completed
 status 1: the action has failed
 status 2: the action has escaped
@@ -184,6 +256,60 @@ fn lines(rt: HostRuntime) -> Result<(), Fail> {
     assert_eq!(rt;
         out.bytes(),
         b"read fault a b\naction byte 1048575\nlimit nodes 65536\n".as_slice()
+    );
+    Ok(())
+}
+
+// Lines of descriptions and sources, each with its text and its status.
+#[rattlefmt::skip]
+const SOURCES: [(Line, &[u8], Status); 11] = [
+    (Line::LimitDescription, b"limit description 1048576\n", Status::Limit),
+    (Line::LimitSource, b"limit source 1048576\n", Status::Limit),
+    (Line::LimitLexemes, b"limit lexemes 4096\n", Status::Limit),
+    (Line::DescriptionByte { offset: 0 }, b"description byte 0\n", Status::Description),
+    (Line::DescriptionItem { index: 7 }, b"description item 7\n", Status::Description),
+    (Line::DescriptionRule { rule: 6, item: 7 }, b"description rule 6 item 7\n", Status::Description),
+    (Line::DescriptionRule { rule: 9, item: 4_294_967_295 },
+        b"description rule 9 item 4294967295\n", Status::Description),
+    (Line::SourceByte { offset: 2 }, b"source byte 2\n", Status::Source),
+    (Line::NoTree, b"source no tree\n", Status::Source),
+    (Line::Ambiguous, b"source ambiguous\n", Status::Source),
+    (Line::Numeral { offset: 2 }, b"numeral 2\n", Status::Numeral),
+];
+
+#[test]
+fn lines_of_sources(rt: HostRuntime) -> Result<(), Fail> {
+    for (line, text, status) in SOURCES {
+        let mut out = sink(rt.alloc())?;
+        assert_eq!(rt; line.answer(&mut out), status);
+        assert_eq!(rt; out.bytes(), text);
+    }
+    Ok(())
+}
+
+// The line of a function and a production.
+fn uncovered(alloc: Global, function: &[u8], production: &[u8]) -> Result<Line, Fail> {
+    Ok(Line::Uncovered {
+        function: Vec::from_slice(alloc, function)?,
+        production: Vec::from_slice(alloc, production)?,
+        alternative: 1,
+    })
+}
+
+#[test]
+fn lines_of_names(rt: HostRuntime) -> Result<(), Fail> {
+    let alloc = rt.alloc();
+    let mut out = sink(alloc)?;
+    let line = uncovered(alloc, b"execute", b"S")?;
+    assert_eq!(rt; line.answer(&mut out), Status::Uncovered);
+    let name = Name::new(alloc, "o").ok().ok_or("memory")?;
+    assert_eq!(rt;
+        Line::WriteFault { name }.answer(&mut out),
+        Status::WriteFault
+    );
+    assert_eq!(rt;
+        out.bytes(),
+        b"uncovered execute S 1\nwrite fault o\n".as_slice()
     );
     Ok(())
 }

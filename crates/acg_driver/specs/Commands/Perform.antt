@@ -51,6 +51,11 @@ IsInputOf input givens integers = (bytes : List ℕ) × IsBytesOf input givens b
 abbrev pub IsAction : (bytes : List ℕ) → Type 0
 IsAction bytes = (g : Listed) × Reads bytes g
 
+-- the input is read where the action is one
+abbrev pub GoesOnPerform : (givens : List (List ℕ)) → Type 0
+GoesOnPerform (bytes ∷ []) = IsAction bytes
+GoesOnPerform _ = ⊥
+
 -- the line with which it is refused, from what its files gave: the action's file isn't read or is no action, and then
 -- the input's file isn't read or is too long
 abbrev pub RefusesPerform : (action : List ℕ) → (input : Option (List ℕ)) → (givens : List (List ℕ)) → Line → Type 0

@@ -25,12 +25,21 @@ EndsAs (Trapped cause) before text status = SaysBehind before.output (line.Trapp
 abbrev pub IsRunFrom : (budget : ℕ) (start : State) (text : List ℕ) → Status → Type 0
 IsRunFrom budget start text status = EndsAs (run budget start) (last budget start) text status
 
+-- the bytes are an image's
+abbrev pub IsImageFile : (bytes : List ℕ) → Type 0
+IsImageFile bytes = (x : Image) × GivesImage bytes x
+
+-- the input is read where the image is one
+abbrev pub GoesOnRun : (givens : List (List ℕ)) → Type 0
+GoesOnRun (bytes ∷ []) = IsImageFile bytes
+GoesOnRun _ = ⊥
+
 -- the line with which it is refused, from what its files gave: the image's file isn't read or is no image, and then
 -- the input's file isn't read or is too long
 abbrev pub RefusesRun : (image : List ℕ) → (input : Option (List ℕ)) → (givens : List (List ℕ)) → Line → Type 0
 RefusesRun image input [] line = IsUnread image line
 RefusesRun image input (bytes ∷ givens) line =
-    ((givens ≡ []) × RefusesImage bytes line) ⊎ (((x : Image) × GivesImage bytes x) × RefusesInput input givens line)
+    ((givens ≡ []) × RefusesImage bytes line) ⊎ (IsImageFile bytes × RefusesInput input givens line)
 
 -- what is said where it isn't refused: the run of the machine that is loaded from the bytes, on the input
 abbrev pub SaysRun : ℕ → (input : Option (List ℕ)) → (givens : List (List ℕ)) → (text : List ℕ) → Status → Type 0

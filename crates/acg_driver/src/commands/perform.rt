@@ -1,44 +1,21 @@
 //! The command `perform`.
 
-ghost use Rattle.std.specs.Prelude.{List, ℕ, Option, Some, option_map, IfOk, IfErr, IsTrue};
-ghost use Rattle.acg_base.specs.declared.status.Status.TheVariants.{Done};
+ghost use Rattle.std.specs.Prelude.{Some, option_map};
 ghost use Rattle.acg_words.specs.Commands.{perform_asked};
-ghost use Rattle.acg_words.specs.Lines.{status_of};
-ghost use Rattle.acg_driver.specs.Files.{files_of, input_files, readings_of, ReadOnly, AsksSurely};
-ghost use Rattle.acg_driver.specs.Inputs.{RefusesInput};
-ghost use Rattle.acg_driver.specs.Commands.Perform.{IsInputOf, StartsPerform};
-ghost use Rattle.acg_driver.specs.Serving.{Refuses, Handled};
+ghost use Rattle.acg_driver.specs.Files.{files_of, Gathered};
+ghost use Rattle.acg_driver.specs.Commands.Perform.{GoesOnPerform, RefusesPerform, StartsPerform};
+ghost use Rattle.acg_driver.specs.Serving.{Handled};
 
 use crate::files::read_file;
-use crate::inputs::read_input_file;
+use crate::inputs::read_input;
 use crate::messages::integers;
 use crate::performance::take_steps;
 use crate::text::read_graph;
 use acg_base::{LIMIT_ACTION, Sink, Status, Store};
 use acg_words::{Line, Perform};
 use action_sos::Performer;
-use action_terms::Graph;
 use bumpalo::Bump;
 use std::alloc::Global;
-
-// Reads the integers of the input; without a file there are none.
-fn read_input<S: Store>(alloc: Global, input: Option<&str>, store: &mut S) -> Result<Vec<i64>, Line>
-    ensures taken { let name = option_map (λ file. file.now) input.entry in
-        IfOk result (λ list. ((givens : List (List ℕ)) × IsInputOf name givens list.items
-        × ReadOnly S.Store (readings_of (input_files name) givens) Done store.old store.new)) }
-    ensures refused { let name = option_map (λ file. file.now) input.entry in
-        IfErr result (λ line. ((givens : List (List ℕ)) × RefusesInput name givens line
-        × ReadOnly S.Store (readings_of (input_files name) givens)
-        (status_of line) store.old store.new)) }
-    ensures surely { IsTrue (S.sure store.old) → AsksSurely (S.contents store.old)
-        (input_files (option_map (λ file. file.now) input.entry)) result }
-{
-    let Some(name) = input else {
-        return Ok(Vec::new(alloc));
-    };
-    let bytes = read_input_file(alloc, name, store)?;
-    Ok(integers(alloc, &bytes)?)
-}
 
 // Reads the action and its input, and starts the performance.
 fn prepare<'a, S: Store>(
@@ -47,20 +24,15 @@ fn prepare<'a, S: Store>(
     command: Perform<'_>,
     store: &mut S,
 ) -> Result<Performer<'a>, Line>
-    ensures ready { IfOk result (λ performer. ((givens : List (List ℕ))
-        × StartsPerform (option_map (λ file. file.now) command.entry.input) givens performer
-        × ReadOnly S.Store (readings_of (files_of (perform_asked command.entry)) givens)
-        Done store.old store.new)) }
-    ensures refused { IfErr result (λ line. ((givens : List (List ℕ))
-        × Refuses (perform_asked command.entry) givens line
-        × ReadOnly S.Store (readings_of (files_of (perform_asked command.entry)) givens)
-        (status_of line) store.old store.new)) }
-    ensures surely { IsTrue (S.sure store.old) →
-        AsksSurely (S.contents store.old) (files_of (perform_asked command.entry)) result }
+    ensures { let input = option_map (λ file. file.now) command.entry.input in
+        Gathered S.Store (files_of (perform_asked command.entry)) GoesOnPerform
+        (RefusesPerform command.entry.action.now input) (StartsPerform input)
+        store.old store.new result }
 {
     let bytes = read_file(alloc, command.action, LIMIT_ACTION, store)?;
     let graph = read_graph(alloc, arena, &bytes)?;
     let input = read_input(alloc, command.input, store)?;
+    let input = integers(alloc, &input)?;
     Ok(Performer::start(alloc, arena, &graph, &input)?)
 }
 

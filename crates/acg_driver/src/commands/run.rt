@@ -1,19 +1,16 @@
 //! The command `run`.
 
-ghost use Rattle.std.specs.Prelude.{List, ℕ, [], Option, Some, option_map, IfOk, IfErr, IsTrue};
-ghost use Rattle.acg_base.specs.declared.status.Status.TheVariants.{Done};
+ghost use Rattle.std.specs.Prelude.{[], Some, option_map};
 ghost use Rattle.rv_machine.specs.Machines.{state_of};
 ghost use Rattle.acg_words.specs.Commands.{run_asked};
-ghost use Rattle.acg_words.specs.Lines.{status_of};
-ghost use Rattle.acg_driver.specs.Files.{files_of, input_files, readings_of, ReadOnly, AsksSurely};
-ghost use Rattle.acg_driver.specs.Inputs.{IsBytesOf, RefusesInput};
-ghost use Rattle.acg_driver.specs.Commands.Run.{IsRunFrom, StartsRun};
+ghost use Rattle.acg_driver.specs.Files.{files_of, Gathered};
+ghost use Rattle.acg_driver.specs.Commands.Run.{IsRunFrom, GoesOnRun, RefusesRun, StartsRun};
 ghost use Rattle.acg_driver.specs.Says.{Said};
-ghost use Rattle.acg_driver.specs.Serving.{Refuses, Handled};
+ghost use Rattle.acg_driver.specs.Serving.{Handled};
 
 use crate::files::read_file;
 use crate::image_bytes::image_of;
-use crate::inputs::read_input_file;
+use crate::inputs::read_input;
 use acg_base::{LIMIT_IMAGE, Sink, Status, Store};
 use acg_words::{Line, Run};
 use rv_machine::{Input, Machine, Run as Ending};
@@ -26,39 +23,15 @@ pub struct Ready {
     input: Vec<u8>,
 }
 
-// Reads the bytes of the input; without a file there are none.
-fn read_input<S: Store>(alloc: Global, input: Option<&str>, store: &mut S) -> Result<Vec<u8>, Line>
-    ensures taken { let name = option_map (λ file. file.now) input.entry in
-        IfOk result (λ bytes. ((givens : List (List ℕ)) × IsBytesOf name givens bytes.items
-        × ReadOnly S.Store (readings_of (input_files name) givens) Done store.old store.new)) }
-    ensures refused { let name = option_map (λ file. file.now) input.entry in
-        IfErr result (λ line. ((givens : List (List ℕ)) × RefusesInput name givens line
-        × ReadOnly S.Store (readings_of (input_files name) givens)
-        (status_of line) store.old store.new)) }
-    ensures surely { IsTrue (S.sure store.old) → AsksSurely (S.contents store.old)
-        (input_files (option_map (λ file. file.now) input.entry)) result }
-{
-    match input {
-        None => Ok(Vec::new(alloc)),
-        Some(name) => read_input_file(alloc, name, store),
-    }
-}
-
 // Reads the image and its input, and loads the machine. Takes all memory of the run.
 fn prepare<S: Store>(alloc: Global, command: Run<'_>, store: &mut S) -> Result<Ready, Line>
-    ensures ready { IfOk result (λ ready. ((givens : List (List ℕ))
-        × StartsRun (option_map (λ file. file.now) command.entry.input) givens ready
-        × ReadOnly S.Store (readings_of (files_of (run_asked command.entry)) givens)
-        Done store.old store.new)) }
-    ensures refused { IfErr result (λ line. ((givens : List (List ℕ))
-        × Refuses (run_asked command.entry) givens line
-        × ReadOnly S.Store (readings_of (files_of (run_asked command.entry)) givens)
-        (status_of line) store.old store.new)) }
-    ensures surely { IsTrue (S.sure store.old) →
-        AsksSurely (S.contents store.old) (files_of (run_asked command.entry)) result }
+    ensures { let input = option_map (λ file. file.now) command.entry.input in
+        Gathered S.Store (files_of (run_asked command.entry)) GoesOnRun
+        (RefusesRun command.entry.image.now input) (StartsRun input)
+        store.old store.new result }
 {
     let bytes = read_file(alloc, command.image, LIMIT_IMAGE, store)?;
-    let image = image_of(alloc, &bytes)?;
+    let image = image_of(alloc, bytes)?;
     let input = read_input(alloc, command.input, store)?;
     let machine = Machine::load(alloc, image)?;
     Ok(Ready { machine, input })

@@ -7,8 +7,8 @@ use Rattle.acg_driver.proofs.machine_run.run_machine.Given as goal
 abbrev pub invariant-runs : goal.invariant-runs
 invariant-runs g l = record {
   within : l.ran ≤ l.fn.budget;
-  ran : Runs l.ran l.fn.machine [] l.machine (left l.input);
-  took : Took g.K.Sink (output_lines (sent_in l.ran l.fn.machine [])) l.fn.out l.out;
+  ran : Runs l.ran l.fn.machine l.fn.input l.machine (left l.input);
+  took : Took g.K.Sink (output_lines (sent_in l.ran l.fn.machine l.fn.input)) l.fn.out l.out;
 }
 
 abbrev pub decreases-runs : goal.decreases-runs

@@ -6,11 +6,9 @@ use Rattle.acg_driver.proofs.commands.run.run.Goals as goal
 
 pub returns-in-Ok : goal.returns-in-Ok
 returns-in-Ok g c =
-    let ready = c.in-Ok.ensures.ready in
-    let said = run-said c.args.command.budget (option_map {T = Bor (List ℕ)} (λ file. file.now) c.args.command.input) ready.0 c.in-Ok.ready ready.1 c.run_ready.ensures in
-    handled-said (run_asked c.args.command) ready.0 c.in-Ok.ready said.0 said.1 ready.2 c.in-Ok.ensures.surely (λ none. cc)
+    let wanted = c.in-Ok.ensures.wanted in
+    let said = run-said c.args.command.budget (option_map {T = Bor (List ℕ)} (λ f. f.now) c.args.command.input) wanted.0 c.in-Ok.ready wanted.1 c.run_ready.ensures in
+    handled-said (run_asked c.args.command) c.in-Ok.ready c.in-Ok.ensures said.0 said.1 (λ none. cc)
 
 pub returns-in-Err : goal.returns-in-Err
-returns-in-Err g c =
-    let refused = c.in-Err.ensures.refused in
-    handled-refused (run_asked c.args.command) refused.0 c.in-Err.line refused.1 refused.2 c.answer.ensures.answered c.in-Err.ensures.surely (λ none. cc)
+returns-in-Err g c = handled-refused (run_asked c.args.command) c.in-Err.line c.in-Err.ensures c.answer.ensures.answered (λ none. cc)

@@ -6,7 +6,7 @@ use Rattle.acg_words.proofs.line.Line.print.Goals as goal
 
 pub returns-in-LimitAction-clause-printed : goal.returns-in-LimitAction-clause-printed
 returns-in-LimitAction-clause-printed g c =
-    let call = c.print_numbered in
+    let call = c.print_numbered-in-LimitAction in
     subst (λ line. Printed g.K.Sink (bytes_of line) c.args.out.now call.new.out call.result) (sym c.in-LimitAction.is) call.ensures.printed
 
 pub returns-in-LimitNodes-clause-printed : goal.returns-in-LimitNodes-clause-printed
@@ -48,3 +48,33 @@ pub returns-in-ImageKind-clause-printed : goal.returns-in-ImageKind-clause-print
 returns-in-ImageKind-clause-printed g c =
     let call = c.print-in-ImageKind in
     subst (λ line. Printed g.K.Sink (bytes_of line) c.args.out.now call.new.out call.result) (sym c.in-ImageKind.is) call.ensures.printed
+
+pub returns-in-LimitDescription-clause-printed : goal.returns-in-LimitDescription-clause-printed
+returns-in-LimitDescription-clause-printed g c =
+    let call = c.print_numbered in
+    subst (λ line. Printed g.K.Sink (bytes_of line) c.args.out.now call.new.out call.result) (sym c.in-LimitDescription.is) call.ensures.printed
+
+pub returns-in-LimitSource-clause-printed : goal.returns-in-LimitSource-clause-printed
+returns-in-LimitSource-clause-printed g c =
+    let call = c.print_numbered-in-LimitSource in
+    subst (λ line. Printed g.K.Sink (bytes_of line) c.args.out.now call.new.out call.result) (sym c.in-LimitSource.is) call.ensures.printed
+
+pub returns-in-DescriptionByte-clause-printed : goal.returns-in-DescriptionByte-clause-printed
+returns-in-DescriptionByte-clause-printed g c =
+    let call = c.print_numbered-in-DescriptionByte in
+    subst (λ line. Printed g.K.Sink (bytes_of line) c.args.out.now call.new.out call.result) (sym c.in-DescriptionByte.is) call.ensures.printed
+
+pub returns-in-DescriptionItem-clause-printed : goal.returns-in-DescriptionItem-clause-printed
+returns-in-DescriptionItem-clause-printed g c =
+    let call = c.print_numbered-in-DescriptionItem in
+    subst (λ line. Printed g.K.Sink (bytes_of line) c.args.out.now call.new.out call.result) (sym c.in-DescriptionItem.is) call.ensures.printed
+
+pub returns-in-NoTree-clause-printed : goal.returns-in-NoTree-clause-printed
+returns-in-NoTree-clause-printed g c =
+    let call = c.print-in-NoTree in
+    subst (λ line. Printed g.K.Sink (bytes_of line) c.args.out.now call.new.out call.result) (sym c.in-NoTree.is) call.ensures.printed
+
+pub returns-in-Ambiguous-clause-printed : goal.returns-in-Ambiguous-clause-printed
+returns-in-Ambiguous-clause-printed g c =
+    let call = c.print-in-Ambiguous in
+    subst (λ line. Printed g.K.Sink (bytes_of line) c.args.out.now call.new.out call.result) (sym c.in-Ambiguous.is) call.ensures.printed
