@@ -17,3 +17,4 @@ pub mod ImageRuns
 pub mod Performs
 pub mod ActLemmas
 pub mod PerformLemmas
+pub mod DescriptionSizes

@@ -3,6 +3,8 @@ pub mod ImageFiles
 pub mod Inputs
 pub mod Says
 pub mod Compiling
+pub mod Descriptions
+pub mod Sources
 pub mod Runs
 pub mod Sending
 pub mod Files

@@ -3,6 +3,7 @@
 
 mod commands;
 mod compiling;
+mod descriptions;
 mod files;
 mod image;
 mod image_bytes;
@@ -12,7 +13,9 @@ mod messages;
 mod performance;
 mod running;
 mod serving;
+mod sources;
 mod text;
 
 pub use compiling::{Built, CompileError, compile_action};
 pub use serving::serve;
+pub use sources::{SourceError, compile_source};
