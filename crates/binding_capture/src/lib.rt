@@ -1,0 +1,5 @@
+//! Which tokens the closures of an action capture: those of the bindings where a closure is made that
+//! something in its body asks for.
+#![tactic(auto)]
+
+pub mod named;
