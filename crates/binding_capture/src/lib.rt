@@ -2,4 +2,6 @@
 //! something in its body asks for.
 #![tactic(auto)]
 
+mod holders;
+mod marking;
 pub mod named;
