@@ -1,5 +1,5 @@
 -- The captured tokens of an action's bodies, and the lists by which they are found.
-use Rattle.std.specs.Prelude.{◌≡◌, ℕ, ◌<◌, Bool, true, false, ◌||◌, List, [], ◌∷◌, Option, Some, length, map, slice_get, slice_index_or, Vec, if◌then◌else◌}
+use Rattle.std.specs.Prelude.{◌≡◌, ℕ, ◌<◌, Bool, true, false, ◌||◌, List, [], ◌∷◌, Option, Some, None, length, map, slice_get, slice_index_or, Vec, if◌then◌else◌}
 use Rattle.std.specs.Borrow.{Bor}
 use Rattle.std.specs.Global.{Global}
 use Rattle.action_terms.specs.Actions.{Action}
@@ -7,7 +7,7 @@ use Rattle.action_terms.specs.Information.{Token}
 use Rattle.sort_rules.specs.Demands.{closure_bodies}
 use Rattle.sort_rules.specs.Measures.{asked_beneath, captured, has_token}
 use Rattle.sort_rules.specs.Numbers.{is_listed}
-use Rattle.sort_rules.specs.Procedures.{above}
+use Rattle.sort_rules.specs.Procedures.{above, is_beneath}
 use Rattle.sort_rules.specs.Shapes.{domain}
 use Rattle.sort_rules.specs.Tables.{BindsIn, MarkedTable}
 use Rattle.binding_capture.specs.declared.marking.Candidate.{Candidate}
@@ -22,7 +22,7 @@ pub record AreCaptured (a : Action) (t : MarkedTable) (captures : List (List Tok
 -- the node under which each node stands
 pub record AreAbove (a : Action) (holders : List (Option ℕ)) : Type 0 where
   pub long : length holders ≡ length a
-  pub each : (k : ℕ) → k < length a → slice_get holders k ≡ Some (above a k)
+  pub each : (k : ℕ) → k < length a → slice_index_or holders k None ≡ above a k
 
 -- a token, and whether something asks for it
 pub record Marked : Type 0 where
@@ -59,3 +59,8 @@ pub record AreMarked (a : Action) (t : MarkedTable) (nodes : List ℕ) (candidat
   pub long : length candidates ≡ length a
   pub each : (c : ℕ) (d : Vec Candidate Global) → is_listed c (closure_bodies a) ≡ true
       → marked_at candidates d c ≡ marks (domain (t (BindsIn c))) (asked_beneath a t c nodes)
+
+-- these tokens are asked for at node k: they are marked at each node that it stands beneath, and nothing else changes
+pub record IsMarkedAbove (a : Action) (k : ℕ) (asked : List Token) (old new : List (Vec Candidate Global)) : Type 0 where
+  pub long : length new ≡ length old
+  pub each : (c : ℕ) (d : Vec Candidate Global) → c < length old → marked_at new d c ≡ with_asked_if (is_beneath a c k) asked (marked_at old d c)

@@ -37,7 +37,7 @@ fn push_parts(parts: &mut Vec<u32>, view: NodeView<'_>) -> Result<(), Memory>
 // the nodes that stand under a node
 fn under(alloc: Global, graph: &Graph<'_>, view: NodeView<'_>) -> Result<Vec<u32>, Memory>
     requires { HasOperands graph.now.yielders view }
-    ensures { let node = node_viewed graph.now.yielders view in IfOk result (λ nodes. nodes.items
+    ensures { let node = node_viewed graph.now.yielders view.entry in IfOk result (λ nodes. nodes.items
         ≡ reverse (closures_at node) ++ (parts_at node ++ own_body node)) }
 {
     let mut nodes = Vec::new(alloc);

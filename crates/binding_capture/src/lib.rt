@@ -2,6 +2,7 @@
 //! something in its body asks for.
 #![tactic(auto)]
 
+mod capturing;
 mod holders;
 mod marking;
 pub mod named;

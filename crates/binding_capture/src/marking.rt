@@ -72,8 +72,8 @@ pub(crate) fn unmarked<'a>(
     Ok(candidates)
 }
 
-// the tokens, with a mark on these too
-fn with_asked<'a>(
+/// The tokens, with a mark on these too.
+pub(crate) fn with_asked<'a>(
     alloc: Global,
     candidates: &[Candidate<'a>],
     asked: &[&[u8]],
