@@ -8,7 +8,8 @@ ghost use Rattle.sort_rules.specs.Measures.{asked_at};
 ghost use Rattle.sort_rules.specs.Numbers.{is_listed};
 ghost use Rattle.sort_rules.specs.Procedures.{is_beneath};
 ghost use Rattle.sort_rules.specs.Rows.{unmarked};
-ghost use Rattle.sort_rules.specs.Tables.{MarkedTable};
+ghost use Rattle.sort_rules.specs.Shapes.{domain};
+ghost use Rattle.sort_rules.specs.Tables.{BindsOut};
 ghost use Rattle.binding_capture.specs.Asked.{tokens_of};
 ghost use Rattle.binding_capture.specs.Captures.{AreAbove, AreCaptured, AreMarked, IsMarkedAbove};
 ghost use Rattle.binding_capture.specs.declared.marking.Candidate.{Candidate as InMemory};
@@ -53,13 +54,31 @@ impl<'a> Captures<'a> {
     }
 }
 
+// puts the tokens that a node completes with behind a list, if it is the body of a closure
+fn push_completed<'a>(
+    tokens: &mut Vec<&'a [u8]>,
+    table: &Table<'a>,
+    bodies: &NodeList,
+    node: u32,
+) -> Result<(), Memory>
+    requires node { node < length table.now.rows }
+    ensures { OnOk result (tokens_of tokens.new.items ≡ tokens_of tokens.old.items
+        ++ (if is_listed node bodies.now then domain (unmarked table.now (BindsOut node)) else [])) }
+{
+    let row = table.row(node);
+    if bodies.has(node) {
+        push_domain(tokens, row.p)?;
+    }
+    Ok(())
+}
+
 // what a node asks of the bindings of a body above it
 fn asked_at<'a>(
     alloc: Global,
     graph: &Graph<'a>,
     table: &Table<'a>,
     bodies: &NodeList,
-    node: usize,
+    node: u32,
 ) -> Result<Vec<&'a [u8]>, Memory>
     requires rows { length table.now.rows ≡ length graph.now.nodes }
     requires bodies { bodies.now ≡ closure_bodies (action_of graph.now) }
@@ -67,12 +86,9 @@ fn asked_at<'a>(
     ensures { IfOk result (λ ts. tokens_of ts.items
         ≡ asked_at (action_of graph.now) (unmarked table.now) node) }
 {
-    let _few = graph.nodes().len();
     let mut tokens = Vec::new(alloc);
-    push_named_at(alloc, graph, graph.view(node), &mut tokens)?;
-    if bodies.has(node as u32) {
-        push_domain(&mut tokens, table.row(node as u32).p)?;
-    }
+    push_named_at(alloc, graph, graph.view(node as usize), &mut tokens)?;
+    push_completed(&mut tokens, table, bodies, node)?;
     Ok(tokens)
 }
 
