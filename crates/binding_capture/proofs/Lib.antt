@@ -1,3 +1,4 @@
+pub mod Found
 pub mod Holding
 pub mod Listing
 pub mod MarkedAbove

@@ -2,7 +2,11 @@
 //! something in its body asks for.
 #![tactic(auto)]
 
+mod body_tokens;
 mod capturing;
 mod holders;
 mod marking;
 pub mod named;
+
+pub use body_tokens::Captures;
+pub use capturing::captures;
