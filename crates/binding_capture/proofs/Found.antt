@@ -14,7 +14,7 @@ use Rattle.sort_rules.specs.Procedures.{is_beneath}
 use Rattle.sort_rules.specs.Shapes.{domain}
 use Rattle.sort_rules.specs.Tables.{BindsIn, MarkedTable}
 use Rattle.sort_rules.proofs.ActionNumbers.{closure_bodies-below}
-use Rattle.sort_rules.proofs.NumberLists.{listed_of}
+use Rattle.sort_rules.proofs.NumberLists.{is_listed_of}
 use Rattle.binding_capture.specs.Captures.{AreCaptured, AreMarked, IsMarkedAbove, Marked, asked_of, marked_at, marked_of, marks, with_asked, with_asked_if}
 use Rattle.binding_capture.specs.declared.marking.Candidate.{Candidate}
 
@@ -48,7 +48,7 @@ marks-more true ts xs ys = marks-append ts xs ys
 marks-more false ts xs ys = refl
 
 body-below : (a : Action) (c : ℕ) → IsProper a → is_listed c (closure_bodies a) ≡ true → c < length a
-body-below a c proper h = closure_bodies-below (length a) a c proper.nodes (listed_of c (closure_bodies a) h)
+body-below a c proper h = closure_bodies-below (length a) a c proper.nodes (is_listed_of c (closure_bodies a) h)
 
 -- the marks for which the nodes from number k on ask
 pub record AreMarkedFrom (a : Action) (t : MarkedTable) (k : ℕ) (cs : List (Vec Candidate Global)) : Type 0 where
@@ -98,13 +98,20 @@ found-at [] d k less = absurd (omega arith)
 found-at (c ∷ cs) d zero less = refl
 found-at (c ∷ cs) d (suc k) less = found-at cs d k (omega arith)
 
-pub all-captured : (a : Action) (t : MarkedTable) (cs : List (Vec Candidate Global)) (d : Vec Candidate Global) (found : List (List Token)) → IsProper a → AreMarked a t (node_numbers a) cs
+-- an entry that is there
+entry : (cs : List (Vec Candidate Global)) (k : ℕ) → k < length cs → Vec Candidate Global
+entry [] k less = absurd (omega arith)
+entry (c ∷ cs) k less = c
+
+pub all-captured : (a : Action) (t : MarkedTable) (cs : List (Vec Candidate Global)) (found : List (List Token)) → IsProper a → AreMarked a t (node_numbers a) cs
     → found ≡ map found_in cs → AreCaptured a t found
-all-captured a t cs d found proper are e = record {
+all-captured a t cs found proper are e = record {
   long = ap length e ∙ length-map cs found_in ∙ are.long;
   each = λ c h.
+      let less : c < length cs = omega (arith, are.long, body-below a c proper h) in
+      let d = entry cs c less in
       ap (λ (zs : List (List Token)). slice_get zs c) e
-      ∙ found-at cs d c (omega (arith, are.long, body-below a c proper h))
+      ∙ found-at cs d c less
       ∙ ap (λ (ms : List Marked). Some (asked_of ms)) (are.each c d h)
       ∙ ap Some (kept-marks (domain (t (BindsIn c))) (asked_beneath a t c (node_numbers a)));
 }

@@ -1,5 +1,5 @@
 //! The captured tokens of the bodies of closures.
-ghost use Rattle.std.specs.Prelude.{◌≡◌, ◌<◌, ◌≤◌, ◌++◌, ℕ, true, [], length, slice_get, Some, Vec, IfOk, OnOk, if◌then◌else◌};
+ghost use Rattle.std.specs.Prelude.{◌≡◌, ◌<◌, ◌≤◌, ◌++◌, ℕ, true, [], length, slice_index_or, Some, None, Vec, IfOk, OnOk, if◌then◌else◌};
 ghost use Rattle.std.specs.Global.{Global as OnHeap};
 ghost use Rattle.action_terms.specs.Actions.{Action};
 ghost use Rattle.action_terms.specs.Meaning.{action_of};
@@ -74,8 +74,8 @@ fn mark_above<'a>(
 ) -> Result<(), Memory>
     requires long { length candidates.old.items ≡ length holders.now }
     requires node { node < length holders.now }
-    requires within { (k j : ℕ) → slice_get holders.now k ≡ Some (Some j)
-        → j < length holders.now }
+    requires within { (k j : ℕ) → k < length holders.now
+        → slice_index_or holders.now k None ≡ Some j → j < length holders.now }
     ensures { OnOk result ((a : Action) → AreAbove a holders.now
         → IsMarkedAbove a node (tokens_of asked.now) candidates.old.items candidates.new.items) }
 {
@@ -165,6 +165,7 @@ pub fn captures<'a>(
     requires rows { length table.now.rows ≡ length graph.now.nodes }
     ensures captured { IfOk result (λ c. AreCaptured (action_of graph.now) (unmarked table.now) c) }
 {
+    let _few = graph.nodes();
     let named = named_of(alloc, graph)?;
     let marked = marked(alloc, graph, table, &named.bodies)?;
     let mut tokens: Vec<&'a [&'a [u8]], &'a Bump> = Vec::with_capacity(arena, marked.len())?;

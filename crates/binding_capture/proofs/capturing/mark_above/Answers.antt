@@ -21,7 +21,7 @@ loop-preserved c =
     let marked : marked_of new.items ≡ with_asked asked (marked_of c.index.result.now.items) = c.in_ok-candidates.ensures ∙ ap (λ (vs : List Candidate). with_asked (tokens_of c.args.asked.now) (marked_of vs)) c.deref.ensures.value in
     record {
       long = length-set cs at new ∙ inv.long;
-      within = c.requires.within at c.in-Some.holder c.in-Some.is;
+      within = c.requires.within at c.in-Some.holder inv.within c.in-Some.is;
       rest = λ a are k d less.
           let found : above a at ≡ Some c.in-Some.holder = sym (are.each at (omega (arith, inv.within, are.long))) ∙ c.in-Some.is in
           ap (λ (o : Option ℕ). with_asked_if (if_some (reaches m a k) o) asked (marked_at (set cs at new) d k)) (sym found)
