@@ -1,5 +1,5 @@
 -- The marks of all nodes, one node after the other, and the tokens that have one.
-use Rattle.std.proofs.Common.{Bool, List, [], Option, Some, Vec, ap, arith, false, if◌then◌else◌, length, length-append, map, get_or, refl, subst, suc, sym, true, zero, ℕ, ◌+◌, ◌<◌, ◌||◌, ◌++◌, ◌∙◌, ◌∷◌, ◌≡◌, ◌≤◌}
+use Rattle.std.proofs.Common.{Bool, List, [], Some, Vec, ap, arith, false, if◌then◌else◌, length, map, get_or, refl, subst, suc, sym, true, zero, ℕ, ◌+◌, ◌<◌, ◌||◌, ◌++◌, ◌∙◌, ◌∷◌, ◌≡◌}
 use Rattle.std.specs.Prelude.{slice_get}
 use Rattle.std.specs.Global.{Global}
 use Rattle.std.proofs.lemmas.List.{length-map}
@@ -7,7 +7,7 @@ use Rattle.action_terms.specs.Actions.{Action}
 use Rattle.action_terms.specs.Information.{Token}
 use Rattle.action_terms.specs.Proper.{IsProper}
 use Rattle.sort_rules.specs.Demands.{closure_bodies}
-use Rattle.sort_rules.specs.Measures.{asked_at, asked_beneath, captured, has_token, kept_tokens, node_numbers, numbers_before}
+use Rattle.sort_rules.specs.Measures.{asked_at, asked_beneath, has_token, kept_tokens, node_numbers, numbers_before}
 use Rattle.sort_rules.specs.Numbers.{is_listed}
 use Rattle.sort_rules.specs.Parts.{same_token}
 use Rattle.sort_rules.specs.Procedures.{is_beneath}

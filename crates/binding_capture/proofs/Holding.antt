@@ -1,5 +1,5 @@
 -- The node under which each node stands, one node after the other, from the last one on.
-use Rattle.std.proofs.Common.{All, Bool, List, [], Option, Some, None, ap, arith, drop, false, if◌then◌else◌, length, length-set, get_or, get_or-set_same, nat_eq, refl, set, subst, suc, sym, true, zero, ℕ, ◌+◌, ◌<◌, ◌||◌, ◌++◌, ◌∙◌, ◌∷◌, ◌≡◌, ◌≢◌, ◌≤◌}
+use Rattle.std.proofs.Common.{All, Bool, List, [], Option, Some, None, ap, arith, drop, false, if◌then◌else◌, length, length-set, get_or, get_or-set_same, nat_eq, refl, set, subst, suc, sym, true, ℕ, ◌+◌, ◌<◌, ◌||◌, ◌++◌, ◌∙◌, ◌∷◌, ◌≡◌}
 use Rattle.std.specs.Prelude.{reverse}
 use Rattle.std.proofs.lemmas.List.{append-nil, drop_all, get_or-set_other, reverse-append}
 use Rattle.std.proofs.lemmas.List.Elements.{All-append, All-cons, All-head, All-nil, All-tail}
@@ -8,7 +8,7 @@ use Rattle.action_terms.specs.Proper.{named}
 use Rattle.action_terms.specs.Steps.{closures_in, closures_in_items, closures_of}
 use Rattle.sort_rules.specs.Demands.{closures_at}
 use Rattle.sort_rules.specs.Numbers.{is_listed}
-use Rattle.sort_rules.specs.Procedures.{above, bodies_at, holder_from, parts_at}
+use Rattle.sort_rules.specs.Procedures.{bodies_at, holder_from, parts_at}
 use Rattle.sort_rules.proofs.Choices.{eq_of_test, of_choice}
 use Rattle.sort_rules.proofs.NodeWalks.{drop-node}
 use Rattle.sort_rules.proofs.ProcedureWalks.{other_of_test}

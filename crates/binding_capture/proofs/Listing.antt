@@ -5,7 +5,7 @@ use Rattle.std.proofs.lemmas.Grind.{common_steps}
 use Rattle.std.proofs.lemmas.List.{append-nil, reverse-append}
 use Rattle.std.proofs.lemmas.List.Sums.{sum_by-append, sum_by-cons}
 use Rattle.std.proofs.lemmas.List.Elements.{All-append}
-use Rattle.action_terms.specs.Actions.{Item, Single, Them, Yielder}
+use Rattle.action_terms.specs.Actions.{Item, Single, Them}
 use Rattle.action_terms.specs.Forms.{HasArguments, IsDatum, IsYielderView, item_at, item_viewed, items_at, yielder_at, yielder_in}
 use Rattle.action_terms.specs.Information.{Token}
 use Rattle.action_terms.specs.Need.{yielder_count}

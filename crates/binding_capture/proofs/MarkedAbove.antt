@@ -1,5 +1,5 @@
 -- Marks at a node and at those above it, and rows of a table.
-use Rattle.std.proofs.Common.{Bool, List, [], Option, Some, None, Vec, ap, arith, false, if◌then◌else◌, length, length-set, get_or, get_or-set_same, nat_eq, refl, set, subst, suc, sym, true, zero, ℕ, ◌+◌, ◌<◌, ◌||◌, ◌∙◌, ◌∷◌, ◌≡◌, ◌≢◌, ◌≤◌}
+use Rattle.std.proofs.Common.{Bool, List, [], Some, Vec, ap, false, length, get_or, get_or-set_same, nat_eq, refl, set, suc, sym, true, zero, ℕ, ◌<◌, ◌||◌, ◌∙◌, ◌∷◌, ◌≡◌}
 use Rattle.std.specs.Prelude.{slice_get}
 use Rattle.std.specs.Global.{Global}
 use Rattle.std.proofs.lemmas.List.{get_or_default, get_or-set_other}
@@ -9,7 +9,7 @@ use Rattle.sort_rules.specs.Measures.{has_token}
 use Rattle.sort_rules.specs.Procedures.{above, if_some, reaches}
 use Rattle.sort_rules.proofs.Choices.{eq_of_test, of_choice}
 use Rattle.sort_rules.proofs.ProcedureWalks.{other_of_test}
-use Rattle.binding_capture.specs.Captures.{AreAbove, Marked, marked_at, marked_of, with_asked, with_asked_if}
+use Rattle.binding_capture.specs.Captures.{Marked, marked_at, marked_of, with_asked, with_asked_if}
 use Rattle.binding_capture.specs.declared.marking.Candidate.{Candidate}
 
 -- an entry that is there

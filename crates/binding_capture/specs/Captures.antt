@@ -1,6 +1,5 @@
 -- The captured tokens of an action's bodies, and the lists by which they are found.
-use Rattle.std.specs.Prelude.{◌≡◌, ℕ, ◌<◌, Bool, true, false, ◌||◌, List, [], ◌∷◌, Option, Some, None, length, map, slice_get, slice_index_or, Vec, if◌then◌else◌}
-use Rattle.std.specs.Borrow.{Bor}
+use Rattle.std.specs.Prelude.{◌≡◌, ℕ, ◌<◌, Bool, true, ◌||◌, List, [], ◌∷◌, Option, Some, None, length, map, slice_get, slice_index_or, Vec, if◌then◌else◌}
 use Rattle.std.specs.Global.{Global}
 use Rattle.action_terms.specs.Actions.{Action}
 use Rattle.action_terms.specs.Information.{Token}

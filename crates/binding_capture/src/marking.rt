@@ -56,10 +56,7 @@ pub(crate) fn push_domain<'a>(tokens: &mut Vec<&'a [u8]>, sort: BindSort<'a>) ->
 }
 
 /// Tokens for none of which anything asks yet.
-pub(crate) fn unmarked<'a>(
-    alloc: Global,
-    tokens: &[&'a [u8]],
-) -> Result<Vec<Candidate<'a>>, Memory>
+pub(crate) fn unmarked<'a>(alloc: Global, tokens: &[&'a [u8]]) -> Result<Vec<Candidate<'a>>, Memory>
     ensures { IfOk result (λ cs. marked_of cs.items ≡ marks (tokens_of tokens.now) []) }
 {
     let mut candidates = Vec::new(alloc);

@@ -1,6 +1,5 @@
-use Rattle.std.proofs.Common.{List, Vec, [], ap, arith, drop, length, map, sym, ℕ, ◌++◌, ◌<◌, ◌∙◌, ◌≡◌, ◌≤◌}
+use Rattle.std.proofs.Common.{List, [], ap, arith, drop, map, sym, ◌++◌, ◌∙◌, ◌≡◌}
 use Rattle.std.proofs.lemmas.List.{append-nil, drop_all}
-use Rattle.std.specs.Borrow.{Bor}
 use Rattle.action_terms.specs.Information.{Token}
 use Rattle.action_terms.specs.Meaning.{action_of}
 use Rattle.sort_rules.specs.Rows.{unmarked}

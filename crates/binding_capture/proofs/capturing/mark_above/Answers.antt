@@ -1,9 +1,7 @@
-use Rattle.std.proofs.Common.{List, None, Option, Some, Vec, ap, arith, length, length-set, set, suc, sym, zero, ℕ, ◌+◌, ◌-◌, ◌<◌, ◌∙◌, ◌≡◌}
-use Rattle.std.specs.Global.{Global}
-use Rattle.action_terms.specs.Actions.{Action}
+use Rattle.std.proofs.Common.{List, None, Option, Some, ap, arith, length, length-set, set, suc, sym, zero, ℕ, ◌+◌, ◌-◌, ◌<◌, ◌∙◌, ◌≡◌}
 use Rattle.sort_rules.specs.Procedures.{above, if_some, reaches}
 use Rattle.binding_capture.specs.Asked.{tokens_of}
-use Rattle.binding_capture.specs.Captures.{AreAbove, marked_at, marked_of, with_asked, with_asked_if}
+use Rattle.binding_capture.specs.Captures.{marked_at, marked_of, with_asked, with_asked_if}
 use Rattle.binding_capture.specs.declared.marking.Candidate.{Candidate}
 use Rattle.binding_capture.proofs.MarkedAbove.{marked-next, marked-one}
 use Rattle.binding_capture.proofs.capturing.mark_above.Goals as goal

@@ -1,4 +1,4 @@
-use Rattle.std.proofs.Common.{Vec, length, ℕ, ◌-◌, ◌<◌, ◌≡◌, ◌≤◌}
+use Rattle.std.proofs.Common.{Vec, length, ℕ, ◌-◌, ◌<◌, ◌≡◌}
 use Rattle.std.specs.Global.{Global}
 use Rattle.action_terms.specs.Actions.{Action}
 use Rattle.sort_rules.specs.Procedures.{reaches}

@@ -1,13 +1,11 @@
-use Rattle.std.proofs.Common.{List, None, Option, Some, Vec, ap, arith, get_or, length, subst, suc, sym, ℕ, ◌+◌, ◌-◌, ◌<◌, ◌∙◌, ◌≡◌, ◌≤◌}
-use Rattle.std.specs.Global.{Global}
-use Rattle.action_terms.specs.Information.{Token}
+use Rattle.std.proofs.Common.{List, None, Option, Some, ap, arith, get_or, length, subst, suc, sym, ℕ, ◌-◌, ◌∙◌, ◌≡◌}
 use Rattle.action_terms.specs.Meaning.{action_of}
 use Rattle.sort_rules.specs.Numbers.{is_listed}
 use Rattle.sort_rules.specs.Procedures.{above}
 use Rattle.sort_rules.specs.Rows.{unmarked}
 use Rattle.sort_rules.proofs.NodeWalks.{length-nodes, nodes-few}
 use Rattle.binding_capture.specs.Asked.{tokens_of}
-use Rattle.binding_capture.specs.Captures.{AreAbove, IsMarkedAbove}
+use Rattle.binding_capture.specs.Captures.{AreAbove}
 use Rattle.binding_capture.proofs.Found.{AreMarkedFrom, marked-more, marked-none}
 use Rattle.binding_capture.proofs.Holding.{holder-within}
 use Rattle.binding_capture.proofs.capturing.marked.Goals as goal

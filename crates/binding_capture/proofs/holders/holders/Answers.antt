@@ -1,4 +1,4 @@
-use Rattle.std.proofs.Common.{All, List, Option, ap, arith, length, subst, suc, sym, ℕ, ◌-◌, ◌<◌, ◌∙◌, ◌≡◌, ◌≤◌}
+use Rattle.std.proofs.Common.{All, List, ap, arith, length, subst, suc, sym, ℕ, ◌-◌, ◌<◌, ◌∙◌, ◌≡◌}
 use Rattle.action_terms.specs.Actions.{node_at}
 use Rattle.action_terms.specs.Meaning.{action_of}
 use Rattle.action_terms.proofs.NamedNodes.{named-within}

@@ -1,11 +1,8 @@
-use Rattle.std.proofs.Common.{List, Some, [], ap, arith, length, refl, sym, ℕ, ◌++◌, ◌∙◌, ◌≡◌}
-use Rattle.std.proofs.lemmas.List.{append-nil}
+use Rattle.std.proofs.Common.{Some}
 use Rattle.std.proofs.lemmas.List.Elements.{All-pop}
-use Rattle.action_terms.specs.Forms.{IsDatum, yielder_at}
-use Rattle.action_terms.specs.Information.{Token}
-use Rattle.sort_rules.specs.Measures.{named_in}
+use Rattle.action_terms.specs.Forms.{IsDatum}
 use Rattle.binding_capture.specs.Asked.{tokens_of}
-use Rattle.binding_capture.proofs.Listing.{data-left, named-next, named_stack}
+use Rattle.binding_capture.proofs.Listing.{data-left, named-next}
 use Rattle.binding_capture.proofs.named.push_named_in.Goals as goal
 
 pub loop-next-preserved : goal.loop-next-preserved
