@@ -33,7 +33,7 @@ or-assoc : (a b c : Bool) → ((a || b) || c) ≡ (a || (b || c))
 or-assoc true b c = refl
 or-assoc false b c = refl
 
-has_token-append : (t : Token) (xs ys : List Token) → has_token t (xs ++ ys) ≡ (has_token t xs || has_token t ys)
+pub has_token-append : (t : Token) (xs ys : List Token) → has_token t (xs ++ ys) ≡ (has_token t xs || has_token t ys)
 has_token-append t [] ys = refl
 has_token-append t (x ∷ xs) ys = ap (λ (b : Bool). same_token t x || b) (has_token-append t xs ys) ∙ sym (or-assoc (same_token t x) (has_token t xs) (has_token t ys))
 

@@ -11,6 +11,7 @@ ghost use Rattle.sort_rules.specs.Shapes.{domain};
 ghost use Rattle.sort_rules.specs.Tables.{BindsIn, BindsOut};
 ghost use Rattle.binding_capture.specs.Asked.{tokens_of};
 ghost use Rattle.binding_capture.specs.Captures.{AreAbove, AreCaptured, AreMarked, IsMarkedAbove, marked_at, marked_of, marks};
+ghost use Rattle.binding_capture.specs.Reading.{ReadOnlyCaptured};
 ghost use Rattle.binding_capture.specs.declared.marking.Candidate.{Candidate as InMemory};
 
 use crate::body_tokens::Captures;
@@ -164,6 +165,9 @@ pub fn captures<'a>(
 ) -> Result<Captures<'a>, Memory>
     requires rows { length table.now.rows ≡ length graph.now.nodes }
     ensures captured { IfOk result (λ c. AreCaptured (action_of graph.now) (unmarked table.now) c) }
+    ensures long { IfOk result (λ c. length c ≡ length graph.now.nodes) }
+    ensures reads { IfOk result (λ c. ReadOnlyCaptured (action_of graph.now) (unmarked table.now)
+        c) }
 {
     let _few = graph.nodes();
     let named = named_of(alloc, graph)?;
