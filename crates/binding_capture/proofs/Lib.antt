@@ -1,0 +1,5 @@
+pub mod Found
+pub mod Holding
+pub mod Listing
+pub mod MarkedAbove
+pub mod Read

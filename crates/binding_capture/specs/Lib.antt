@@ -1,0 +1,4 @@
+pub mod Asked
+pub mod Captures
+pub mod Holders
+pub mod Reading
