@@ -29,7 +29,7 @@ impl<'a> Captures<'a> {
         Captures { tokens }
     }
 
-    /// The captured tokens of the body with this root, ascending.
+    /// The captured tokens of the body with this root, in the order of the bindings that it receives.
     pub fn tokens(&self, body: u32) -> &'a [&'a [u8]]
         requires body { body < length self.now }
         ensures tokens { slice_get self.now body ≡ Some (tokens_of result.now) }
