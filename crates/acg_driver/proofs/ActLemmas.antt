@@ -74,7 +74,7 @@ act-loaded c input [] ready starts = absurd starts
 act-loaded c input (bytes ∷ givens) ready (g, built, (is, loaded)) = (g, loaded)
 
 is_run-other : (g : Listed) (c : Capacity) (budget : ℕ) (left text : List ℕ) (s : Status) → IsRun g c budget left text s → s ≢ status.ReadFault
-is_run-other g c budget left text s (t, least, (file, image, made, (start, load, (rest, is, runs)))) = run-other (run budget start) rest s runs
+is_run-other g c budget left text s (t, least, (file, image, made, (start, load, bytes, (rest, is, runs)))) = run-other (run budget start) rest s runs
 
 module _ {K : Type 0} {sink : Ghosts K} where
   -- the run of what was loaded is what the command says

@@ -60,7 +60,7 @@ outcome-runs (Exited code sent) text s (line, exit, says) = subst IsOfRun (sym s
 outcome-runs (Trapped cause) text s says = absurd says
 
 run-runs : (g : Listed) (c : Capacity) (budget : ℕ) (left text : List ℕ) (s : Status) → IsRun g c budget left text s → IsOfRun s
-run-runs g c budget left text s (t, least, (file, image, made, (start, load, (rest, is, runs)))) = outcome-runs (run budget start) rest s runs
+run-runs g c budget left text s (t, least, (file, image, made, (start, load, bytes, (rest, is, runs)))) = outcome-runs (run budget start) rest s runs
 
 performance-runs : (s : Status) → IsOfPerformance s → IsOfRun s
 performance-runs status.Done is = tt

@@ -28,9 +28,9 @@ loaded-sends g c loaded input bytes (t, least, (start, factor)) m =
     (right-sends start.1 (subject_for g t c) input bytes start.2.1.right m)
 
 -- what is said of the run stands behind the header
-pub loaded-run : (g : Listed) (c : Capacity) (budget : ℕ) (loaded : Loaded) (input : List ℕ) → IsLoaded g c loaded → (rest : List ℕ) (s : Status)
+pub loaded-run : (g : Listed) (c : Capacity) (budget : ℕ) (loaded : Loaded) (input : List ℕ) → All (λ b. b < 256) input → IsLoaded g c loaded → (rest : List ℕ) (s : Status)
     → IsRunOf (run budget (state_of loaded.machine input [])) rest s → IsRun g c budget input (header_line c.stack c.units loaded.factor ++ rest) s
-loaded-run g c budget loaded input (t, least, (start, factor)) rest s runs = (
+loaded-run g c budget loaded input bytes (t, least, (start, factor)) rest s runs = (
   t,
   least,
   (
@@ -40,6 +40,7 @@ loaded-run g c budget loaded input (t, least, (start, factor)) rest s runs = (
     (
       started start.1 input,
       (start.1, start.2.1.read, refl),
+      bytes,
       (
         rest,
         ap (λ f. header_line c.stack c.units f ++ rest) factor,

@@ -1,5 +1,5 @@
 -- What the run of a graph's action says.
-use Rattle.std.specs.Prelude.{◌≡◌, ℕ, zero, suc, List, [], ◌++◌}
+use Rattle.std.specs.Prelude.{◌≡◌, ℕ, ◌<◌, All, zero, suc, List, [], ◌++◌}
 use Rattle.acg_base.specs.declared.capacity.Capacity.{Capacity}
 use Rattle.acg_base.specs.declared.status.Status.{Status}
 use Rattle.action_terms.specs.Numbering.{Listed}
@@ -50,7 +50,7 @@ abbrev pub IsRun : Listed → Capacity → (budget : ℕ) (left text : List ℕ)
 IsRun g c budget left text status =
     (t : MarkedTable) × IsLeast (action_of g) t
     × ((file : List ℕ) × (image : Image) × IsMadeFor g t c file image
-    × ((start : State) × IsLoadOf file left start
+    × ((start : State) × IsLoadOf file left start × All (λ b. b < 256) left
     × ((rest : List ℕ) × (text ≡ header_line c.stack c.units (factor_by (action_of g) t) ++ rest)
     × IsRunOf (run budget start) rest status)))
 

@@ -15,7 +15,7 @@ pub returns-in-Ok : goal.returns-in-Ok
 returns-in-Ok g c = λ graph loaded.
     let input = c.args.input.now in
     said-then {P = IsRunOf (run c.args.budget (state_of c.args.loaded.now.machine input []))} {Q = IsRun graph c.args.capacity c.args.budget input} c.in-Ok.ensures.printed.done
-    (loaded-run graph c.args.capacity c.args.budget c.args.loaded.now input loaded)
+    (loaded-run graph c.args.capacity c.args.budget c.args.loaded.now input (λ k d below. small-byte c.args.input.now k d below (c.type_inv.input k)) loaded)
     c.run_machine.ensures
 
 pub returns-in-Err-Failed : goal.returns-in-Err-Failed
@@ -25,4 +25,4 @@ returns-in-Err-Failed g c = λ graph loaded.
     let whole = whole-run c.args.budget machine input (loaded-sends graph c.args.capacity c.args.loaded.now input (λ k d below. small-byte c.args.input.now k d below (c.type_inv.input k)) loaded) in
     let rest = output_lines (sent_in c.args.budget machine input) ++ bytes_of whole.line in
     said-broke {P = IsRun graph c.args.capacity c.args.budget input} rest (status_of whole.line) c.in-Err-Failed.ensures.printed.failed
-    (loaded-run graph c.args.capacity c.args.budget c.args.loaded.now input loaded rest (status_of whole.line) whole.right)
+    (loaded-run graph c.args.capacity c.args.budget c.args.loaded.now input (λ k d below. small-byte c.args.input.now k d below (c.type_inv.input k)) loaded rest (status_of whole.line) whole.right)
