@@ -100,3 +100,4 @@ pub mod Receiving
 pub mod OperandRegisters
 pub mod CellWritten
 pub mod Storing
+pub mod NoSlots
