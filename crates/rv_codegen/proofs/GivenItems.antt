@@ -111,9 +111,9 @@ module _ (base : ℕ) (code : List Inst) (heap : Heap) (f : ℕ) where
   IsBelowCells os = (o number place : ℕ) → OneOf o os → slice_get heap.cells number ≡ Some place → f + o < place
 
   -- what a unit holds stays where the words from it on are as before
-  content-kept : {ws ws' : List ℕ} (place : ℕ) (o : Option Datum) → ((j : ℕ) → place ≤ j → get_or ws' j 0 ≡ get_or ws j 0) → HoldsContent base heap ws place o → HoldsContent base heap ws' place o
-  content-kept place None same h = same place (omega arith) ∙ h
-  content-kept place (Some x) same h = (same place (omega arith) ∙ h.0, subst (λ w. StandsFor base heap w x) (sym (same (place + 1) (omega arith))) h.1)
+  content-kept : (ws ws' : List ℕ) (place : ℕ) (o : Option Datum) → ((j : ℕ) → place ≤ j → get_or ws' j 0 ≡ get_or ws j 0) → HoldsContent base heap ws place o → HoldsContent base heap ws' place o
+  content-kept ws ws' place None same h = same place (omega arith) ∙ h
+  content-kept ws ws' place (Some x) same h = (same place (omega arith) ∙ h.0, subst (λ w. StandsFor base heap w x) (sym (same (place + 1) (omega arith))) h.1)
 
   -- what is given is found where nothing of it was written, and no unit of a cell
   finds-elsewhere : (limit : ℕ) (t given : List ℕ) (c : WordState) (p : ℕ) (d : Data) (b : Binds) (cells : Storage) (a : HasWritten base code f limit t c p) → ((x : ℕ) → OneOf x given → OneOf x t → ⊥) → IsBelowCells t → Finds base heap (alone given) f c d b cells → Finds base heap (alone given) f a.end d b cells
@@ -124,7 +124,7 @@ module _ (base : ℕ) (code : List Inst) (heap : Heap) (f : ℕ) where
     holds = holds-elsewhere base heap f t c.words a.end.words a.kept given d apart h.holds;
     binds = tt;
     cells = subst (HasCells heap) (sym a.size) h.cells;
-    contents = record { many = h.contents.many; content = λ m place o p q. content-kept place o (λ j low. a.kept j (λ x k same. omega (arith, below x m place k p, same, low))) (h.contents.content m place o p q) };
+    contents = record { many = h.contents.many; content = λ m place o p q. content-kept c.words a.end.words place o (λ j low. a.kept j (λ x k same. omega (arith, below x m place k p, same, low))) (h.contents.content m place o p q) };
   }
 
   module _ (at : ℕ → ℕ) (l : ℕ) (l_near : at l < 2 ^ 28) (given : List ℕ) (near_given : All (λ o. o < 33554432) given) (d : Data) (b : Binds) (cells : Storage) where

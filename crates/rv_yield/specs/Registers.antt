@@ -1,7 +1,7 @@
 -- How many registers a yielder needs, and those that its code uses.
 use Rattle.std.specs.Prelude.{◌≡◌, ℕ, ◌+◌, ◌<◌, min, max, Bool, true, false, ◌&&◌, ◌||◌, nat_eq, List, length, slice_index, slice_index_or, FitsSigned, if◌then◌else◌}
 use Rattle.std.specs.Int.{w64}
-use Rattle.action_terms.specs.Actions.{Two, Sum, Difference, Product, Quotient, Remainder, Negation, Yielder, NumberLiteral, TruthLiteral, Given, GivenAt, BoundTo, StoredIn, OnTwo, OnOne}
+use Rattle.action_terms.specs.Actions.{Two, Sum, Difference, Product, Quotient, Remainder, Negation, Yielder, NumberLiteral, TruthLiteral, Given, GivenAt, StoredIn, OnTwo, OnOne}
 use Rattle.action_terms.specs.Forms.{yielder_at, IsDatum}
 use Rattle.action_terms.specs.Numbering.{ListedYielder}
 
@@ -16,13 +16,12 @@ is_arithmetic Quotient = true
 is_arithmetic Remainder = true
 is_arithmetic _ = false
 
--- literals, what is given, what tokens are bound to, what cells hold, and operations
+-- literals, what is given, what cells hold, and operations. What a token is bound to has code too, but it counts as built only once the code of nodes gives tokens their slots
 abbrev pub is_built : Yielder → Bool
 is_built (NumberLiteral z) = true
 is_built (TruthLiteral t) = true
 is_built (Given s) = true
 is_built (GivenAt s place) = true
-is_built (BoundTo s t) = true
 is_built (StoredIn s y) = is_built y
 is_built (OnTwo f y1 y2) = is_built y1 && is_built y2
 is_built (OnOne f y) = is_built y

@@ -45,8 +45,7 @@ fn need_at(graph: &Graph<'_>, needs: &[usize], k: usize) -> usize
         YielderView::Number(_)
         | YielderView::Truth(_)
         | YielderView::Given { .. }
-        | YielderView::GivenAt { .. }
-        | YielderView::BoundTo { .. } => 1,
+        | YielderView::GivenAt { .. } => 1,
         YielderView::StoredIn { cell, .. } => needs[cell as usize],
         YielderView::OnTwo { first, second, .. } => {
             need_of_both(needs[first as usize], needs[second as usize])
