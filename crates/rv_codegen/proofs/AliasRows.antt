@@ -36,7 +36,7 @@ module _ (a : Action) (trees : HasTrees a) (t : MarkedTable) (fs : List Frame) (
   own-in : (k : ℕ) → AreConsecutive (place_at ns k).data_in
   own-in k = ⊎_elim (λ within. in-row a trees t fs laid apart ns by_number k within) (λ le. subst (λ (n : PlacedNode). AreConsecutive n.data_in) (sym (past k le)) none-row) (cases_lt k (length a))
 
-  own-out : (k : ℕ) → AreConsecutive (place_at ns k).data_out
+  pub own-out : (k : ℕ) → AreConsecutive (place_at ns k).data_out
   own-out k = ⊎_elim (λ within. (layout-words a trees t fs laid apart ns by_number).consecutive k within) (λ le. subst (λ (n : PlacedNode). AreConsecutive n.data_out) (sym (past k le)) none-row) (cases_lt k (length a))
 
   own-escaped : (k : ℕ) → AreConsecutive (place_at ns k).escaped

@@ -149,6 +149,8 @@ module _ (s : Setting) where
       pub returns : word_at words f 0 ≡ address_of (stop s n).place
       pub caller : word_at words f 1 ≡ s.base + 8 * up
       pub above : f ≡ up + frame_words s n
+      -- the node completes as the body does
+      pub ends : (d : Data) (b : Binds) → s.Ends c d b → s.Ends n d b
 
     -- node k is performed within these frames, in the frame that begins at word f, under these chains
     abbrev pub Around : List Frame → (f k : ℕ) → Chains → Type 0

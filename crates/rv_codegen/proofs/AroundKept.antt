@@ -132,7 +132,7 @@ module _ (s : Setting) where
         let some = subst (λ q. 32 ≤ frame_words s q) (sym x.body) (placed.some_frame h.0 c' x.may) in
         let head = λ (i : ℕ) (lt : i < 32). g.here i (λ w. let z = placed.low k i w (omega (arith, some)) in omega arith) in
         let high = frames-high heap words fs h.1 h.0 c h.3 in
-        (h.0, h.1, record { node = x.node; may = x.may; body = x.body; returns = head 0 (omega arith) ∙ x.returns; caller = head 1 (omega arith) ∙ x.caller; above = x.above }, around-kept fs h.1 h.0 c (agrees-up f h.1 h.0 k high x.above g) h.3)
+        (h.0, h.1, record { node = x.node; may = x.may; body = x.body; returns = head 0 (omega arith) ∙ x.returns; caller = head 1 (omega arith) ∙ x.caller; above = x.above; ends = x.ends }, around-kept fs h.1 h.0 c (agrees-up f h.1 h.0 k high x.above g) h.3)
     around-kept (InOver b ∷ fs) f k c g h =
         let x = h.1 in
         let n = h.0 in

@@ -1,5 +1,5 @@
--- The code of an action whose nodes are built has all that is asked of it, with the places of a layout for data: no node has bindings, and none is called.
-use Rattle.std.proofs.Common.{◌≡◌, ℕ, suc, ◌+◌, ◌*◌, ◌^◌, ◌<◌, ◌≤◌, ℤ, true, false, List, [], ◌∷◌, ◌++◌, length, replicate, get_or, Option, Some, None, refl, sym, ap, ◌∙◌, subst, arith, inl, inr}
+-- The code of an action whose nodes are built has all that is asked of it, with the places of a layout for data: no node has bindings.
+use Rattle.std.proofs.Common.{◌≡◌, ℕ, suc, ◌+◌, ◌*◌, ◌^◌, ◌<◌, ◌≤◌, ℤ, true, false, List, [], ◌∷◌, ◌++◌, length, replicate, get_or, Option, Some, None, refl, sym, ap, ◌∙◌, subst, arith, inl, inr, ⊎_elim}
 use Rattle.std.specs.Prelude.{All, slice_get}
 use Rattle.std.proofs.lemmas.List.{length-replicate}
 use Rattle.std.proofs.lemmas.Option.{slice_get-get_or, slice_get_within}
@@ -11,21 +11,21 @@ use Rattle.rv_asm.specs.WordMachine.{Has}
 use Rattle.rv_asm.specs.declared.item.Item.{Item}
 use Rattle.rv_asm.proofs.Labels.{length-code}
 use Rattle.rv_asm.proofs.Regions.{compiled-below}
-use Rattle.action_terms.specs.Actions.{Complete, Join, Chain, AndThen, Then, Hence, Before, Node, Simple, Both, Phases, Either, Trapping, Stray, Action, node_at, node_or_stray}
+use Rattle.action_terms.specs.Actions.{Complete, Join, Chain, AndThen, Then, Hence, Before, Node, Simple, Both, Phases, Either, Trapping, Unfold, Unfolding, Stray, Action, node_at, node_or_stray}
 use Rattle.action_terms.specs.Information.{Binds, Data, NoBinds, World}
 use Rattle.action_terms.specs.Literals.{NumbersFit}
 use Rattle.action_terms.specs.Need.{node_yielder_count}
 use Rattle.action_terms.specs.Performances.{OneOf, Here, Later}
-use Rattle.rv_codegen.specs.Blocks.{completed_label, failed_label, escaped_label, full_label, first_label, front_of, start_of, stop_of, exits_of, framed_items, opening, goes, body}
+use Rattle.rv_codegen.specs.Blocks.{completed_label, failed_label, escaped_label, full_label, first_label, front_of, start_of, stop_of, return_of, exits_of, framed_items, opening, goes, body}
 use Rattle.sort_rules.specs.Admissible.{IsAdmissible}
-use Rattle.sort_rules.specs.Measures.{sizes, width}
+use Rattle.sort_rules.specs.Measures.{sizes, slots, width}
 use Rattle.sort_rules.specs.Procedures.{procedure_of}
 use Rattle.sort_rules.specs.Shapes.{CompletesInShape}
 use Rattle.frame_layout.specs.Layouts.{HasApartNodes, IsLayout, Itself}
 use Rattle.frame_layout.specs.Places.{Frame, PlacedNode}
 use Rattle.frame_layout.proofs.GraphParts.{HasTrees}
 use Rattle.frame_layout.proofs.NodeLists.{member-range}
-use Rattle.rv_codegen.specs.Aliases.{AreByNumber, nowhere, place_at, places_in, put_frames, words_at}
+use Rattle.rv_codegen.specs.Aliases.{AreByNumber, given_in, nowhere, place_at, places_in, put_frames, words_at}
 use Rattle.rv_codegen.specs.Measures.{factor_by}
 use Rattle.rv_codegen.specs.RightImage.{Subject}
 use Rattle.rv_codegen.specs.Built.{is_built_node}
@@ -35,19 +35,26 @@ use Rattle.rv_codegen.proofs.AliasRows.{given-row}
 use Rattle.rv_codegen.proofs.AliasRules.{Passes, both-given_left, both-given_right, both-joined, either-given, either-out, phases-given_left, phases-given_right, phases-joined, trapping-given_left, then-ends, then-given_right}
 use Rattle.rv_codegen.proofs.Alternating.{Alternative}
 use Rattle.rv_codegen.proofs.AliasSettings.{alias-placed, both-stays, data_places, phases-stays, same-frame}
+use Rattle.rv_codegen.proofs.AliasSteps.{handed-root}
+use Rattle.rv_codegen.proofs.AliasWords.{in-word}
 use Rattle.rv_codegen.proofs.Around.{InOrder, Shares}
 use Rattle.rv_codegen.proofs.CaughtPlaces.{escaped-caught, given-caught}
 use Rattle.rv_codegen.proofs.EitherCode.{alternative-stands}
 use Rattle.rv_codegen.proofs.Ending.{none-long}
-use Rattle.rv_codegen.proofs.ExitLaws.{HasTree, PartExits, both-exits, either-exits, phases-exits, root-exit, trapping-exits}
+use Rattle.rv_codegen.proofs.ExitLaws.{HasTree, PartExits, body-exit, both-exits, either-exits, phases-exits, root-exit, trapping-exits}
 use Rattle.rv_codegen.proofs.Failing.{LaidArms, LaidRecords}
 use Rattle.rv_codegen.proofs.Holding.{Apart}
 use Rattle.rv_codegen.proofs.LayoutWords.{in-fits, keep-reached, keep-within, layout-words, escaped-row, words-reached, words-some, words-within}
-use Rattle.rv_codegen.proofs.NodeParts.{IsNode, IsPartOf, IsTailOf, KeepsRecord, part-node}
+use Rattle.rv_codegen.proofs.NodeParts.{CallsByNumber, IsNode, IsPartOf, IsTailOf, KeepsRecord, part-node}
+use Rattle.rv_codegen.proofs.CalledBodies.{HasBodies, body-root, body-whole}
+use Rattle.rv_codegen.proofs.CallStands.{CallStands, call-stands}
+use Rattle.rv_codegen.proofs.CallsLaid.{LaidCalls}
+use Rattle.rv_codegen.proofs.OutRows.{out-row}
+use Rattle.rv_codegen.proofs.SuitedCalls.{call-ends}
 use Rattle.rv_codegen.proofs.EscapingWith.{EscapesPlaces}
 use Rattle.rv_codegen.proofs.PlacedData.{escapes-places}
 use Rattle.rv_codegen.proofs.PuttingPlaces.{put-by_number}
-use Rattle.rv_codegen.proofs.RestPoints.{Laid, Starting, DataLaid, PhasePlaces, LaidPhases, LaidBoth}
+use Rattle.rv_codegen.proofs.RestPoints.{Laid, Starting, near, DataLaid, PhasePlaces, LaidPhases, LaidBoth}
 use Rattle.rv_codegen.proofs.Settings.{Way, Bodies, Setting, code, point, front, start, frame_words, node_words}
 use Rattle.rv_codegen.proofs.SendEntry.{send_code}
 use Rattle.rv_codegen.proofs.SharedEnds.{handler-fills, handler-written, trap-where}
@@ -69,6 +76,7 @@ use Rattle.rv_codegen.proofs.Walk.{way-stands}
 pub record IsCompilable (a : Action) : Type 0 where
   pub tree : HasTree a
   pub trees : HasTrees a
+  pub bodies : HasBodies a
   pub built : (k : ℕ) (n : Node) → slice_get a k ≡ Some n → is_built_node n ≡ true
   pub numbers : NumbersFit a
   pub few : (k : ℕ) → node_yielder_count (node_at a k) < 65536
@@ -84,7 +92,7 @@ built-node : (n : Node) → is_built_node n ≡ true → IsNode n
 built-node Stray h = absurd (let r : false ≡ true = h in cc)
 built-node _ h = tt
 
--- ---- no bindings, no bodies
+-- ---- no bindings, no bodies of closures
 
 abbrev no_bodies : Bodies
 no_bodies = record { slots = λ c. []; entry = λ c. 0; words = λ c. 0; own = λ c. None; inside = λ c. tt }
@@ -111,7 +119,7 @@ setting x fs items ample input =
       labels = first_label + 4 * length x.action + 4;
       widest = width (length x.action) x.table;
       places = data_places x.action (places_in x.action fs) (words_at fs);
-      procedures = record { root_of = procedure_of x.action; words = words_at fs; calls = λ n c. ⊥ };
+      procedures = record { root_of = procedure_of x.action; words = words_at fs; calls = λ n c. CallsByNumber (node_at x.action n) c };
       bodies = no_bodies;
       Ends = λ k d b. CompletesInShape x.table k d b;
       base = region_address (4 * length (code_of items));
@@ -257,14 +265,18 @@ module _ (x : Subject) (fs : List Frame) (ok : IsCompilable x.action) (framed : 
   main-within : frame_words s 0 ≤ s.sizes.main_slots
   main-within = words-within x.action ok.trees x.table fs framed.layout framed.apart ns by_number 0 ok.some
 
+  body-within : (n c : ℕ) → CallsByNumber (node_at x.action n) c → frame_words s c ≤ s.sizes.slots c
+  body-within n c h =
+      omega (arith, words-within x.action ok.trees x.table fs framed.layout framed.apart ns by_number c (ok.bodies.within n c h), ap (slots x.action x.table) (body-root x.action ok.trees ok.bodies n c h))
+
   whole-laid : Laid s
   whole-laid = record {
-    placed = alias-placed s ok.trees p (words_at fs) own (λ n c h. absurd h);
+    placed = alias-placed s ok.trees p (words_at fs) own (λ n c h. words-some x.action ok.trees x.table fs framed.layout framed.apart ns by_number c (ok.bodies.within n c h));
     data_laid = data-laid;
     part_node = part-there;
     same_frame = λ n k part. same-frame s ok.trees p (words_at fs) own n k part;
     main_within = main-within;
-    body_within = λ n c h. absurd h;
+    body_within = body-within;
     phases = phases-laid;
     both = both-laid;
     small = omega (arith, sized.small);
@@ -375,6 +387,39 @@ module _ (x : Subject) (fs : List Frame) (ok : IsCompilable x.action) (framed : 
         fills = λ steps frames n l r b d w node reached. handler-fills x.action ok.trees x.table fs framed.layout framed.apart ns by_number framed.admissible input steps frames n l r b d w node reached;
       }
 
+  -- ---- calls
+
+  call-code : (n c : ℕ) → CallsByNumber (node_at x.action n) c → CallStands s n c
+  call-code n c h = ⊎_elim
+      (λ e. call-stands s n c whole-laid labels (Unfolding c) refl (subst (NodeStands s.items (node_words s) s.exits n) e (each n (subst IsNode (sym e) tt))))
+      (λ e. call-stands s n c whole-laid labels (Unfold c) refl (subst (NodeStands s.items (node_words s) s.exits n) e (each n (subst IsNode (sym e) tt))))
+      h
+
+  -- a body finds its data in words of its own
+  body-given : (n c : ℕ) → CallsByNumber (node_at x.action n) c → s.places.given c ≡ (p c).data_in
+  body-given n c h = handed-root x.action ok.trees (given_in p) (λ j. (p j).data_in) c (body-whole x.action ok.bodies n c h)
+
+  calls-laid : LaidCalls s
+  calls-laid = record {
+    laid = whole-laid;
+    stands = call-code;
+    fetches = λ n c h. (call-code n c h).fetch;
+    may = λ n c h. h;
+    body = λ n c h. within-node c (ok.bodies.within n c h);
+    takes = λ steps frames n c d b w h reached. (runs-in_shape x.action x.table framed.admissible input steps frames c d b w reached).given ∙ sym (in-fits x.action ok.trees x.table fs framed.layout framed.apart ns by_number c (ok.bodies.within n c h)) ∙ sym (ap length (body-given n c h));
+    behind = λ n c o h m. (own.within c o (ok.bodies.within n c h) (in-word (p c) o (subst (OneOf o) (body-given n c h) m))).0;
+    few = λ c. given-width x.action ok.trees x.table fs framed.layout framed.apart ns by_number c;
+    unbound = λ c. refl;
+    binds = λ n c h token z. z;
+    ends = λ steps frames n c d b w h reached e u z. ends-as x.action x.table framed.admissible c n e u (call-ends x.action x.table framed.admissible input steps frames n c d b w h reached) z;
+    row = λ k. out-row x.action ok.trees x.table fs framed.layout framed.apart ns by_number k;
+    returns = point s (return_of (length x.action));
+    near_returns = near s whole-laid (return_of (length x.action));
+    goes_back = λ n c h. ap (point s) (body-exit x.action ok.tree c (ok.bodies.later n c h) (ok.bodies.within n c h) (λ j m at part. ok.bodies.no_part n c j m h at part));
+    way_back = stood.returns;
+    full_exits = ending-at full_label 3 stood.entered.full;
+  }
+
   rows-laid : (x' : Starting s) → EscapesPlaces s trapped-laid.records.laid x' (s.places.escaped x'.k)
   rows-laid x' =
       let k = x'.k in
@@ -400,7 +445,7 @@ module _ (x : Subject) (fs : List Frame) (ok : IsCompilable x.action) (framed : 
         few = ok.few;
         within = λ k h. omega (arith, within k h);
         joint_within = λ k h. omega (arith, within k h);
-        uncalled = λ n c h. h;
+        calls = calls-laid;
         completed = subst (λ i. Has (code s) (address_of (spot s.items i)) (far_jump (spot s.items i) (spot s.items completed_label))) (sym (root-exit x.action ok.tree ok.some)) stood.completed;
         completed_exits = ending-at completed_label 0 there.completed;
         send = subst (λ n. Has (code s) (address_of n) send_code) (sym there.send.is) there.send.stands;

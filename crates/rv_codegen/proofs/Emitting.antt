@@ -48,10 +48,10 @@ joint-fresh s s1 k fresh e = subst (λ z. is_placed z.items (joint_of k) ≡ fal
 pub total-opened : (s s1 : Listing) (k : ℕ) → s1 ≡ record s { items = s.items ++ opening k } → total s1.items ≡ total s.items
 total-opened s s1 k e = ap (λ z. total z.items) e ∙ total-append s.items (opening k) ∙ omega arith
 
--- the ending is a jump
-pub total-ended : (s1 s2 s3 : Listing) (n more : ℕ) → total s2.items ≤ total s1.items + more → s3 ≡ record s2 { items = s2.items ++ ending n } → total s3.items ≤ total s1.items + 2 + more
+-- the ending is a jump, and the way back of bodies
+pub total-ended : (s1 s2 s3 : Listing) (n more : ℕ) → total s2.items ≤ total s1.items + more → s3 ≡ record s2 { items = s2.items ++ ending n } → total s3.items ≤ total s1.items + 4 + more
 total-ended s1 s2 s3 n more nodes last =
-    let b : total s3.items ≡ total s2.items + 2 = ap (λ z. total z.items) last ∙ total-append s2.items (ending n) in
+    let b : total s3.items ≡ total s2.items + 4 = ap (λ z. total z.items) last ∙ total-append s2.items (ending n) in
     omega (arith, b, nodes)
 
 -- ---- labels that are still to be placed, and lengths, as pieces are appended

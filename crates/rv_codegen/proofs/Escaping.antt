@@ -25,7 +25,7 @@ use Rattle.rv_codegen.proofs.Units.{units-more}
 use Rattle.rv_prelude.proofs.Cursors.{Cursor, plain-stands, over-plain, jump-stands, cursor-within}
 
 -- words in a row from one on are, from that word on, the first ones
-in-row : (base : ℕ) (heap : Heap) (words : List ℕ) (f o i n : ℕ) (d : Data) → Holds base heap words f (in_row (o + i) n) d → Holds base heap words (f + o) (in_row i n) d
+pub in-row : (base : ℕ) (heap : Heap) (words : List ℕ) (f o i n : ℕ) (d : Data) → Holds base heap words f (in_row (o + i) n) d → Holds base heap words (f + o) (in_row i n) d
 in-row base heap words f o i zero [] h = tt
 in-row base heap words f o i zero (x ∷ d) h = absurd h
 in-row base heap words f o i (suc n) [] h = absurd h
@@ -36,10 +36,10 @@ in-row base heap words f o i (suc n) (x ∷ d) h =
 
 module _ (s : Setting) (laid : Laid s) (x : Starting s) where
   -- where the data stand
-  abbrev given : List ℕ
+  abbrev pub given : List ℕ
   given = s.places.given x.k
 
-  abbrev first : ℕ
+  abbrev pub first : ℕ
   first = get_or given 0 0
 
   abbrev size : ℕ
@@ -65,14 +65,14 @@ module _ (s : Setting) (laid : Laid s) (x : Starting s) where
       }
 
   -- the first of the words is one of the frame; where there is none, the frame itself stands for it
-  first-near : first < 33554432
+  pub first-near : first < 33554432
   first-near = by given (λ o m. omega (arith, laid.data_laid.given_within x.k o x.runs.here.node m, laid.data_laid.reached x.k x.runs.here.node))
     where
       by : (os : List ℕ) → ((o : ℕ) → OneOf o os → o < 33554432) → get_or os 0 0 < 33554432
       by [] h = omega arith
       by (o ∷ os) h = h o Here
 
-  first-low : s.base + 8 * (x.runs.here.f + first) < 2 ^ 64
+  pub first-low : s.base + 8 * (x.runs.here.f + first) < 2 ^ 64
   first-low = omega (arith, first-near, x.runs.here.clear, laid.units_inside, laid.below)
 
   address-found : EscapeStands → HasAddress s.base (code s) x.runs.here.f first x.state

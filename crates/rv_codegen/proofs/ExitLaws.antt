@@ -4,7 +4,7 @@ use Rattle.std.proofs.lemmas.List.{get_or-set_other, get_or-replicate, length-re
 use Rattle.std.proofs.lemmas.Option.{slice_get-get_or}
 use Rattle.std.specs.Prelude.{slice_get, All}
 use Rattle.action_terms.specs.Actions.{Join, Chain, Node, Both, Phases, Either, Trapping, Stray, Action, node_or_stray, node_at}
-use Rattle.rv_codegen.specs.Blocks.{first_label, front_of, stop_of, with_exits, exits_from, exits_of}
+use Rattle.rv_codegen.specs.Blocks.{first_label, front_of, stop_of, return_of, root_exits, with_exits, exits_from, exits_of}
 use Rattle.rv_codegen.proofs.NodeParts.{IsPartOf}
 
 -- the parts of a node that performs both are two
@@ -75,7 +75,10 @@ reaches-node (m ∷ a) k (suc j) n exits e =
 
 module _ (a : Action) (tree : HasTree a) where
   abbrev at_first : List ℕ
-  at_first = replicate (length a) (front_of (length a))
+  at_first = root_exits (length a)
+
+  length-at_first : length at_first ≡ length a
+  length-at_first = length-set (replicate (length a) (return_of (length a))) 0 (front_of (length a)) ∙ length-replicate (length a) (return_of (length a))
 
   -- the exits of the parts l and r of node k, the first of which goes on at a label, and of the node
   record SetsExits (k l r to : ℕ) (then : List ℕ) : Type 0 where
@@ -104,7 +107,7 @@ module _ (a : Action) (tree : HasTree a) where
       let x = reaches-node a 0 k n at_first e in
       let kl = tree.after k l n e left in
       let kr = tree.after k r n e right in
-      let size : length x.then ≡ length a = x.size ∙ length-replicate (length a) (front_of (length a)) in
+      let size : length x.then ≡ length a = x.size ∙ length-at_first in
       let here : 0 + k ≡ k = omega arith in
       let sets = λ (c : ℕ). ap (λ i. get_or (with_exits n i x.then) c 0) here ∙ ap (λ es. get_or es c 0) (is x.then) in
       let s = sets-exits k l r to x.then apart kl kr (omega (arith, size, tree.within k l n e left)) (omega (arith, size, tree.within k r n e right)) in
@@ -127,7 +130,15 @@ module _ (a : Action) (tree : HasTree a) where
 
   pub root-exit : 0 < length a → get_or (exits_of a) 0 0 ≡ front_of (length a)
   root-exit some =
-      exits_from-other a 0 0 at_first (λ j n e p. let z = tree.after j 0 n e p in omega arith) ∙ get_or-replicate (length a) 0 (front_of (length a)) 0 some
+      exits_from-other a 0 0 at_first (λ j n e p. let z = tree.after j 0 n e p in omega arith)
+      ∙ get_or-set_same (replicate (length a) (return_of (length a))) 0 (front_of (length a)) 0 (omega (arith, some, length-replicate (length a) (return_of (length a))))
+
+  -- a body, which is no part and isn't the action itself, goes on at the way back
+  pub body-exit : (c : ℕ) → 0 < c → c < length a → ((j : ℕ) (n : Node) → slice_get a j ≡ Some n → IsPartOf n c → ⊥) → get_or (exits_of a) c 0 ≡ return_of (length a)
+  body-exit c later within none =
+      exits_from-other a 0 c at_first none
+      ∙ get_or-set_other (replicate (length a) (return_of (length a))) 0 c (front_of (length a)) 0 (λ e. omega arith)
+      ∙ get_or-replicate (length a) c (return_of (length a)) 0 within
 
 -- the exits of one node more, from number k on
 pub exits_from-next : (a : Action) (k : ℕ) (exits : List ℕ) → k < length a → exits_from (k + 1) (drop (k + 1) a) (with_exits (node_at a k) k exits) ≡ exits_from k (drop k a) exits
@@ -172,7 +183,7 @@ all-below bound (suc n) v lt (suc i) = all-below bound n v lt i
 -- the exits are among the labels that are made
 pub exits-made : (a : Action) → HasTree a → (exits : List ℕ) (labels : ℕ) → exits ≡ exits_of a → first_label + (4 * length a + 4) ≤ labels → All (λ l. l < labels) exits
 exits-made a tree exits labels e many i d within =
-    let first = all-below labels (length a) (front_of (length a)) (omega arith) in
-    let below = exits_from-below a (length a) labels 0 (replicate (length a) (front_of (length a))) (omega arith) (omega arith) (λ j c n f p. tree.within j c n f p) first i in
+    let first = set-below labels 0 (front_of (length a)) (replicate (length a) (return_of (length a))) (omega arith) (all-below labels (length a) (return_of (length a)) (omega arith)) in
+    let below = exits_from-below a (length a) labels 0 (root_exits (length a)) (omega arith) (omega arith) (λ j c n f p. tree.within j c n f p) first i in
     let here : get_or exits i d ≡ get_or (exits_of a) i 0 = get_or_default exits i d 0 within ∙ ap (λ l. get_or l i 0) e in
     rw here below

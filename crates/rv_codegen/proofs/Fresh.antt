@@ -20,7 +20,7 @@ is_placed-append (Jump k ∷ a) b l p q = is_placed-append a b l p q
 is_placed-append (BranchTo o x y k ∷ a) b l p q = is_placed-append a b l p q
 is_placed-append (Address d k ∷ a) b l p q = is_placed-append a b l p q
 
-is_placed-plain : (is : List Inst) (l : ℕ) → is_placed (map Plain is) l ≡ false
+pub is_placed-plain : (is : List Inst) (l : ℕ) → is_placed (map Plain is) l ≡ false
 is_placed-plain [] l = refl
 is_placed-plain (i ∷ is) l = is_placed-plain is l
 

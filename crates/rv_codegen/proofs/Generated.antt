@@ -27,6 +27,7 @@ use Rattle.sort_rules.specs.Tables.{MarkedTable}
 use Rattle.rv_codegen.specs.Measures.{node_count}
 use Rattle.rv_codegen.specs.RightImage.{compiled_image, Subject, Loads, IsRight}
 use Rattle.rv_codegen.specs.Built.{unbuilt}
+use Rattle.rv_codegen.proofs.CalledBodies.{bodies-of-graph}
 use Rattle.rv_codegen.proofs.Compiling.{IsCompilable, HasFrames, IsSized}
 use Rattle.rv_codegen.proofs.Loading.{code_bytes-small, compiled-loads}
 use Rattle.rv_codegen.proofs.PuttingPlaces.{put-by_number}
@@ -70,7 +71,7 @@ module _ (g : Listed) (graph : IsGraph g) (t : MarkedTable) (fs : List Frame) wh
   abbrev subject : (stack units : ℕ) → Subject
   subject stack units = record { action = a; table = t; stack = stack; units = units }
 
-  sized : (items : List Item) (stack units : ℕ) → total items ≤ 4098 + most_words * node_count a → 1 ≤ stack → stack ≤ 16777216 → units ≤ 4194304 → IsSized (subject stack units) items
+  sized : (items : List Item) (stack units : ℕ) → total items ≤ 4100 + most_words * node_count a → 1 ≤ stack → stack ≤ 16777216 → units ≤ 4194304 → IsSized (subject stack units) items
   sized items stack units short low few_words few_units =
       let covers = factor-covers (width (length a) t) (most_yielders a) in
       record {
@@ -83,7 +84,7 @@ module _ (g : Listed) (graph : IsGraph g) (t : MarkedTable) (fs : List Frame) wh
       }
 
   -- the image of words that are those of some items loads
-  image-loads : (items : List Item) (words : List ℕ) (stack units : ℕ) → map Some words ≡ map encode (code_of items) → IsSized (subject stack units) items → total items ≤ 4098 + most_words * node_count a → Loads (compiled_image (code_bytes (code_of items)) stack units) (subject stack units)
+  image-loads : (items : List Item) (words : List ℕ) (stack units : ℕ) → map Some words ≡ map encode (code_of items) → IsSized (subject stack units) items → total items ≤ 4100 + most_words * node_count a → Loads (compiled_image (code_bytes (code_of items)) stack units) (subject stack units)
   image-loads items words stack units encoded it short =
       let code = code_of items in
       let size_is : length (code_bytes code) ≡ 4 * total items = length-code_bytes code ∙ ap (λ n. 4 * n) (length-code (spot items) 0 items) in
@@ -94,6 +95,7 @@ module _ (g : Listed) (graph : IsGraph g) (t : MarkedTable) (fs : List Frame) wh
     compilable = record {
       tree = tree-of-graph g graph;
       trees = trees-of_graph g graph;
+      bodies = bodies-of-graph g graph;
       built = λ k n e. built-of-graph a none k n e;
       numbers = numbers;
       few = node-few g graph;
@@ -101,7 +103,7 @@ module _ (g : Listed) (graph : IsGraph g) (t : MarkedTable) (fs : List Frame) wh
     }
 
     -- the image of the words is right where the main procedure has room
-    pub generated-right : (words : List ℕ) (stack units : ℕ) → words_at fs 0 ≤ stack → LabelsStand (framed_items a fs stack units) → total (framed_items a fs stack units) ≤ 4098 + most_words * node_count a → map Some words ≡ map encode (code_of (framed_items a fs stack units)) → 1 ≤ stack → stack ≤ 16777216 → units ≤ 4194304 → IsRight (compiled_image (instruction_bytes words) stack units) (subject stack units)
+    pub generated-right : (words : List ℕ) (stack units : ℕ) → words_at fs 0 ≤ stack → LabelsStand (framed_items a fs stack units) → total (framed_items a fs stack units) ≤ 4100 + most_words * node_count a → map Some words ≡ map encode (code_of (framed_items a fs stack units)) → 1 ≤ stack → stack ≤ 16777216 → units ≤ 4194304 → IsRight (compiled_image (instruction_bytes words) stack units) (subject stack units)
     generated-right words stack units fits labels short encoded low few_words few_units =
         let items = framed_items a fs stack units in
         let known = words-encoded words (code_of items) encoded in
@@ -117,7 +119,7 @@ module _ (g : Listed) (graph : IsGraph g) (t : MarkedTable) (fs : List Frame) wh
     full-right words stack units over encoded low few_words few_units =
         let known = words-encoded words (code_of full_items) encoded in
         let three : total full_items ≡ 3 = refl in
-        let short : total full_items ≤ 4098 + most_words * node_count a = omega (arith, three) in
+        let short : total full_items ≤ 4100 + most_words * node_count a = omega (arith, three) in
         let it = sized full_items stack units short low few_words few_units in
         let ns = put_frames fs (replicate (length a) nowhere) in
         let has = framed stack units in

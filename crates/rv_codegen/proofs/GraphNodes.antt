@@ -25,13 +25,13 @@ mapped_at f (x ∷ xs) zero y e = (x, refl)
 mapped_at f (x ∷ xs) (suc k) y e = mapped_at f xs k y e
 
 -- the listed node of a node, and what is read there by its kind
-record HasListed (g : Listed) (k : ℕ) (n : Node) : Type 0 where
-  listed : ListedNode
-  at : slice_get g.nodes k ≡ Some listed
-  read : IsRead g k listed.kind listed
-  is : node_read g.yielders listed.kind listed ≡ n
+pub record HasListed (g : Listed) (k : ℕ) (n : Node) : Type 0 where
+  pub listed : ListedNode
+  pub at : slice_get g.nodes k ≡ Some listed
+  pub read : IsRead g k listed.kind listed
+  pub is : node_read g.yielders listed.kind listed ≡ n
 
-has_listed : (g : Listed) → IsGraph g → (k : ℕ) (n : Node) → slice_get (action_of g) k ≡ Some n → HasListed g k n
+pub has_listed : (g : Listed) → IsGraph g → (k : ℕ) (n : Node) → slice_get (action_of g) k ≡ Some n → HasListed g k n
 has_listed g w k n e =
     let found = mapped_at (node_with (items_from 0 g.yielders)) g.nodes k n e in
     let m = found.0 in
@@ -59,7 +59,7 @@ part-listed ls kind.Before n c h part = two_listed n c h part
 part-listed ls kind.Branch n c h part = two_listed n c h.0 part
 part-listed ls _ n c h part = absurd part
 
-part_of : (g : Listed) (k c : ℕ) (n : Node) (h : HasListed g k n) → IsPartOf n c → (j : ℕ) × (slice_get h.listed.children j ≡ Some c)
+pub part_of : (g : Listed) (k c : ℕ) (n : Node) (h : HasListed g k n) → IsPartOf n c → (j : ℕ) × (slice_get h.listed.children j ≡ Some c)
 part_of g k c n h part = part-listed g.yielders h.listed.kind h.listed c h.read.has (subst (λ x. IsPartOf x c) (sym h.is) part)
 
 -- its second part stands behind the first

@@ -66,7 +66,7 @@ one-with_key {A} key (h ∷ xs) f g rising m k e =
 pub one-frame : (fs : List Frame) (f g : Frame) → Rising (map (λ (h : Frame). h.root) fs) → OneOf f fs → OneOf g fs → f.root ≡ g.root → f ≡ g
 one-frame fs f g rising m k e = one-with_key (λ (h : Frame). h.root) fs f g rising m k e
 
-words-are : (fs : List Frame) (f : Frame) → Rising (map (λ (h : Frame). h.root) fs) → OneOf f fs → words_at fs f.root ≡ f.words
+pub words-are : (fs : List Frame) (f : Frame) → Rising (map (λ (h : Frame). h.root) fs) → OneOf f fs → words_at fs f.root ≡ f.words
 unfolding Rising
 words-are [] f rising m = elim m [ ]
 words-are (h ∷ fs) f rising m = either
@@ -111,14 +111,14 @@ module _ (a : Action) (trees : HasTrees a) where
     number k within = subst (OneOf k) (sym (node_numbers-range a)) (member-range 0 (length a) k (omega arith) (omega arith))
 
     -- node k is placed in a frame
-    record HasFrame (k : ℕ) : Type 0 where
-      frame : Frame
-      listed : OneOf frame fs
-      root : frame.root ≡ procedure_of a k
-      member : OneOf (place_at ns k) frame.nodes
-      node : (place_at ns k).node ≡ k
+    pub record HasFrame (k : ℕ) : Type 0 where
+      pub frame : Frame
+      pub listed : OneOf frame fs
+      pub root : frame.root ≡ procedure_of a k
+      pub member : OneOf (place_at ns k) frame.nodes
+      pub node : (place_at ns k).node ≡ k
 
-    has-frame : (k : ℕ) → k < length a → HasFrame k
+    pub has-frame : (k : ℕ) → k < length a → HasFrame k
     has-frame k within =
         let c = procedure_of a k in
         let c_within : c < length a = omega (arith, procedure-below a trees k) in

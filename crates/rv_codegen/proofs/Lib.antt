@@ -101,3 +101,15 @@ pub mod OperandRegisters
 pub mod CellWritten
 pub mod Storing
 pub mod NoSlots
+pub mod CallCode
+pub mod CalledItems
+pub mod FrameWords
+pub mod UnfoldedBodies
+pub mod CallStands
+pub mod CalledBodies
+pub mod OutRows
+pub mod CallsLaid
+pub mod Calling
+pub mod ReturnCode
+pub mod Returning
+pub mod SuitedCalls

@@ -33,6 +33,10 @@ Calls (Enact y) k = Unit {0}
 Calls (Apply y is) k = Unit {0}
 Calls _ k = ⊥
 
+-- a node that names the body that it calls
+abbrev pub CallsByNumber : Node → ℕ → Type 0
+CallsByNumber n c = (n ≡ Unfolding c) ⊎ (n ≡ Unfold c)
+
 -- a node that keeps a record while its first part is performed
 abbrev pub KeepsRecord : Node → Type 0
 KeepsRecord (Either l r) = Unit {0}

@@ -114,12 +114,12 @@ put-frames (g ∷ fs) ns f n one within x m =
     (λ later. put-frames fs (put_each g.nodes ns) f n (λ h k y. one h k (Later y)) (omega (arith, within, long)) later m) (member_cases x)
 
 module _ (a : Action) (t : MarkedTable) (fs : List Frame) (laid : IsLayout a t fs) where
-  roots-rise : Rising (map (λ (h : Frame). h.root) fs)
+  pub roots-rise : Rising (map (λ (h : Frame). h.root) fs)
   roots-rise =
       subst Rising (sym (laid.listed ∙ ap (filter (λ k. nat_eq (procedure_of a k) k)) (node_numbers-range a))) (filter-rising (λ k. nat_eq (procedure_of a k) k) 0 (length a))
 
   -- a node of a frame is one of its procedure
-  node-in : (f : Frame) (n : PlacedNode) → OneOf f fs → OneOf n f.nodes → OneOf n.node (node_numbers a) × (nat_eq (procedure_of a n.node) f.root ≡ true)
+  pub node-in : (f : Frame) (n : PlacedNode) → OneOf f fs → OneOf n f.nodes → OneOf n.node (node_numbers a) × (nat_eq (procedure_of a n.node) f.root ≡ true)
   node-in f n x m =
       let frame : IsFrame a t f = All-member (IsFrame a t) f fs x laid.frames in
       filter-member (λ k. nat_eq (procedure_of a k) f.root) (node_numbers a) n.node (subst (OneOf n.node) frame.listed (member-mapped (λ (k : PlacedNode). k.node) f.nodes n m))

@@ -186,8 +186,9 @@ module _ (x : Subject) (fs : List PlacedFrame) (ok : IsCompilable x.action) (has
     few = omega arith;
     now = record {
       counted = first-zero 4 (omega arith);
-      first_at = ends.0;
-      end_at = ends.1;
+      stack_end_at = ends.0;
+      first_at = ends.1;
+      end_at = ends.2;
       within = omega arith;
       held = record {
         many = refl;
@@ -203,15 +204,16 @@ module _ (x : Subject) (fs : List PlacedFrame) (ok : IsCompilable x.action) (has
     };
   }
     where
-      ends : (get_or first_words 6 0 ≡ framed_base + 8 * (512 + x.stack)) × (get_or first_words 7 0 ≡ framed_base + 8 * (512 + x.stack + 2 * x.units))
+      ends : (get_or first_words 5 0 ≡ framed_base + 8 * (512 + x.stack)) × (get_or first_words 6 0 ≡ framed_base + 8 * (512 + x.stack)) × (get_or first_words 7 0 ≡ framed_base + 8 * (512 + x.stack + 2 * x.units))
       ends = by (replicate framed_setting.count 0) (length-replicate framed_setting.count 0)
         where
-          by : (ws : List ℕ) → length ws ≡ framed_setting.count → (get_or (with_ends framed_base x.stack x.units ws) 6 0 ≡ framed_base + 8 * (512 + x.stack)) × (get_or (with_ends framed_base x.stack x.units ws) 7 0 ≡ framed_base + 8 * (512 + x.stack + 2 * x.units))
+          by : (ws : List ℕ) → length ws ≡ framed_setting.count → (get_or (with_ends framed_base x.stack x.units ws) 5 0 ≡ framed_base + 8 * (512 + x.stack)) × (get_or (with_ends framed_base x.stack x.units ws) 6 0 ≡ framed_base + 8 * (512 + x.stack)) × (get_or (with_ends framed_base x.stack x.units ws) 7 0 ≡ framed_base + 8 * (512 + x.stack + 2 * x.units))
           by ws many =
               let stack_end = framed_base + 8 * (512 + x.stack) in
               let units_end = framed_base + 8 * (512 + x.stack + 2 * x.units) in
               let one = length-set ws 5 stack_end in
               let two = length-set (set ws 5 stack_end) 6 stack_end in (
+                get_or-set_other (set (set ws 5 stack_end) 6 stack_end) 7 5 units_end 0 (λ q. omega arith) ∙ get_or-set_other (set ws 5 stack_end) 6 5 stack_end 0 (λ q. omega arith) ∙ get_or-set_same ws 5 stack_end 0 (omega (arith, many)),
                 get_or-set_other (set (set ws 5 stack_end) 6 stack_end) 7 6 units_end 0 (λ q. omega arith) ∙ get_or-set_same (set ws 5 stack_end) 6 stack_end 0 (omega (arith, one, many)),
                 get_or-set_same (set (set ws 5 stack_end) 6 stack_end) 7 units_end 0 (omega (arith, one, two, many)),
               )

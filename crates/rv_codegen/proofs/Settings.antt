@@ -154,7 +154,7 @@ escape s = point s escape_label
 
 -- the words of the frame that the code of a node names
 abbrev pub node_words : Setting → ℕ → NodeWords
-node_words s k = record { given = s.places.given k; out = s.places.out k; escaped = s.places.escaped k; keep = s.places.keep k }
+node_words s k = record { given = s.places.given k; out = s.places.out k; escaped = s.places.escaped k; keep = s.places.keep k; frame = s.procedures.words (s.procedures.root_of k) }
 
 -- the words of the frame in which a node is performed
 abbrev pub frame_words : Setting → ℕ → ℕ

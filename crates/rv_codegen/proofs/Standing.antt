@@ -1,16 +1,17 @@
 -- The items of each node's code stand in the code, whatever its kind, and so does the prelude.
-use Rattle.std.proofs.Common.{◌≡◌, ℕ, zero, suc, ◌+◌, ◌<◌, List, [], ◌∷◌, ◌++◌, length, get_or, Some, refl, sym, ap, ◌∙◌, subst, arith, append_assoc, add-zero}
+use Rattle.std.proofs.Common.{◌≡◌, ℕ, zero, suc, ◌+◌, ◌<◌, List, [], ◌∷◌, ◌++◌, length, get_or, map, Some, refl, sym, ap, ◌∙◌, subst, arith, append_assoc, add-zero}
 use Rattle.std.specs.Prelude.{slice_get}
 use Rattle.rv_asm.specs.Arrivals.{LabelsStand}
 use Rattle.rv_asm.specs.Assembly.{address_of, total, spot, far_jump, code_of}
 use Rattle.rv_asm.specs.WordMachine.{Has}
 use Rattle.rv_asm.specs.declared.item.Item.{Item}
-use Rattle.rv_asm.specs.declared.item.Item.TheVariants.{Mark, Jump}
+use Rattle.rv_asm.specs.declared.item.Item.TheVariants.{Plain, Mark, Jump}
 use Rattle.action_terms.specs.Actions.{Node, Action}
 use Rattle.rv_prelude.specs.Items.{entries_from, first_items, ends_items, fail_items, escape_items, calls_items, entries_items, prelude_items}
-use Rattle.rv_prelude.proofs.Cursors.{Cursor, cursor-start, cursor-within, over, over-mark, over-jump, mark-at, jump-stands, regroup}
+use Rattle.rv_prelude.proofs.Cursors.{Cursor, cursor-start, cursor-within, over, over-mark, over-jump, over-plain, plain-stands, mark-at, jump-stands, regroup}
 use Rattle.rv_prelude.proofs.Entered.{Stood as Entered, prelude-stands}
-use Rattle.rv_codegen.specs.Blocks.{NodeWords, completed_label, fail_label, start_label, end_label, front_of, start_of, opening, block, blocks_from, ending, exits_of, action_items, body}
+use Rattle.rv_codegen.specs.CallItems.{return_items}
+use Rattle.rv_codegen.specs.Blocks.{NodeWords, completed_label, fail_label, start_label, end_label, front_of, start_of, return_of, opening, block, blocks_from, ending, exits_of, action_items, body}
 
 -- the labels of a node's opening stand before what follows it
 pub record Opened (items : List Item) (k n : ℕ) (rest : List Item) : Type 0 where
@@ -76,6 +77,8 @@ pub record Stood (items : List Item) (ws : ℕ → NodeWords) (stack units : ℕ
   pub root : spot items (start_of 0) ≡ spot items start_label
   -- where it has completed, it goes to the end for that
   pub completed : Has (code_of items) (address_of (spot items (front_of (length a)))) (far_jump (spot items (front_of (length a))) (spot items completed_label))
+  -- where a body has completed, it returns to what has called it
+  pub returns : Has (code_of items) (address_of (spot items (return_of (length a)))) return_items
   pub end : spot items end_label ≡ total items
 
 -- where the code of the nodes begins: behind the entries
@@ -117,14 +120,18 @@ action-stands ws stack units a items same labels =
     let first = begins items labels ws (exits_of a) a 0 in
     let all = all-stand items labels ws (exits_of a) a 0 n0 c_nodes begin.behind in
     let n1 = n0 + total blocks in
-    let last = Jump completed_label ∷ Mark end_label ∷ [] in
+    let back = map Plain return_items ++ (Mark end_label ∷ []) in
+    let last = Jump completed_label ∷ (Mark (return_of (length a)) ∷ back) in
     let ends = opens items labels (length a) n1 last (over items n0 blocks (ending (length a)) c1) in
-    let far = jump-stands items n1 completed_label (Mark end_label ∷ []) ends.cursor in
-    let c2 : Cursor items (n1 + 2) (Mark end_label ∷ []) = over-jump items n1 completed_label (Mark end_label ∷ []) ends.cursor in
+    let far = jump-stands items n1 completed_label (Mark (return_of (length a)) ∷ back) ends.cursor in
+    let c2 : Cursor items (n1 + 2) (Mark (return_of (length a)) ∷ back) = over-jump items n1 completed_label (Mark (return_of (length a)) ∷ back) ends.cursor in
+    let c3 : Cursor items (n1 + 2) back = over-mark items (n1 + 2) (return_of (length a)) back c2 in
+    let c4 : Cursor items (n1 + 2 + 2) (Mark end_label ∷ []) = over-plain items (n1 + 2) return_items (Mark end_label ∷ []) c3 in
     record {
       each = λ k x e. let z : 0 + k ≡ k = omega arith in subst (λ m. NodeStands items ws (exits_of a) m x) z (all k x e);
       entered = prelude-stands items labels (entries_from 0) stack units (Mark start_label ∷ nodes) same;
       root = (opens items labels 0 n0 first.behind (subst (Cursor items n0) first.is c_nodes)).start ∙ sym start_at;
       completed = subst (λ m. Has (code_of items) (address_of m) (far_jump m (spot items completed_label))) (sym ends.front) far;
-      end = mark-at items labels (n1 + 2) end_label [] c2 ∙ omega (arith, cursor-within items (n1 + 2) (Mark end_label ∷ []) c2);
+      returns = subst (λ m. Has (code_of items) (address_of m) return_items) (sym (mark-at items labels (n1 + 2) (return_of (length a)) back c2)) (plain-stands items (n1 + 2) return_items (Mark end_label ∷ []) c3);
+      end = mark-at items labels (n1 + 2 + 2) end_label [] c4 ∙ omega (arith, cursor-within items (n1 + 2 + 2) (Mark end_label ∷ []) c4);
     }

@@ -8,7 +8,7 @@ use Rattle.rv_asm.proofs.Calls.{before_exit, before_exit-runs, exit-stops}
 use Rattle.rv_asm.proofs.Moments.{quiet-stop}
 use Rattle.rv_asm.proofs.Stretches.{then-runs}
 use Rattle.action_terms.specs.Information.{Binds, Data, World}
-use Rattle.action_terms.specs.Actions.{Complete, Failing, Escape, EscapeWith, Commit, Regive, Give, Check, Store, Allocate, Receive, Send, Node, Simple, Furthermore, Both, Phases, Either, Trapping, node_at}
+use Rattle.action_terms.specs.Actions.{Complete, Failing, Escape, EscapeWith, Commit, Regive, Give, Check, Store, Allocate, Receive, Send, Node, Simple, Unfolding, Unfold, Furthermore, Both, Phases, Either, Trapping, node_at}
 use Rattle.action_terms.specs.Literals.{NodeFits, NumbersFit}
 use Rattle.action_terms.specs.Acting.{Done, Esc, Fail, Tree, Run, Ended}
 use Rattle.action_terms.specs.Need.{items_yielder_count, node_yielder_count}
@@ -27,6 +27,8 @@ use Rattle.rv_codegen.proofs.StorageEntries.{HasStorage}
 use Rattle.rv_codegen.proofs.Storing.{AreStorable, store-goes}
 use Rattle.rv_codegen.proofs.Alternating.{Alternative, or-starts}
 use Rattle.rv_codegen.proofs.ArmsDone.{or-done, cut-done}
+use Rattle.rv_codegen.proofs.CallsLaid.{LaidCalls}
+use Rattle.rv_codegen.proofs.Calling.{call-goes}
 use Rattle.rv_codegen.proofs.Catching.{escapes-go}
 use Rattle.rv_codegen.proofs.Checking.{IsCheckable, check-goes}
 use Rattle.rv_codegen.proofs.Completions.{tail-done}
@@ -45,6 +47,7 @@ use Rattle.rv_codegen.proofs.NumberWords.{node-fits}
 use Rattle.rv_codegen.proofs.Phases.{phases-start, first-done, second-done}
 use Rattle.rv_codegen.proofs.RestPoints.{Laid, RestsAt, RunsAt, DoneAt, IsAt, GoesOn, Starting, StartGoesOn, near}
 use Rattle.rv_codegen.proofs.SendEntry.{send_code}
+use Rattle.rv_codegen.proofs.Returning.{called-done}
 use Rattle.rv_codegen.proofs.Sending.{IsSendable, send-goes}
 use Rattle.rv_codegen.proofs.Settings.{Setting, code, point, start, exit, node_words}
 use Rattle.rv_codegen.proofs.TrapDone.{trap-done}
@@ -65,8 +68,7 @@ module _ (s : Setting) where
     pub few : (k : ℕ) → node_yielder_count (node_at s.action k) < 65536
     pub within : (k : ℕ) → IsNode (node_at s.action k) → stop_of k < s.labels
     pub joint_within : (k : ℕ) → IsNode (node_at s.action k) → joint_of k < s.labels
-    -- nothing is called
-    pub uncalled : (n c : ℕ) → s.procedures.calls n c → ⊥
+    pub calls : LaidCalls s
     pub completed : Has (code s) (address_of (exit s 0).place) (far_jump (exit s 0).place (point s completed_label).place)
     pub completed_exits : Has (code s) (address_of (point s completed_label).place) (exit_with 0)
     pub send : Has (code s) (address_of (point s send_label).place) send_code
@@ -115,6 +117,8 @@ module _ (s : Setting) where
     run-goes x (Phases q l r) e stands b = phases-start s laid x q l r e
     run-goes x (Either l r) e stands b = or-starts s it.traps.records it.alternatives x l r e
     run-goes x (Trapping l r) e stands b = trap-starts s it.traps x l r e
+    run-goes x (Unfolding c) e stands b = call-goes s it.calls x c (inl e)
+    run-goes x (Unfold c) e stands b = call-goes s it.calls x c (inr e)
     run-goes x _ e stands b = absurd (let r : false ≡ true = b in cc)
 
     -- ---- a part has completed, by what stands around it
@@ -154,7 +158,7 @@ module _ (s : Setting) where
     done-goes steps (InCut ∷ fs) w state rank d b shown left x r = cut-done s it.traps.records it.alternatives (record { steps = steps; frames = fs; d = d; b = b; world = w; rank = rank; state = state; shown = shown; left = left; done = x; reached = r })
     done-goes steps (InTrap n b0 ∷ fs) w state rank d b shown left x r = trap-done s it.traps n b0 (record { steps = steps; frames = fs; d = d; b = b; world = w; rank = rank; state = state; shown = shown; left = left; done = x; reached = r })
     done-goes steps (InTail n ∷ fs) w state rank d b shown left x r = tail-done s laid n (record { steps = steps; frames = fs; d = d; b = b; world = w; rank = rank; state = state; shown = shown; left = left; done = x; reached = r })
-    done-goes steps (InCalled c ∷ fs) w state rank d b shown left x r = absurd (it.uncalled x.here.around.0 c x.here.around.2.may)
+    done-goes steps (InCalled c ∷ fs) w state rank d b shown left x r = called-done s it.calls c (record { steps = steps; frames = fs; d = d; b = b; world = w; rank = rank; state = state; shown = shown; left = left; done = x; reached = r })
     done-goes steps (InOver b0 ∷ fs) w state rank d b shown left x r = absurd (unbuilt x.here.around.0 (Furthermore x.k) x.here.around.1.node tt refl)
 
     -- ---- from each rest point

@@ -66,6 +66,8 @@ module _ (s : Setting) where
   -- so many units are spent: they are counted, and they hold what was taken
   pub record Spent (heap : Heap) (words : List ℕ) (spent : ℕ) (cells : Storage) : Type 0 where
     pub counted : get_or words 4 0 ≡ spent
+    -- the end of the stack, and that is where the units begin
+    pub stack_end_at : get_or words 5 0 ≡ s.base + 8 * (512 + s.stack)
     pub first_at : get_or words 6 0 ≡ s.base + 8 * (512 + s.stack)
     pub end_at : get_or words 7 0 ≡ s.base + 8 * (512 + s.stack + 2 * s.room)
     pub within : spent ≤ s.room
@@ -78,6 +80,7 @@ module _ (s : Setting) where
   spent-kept : (heap : Heap) (ws ws' : List ℕ) (spent : ℕ) (cells : Storage) → Untouched ws ws' → Spent heap ws spent cells → Spent heap ws' spent cells
   spent-kept heap ws ws' spent cells e h = record {
     counted = e 4 (inl (omega arith, omega arith)) ∙ h.counted;
+    stack_end_at = e 5 (inl (omega arith, omega arith)) ∙ h.stack_end_at;
     first_at = e 6 (inl (omega arith, omega arith)) ∙ h.first_at;
     end_at = e 7 (inl (omega arith, omega arith)) ∙ h.end_at;
     within = h.within;

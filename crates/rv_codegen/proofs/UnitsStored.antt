@@ -88,6 +88,7 @@ module _ (s : Setting) where
       let low = h.held.cell_low c i p in
       record {
         counted = stored-other ws i v 4 (inl (omega arith)) ∙ h.counted;
+        stack_end_at = stored-other ws i v 5 (inl (omega arith)) ∙ h.stack_end_at;
         first_at = stored-other ws i v 6 (inl (omega arith)) ∙ h.first_at;
         end_at = stored-other ws i v 7 (inl (omega arith)) ∙ h.end_at;
         within = h.within;

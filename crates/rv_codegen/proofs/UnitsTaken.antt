@@ -116,13 +116,14 @@ module _ (s : Setting) where
   -- so many more units are counted; the words of the ends, and of the units before, are as they were
   pub record Counted (ws ws' : List ℕ) (spent more : ℕ) : Type 0 where
     pub counted : get_or ws' 4 0 ≡ spent + more
-    pub ends : (j : ℕ) → 6 ≤ j → j < 8 → get_or ws' j 0 ≡ get_or ws j 0
+    pub ends : (j : ℕ) → 5 ≤ j → j < 8 → get_or ws' j 0 ≡ get_or ws j 0
     pub before : (j : ℕ) → 512 + s.stack ≤ j → j < behind_units spent → get_or ws' j 0 ≡ get_or ws j 0
     pub within : spent + more ≤ s.room
 
   spent-more : (heap heap' : Heap) (ws ws' : List ℕ) (spent more : ℕ) (cells cells' : Storage) → Counted ws ws' spent more → Spent s heap ws spent cells → HeapHeld s heap' (512 + s.stack) (behind_units spent + 2 * more) ws' cells' → Spent s heap' ws' (spent + more) cells'
   spent-more heap heap' ws ws' spent more cells cells' c h held = record {
     counted = c.counted;
+    stack_end_at = c.ends 5 (omega arith) (omega arith) ∙ h.stack_end_at;
     first_at = c.ends 6 (omega arith) (omega arith) ∙ h.first_at;
     end_at = c.ends 7 (omega arith) (omega arith) ∙ h.end_at;
     within = c.within;

@@ -106,6 +106,16 @@ put_frames (f ∷ fs) ns = put_frames fs (put_each f.nodes ns)
 abbrev pub places_in : Action → List Frame → ℕ → PlacedNode
 places_in a fs = place_at (put_frames fs (replicate (length a) nowhere))
 
+-- so many words are put at the numbers of some nodes
+abbrev pub put_words : List PlacedNode → (words : ℕ) → List ℕ → List ℕ
+put_words [] words xs = xs
+put_words (m ∷ ms) words xs = put_words ms words (slice_set xs m.node words)
+
+-- those of each frame at the numbers of its nodes
+abbrev pub put_frame_words : List Frame → List ℕ → List ℕ
+put_frame_words [] xs = xs
+put_frame_words (f ∷ fs) xs = put_frame_words fs (put_words f.nodes f.words xs)
+
 -- the list has the places of all frames, put into a list of so many
 pub record ArePut (count : ℕ) (fs : List Frame) (ns : List PlacedNode) : Type 0 where
   pub start : List PlacedNode

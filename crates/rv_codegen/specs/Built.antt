@@ -1,6 +1,6 @@
 -- Which nodes have code.
 use Rattle.std.specs.Prelude.{ℕ, suc, Bool, true, false, ◌&&◌, if◌then◌else◌, List, [], ◌∷◌}
-use Rattle.action_terms.specs.Actions.{Item, Single, Them, Complete, Failing, Escape, EscapeWith, Commit, Regive, Give, Check, Store, Allocate, Receive, Send, Node, Simple, Both, Phases, Either, Trapping, Action}
+use Rattle.action_terms.specs.Actions.{Item, Single, Them, Complete, Failing, Escape, EscapeWith, Commit, Regive, Give, Check, Store, Allocate, Receive, Send, Node, Simple, Unfolding, Unfold, Both, Phases, Either, Trapping, Action}
 use Rattle.rv_yield.specs.Registers.{is_built}
 
 -- whether the code of data can be generated: that of each yielder of a datum. `them` is moved
@@ -23,6 +23,8 @@ is_built_node (Simple (Store y1 y2)) = is_built y1 && is_built y2
 is_built_node (Simple Allocate) = true
 is_built_node (Simple Receive) = true
 is_built_node (Simple (Send y)) = is_built y
+is_built_node (Unfolding c) = true
+is_built_node (Unfold c) = true
 is_built_node (Both j l r) = true
 is_built_node (Phases q l r) = true
 is_built_node (Either l r) = true

@@ -9,4 +9,6 @@ pub mod GivenItems
 pub mod ItemCode
 pub mod CaughtItems
 pub mod TrapItems
+pub mod AddressItems
+pub mod CallItems
 pub mod StorageItems

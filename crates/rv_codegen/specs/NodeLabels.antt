@@ -68,3 +68,7 @@ stop_of k = first_label + 2 + 4 * k
 -- where the trap k copies what was caught for its handler, or the place behind what node k does with the word that an entry returned
 abbrev pub joint_of : ℕ → ℕ
 joint_of k = first_label + 3 + 4 * k
+
+-- where the bodies of an action of so many nodes go on once they have completed
+abbrev pub return_of : (nodes : ℕ) → ℕ
+return_of nodes = stop_of nodes

@@ -78,7 +78,9 @@ fn is_built(graph: &Graph<'_>, needs: &[usize], k: usize) -> bool
         NodeView::Both { .. }
         | NodeView::Phases { .. }
         | NodeView::Either { .. }
-        | NodeView::Trapping { .. } => true,
+        | NodeView::Trapping { .. }
+        | NodeView::Unfolding { .. }
+        | NodeView::Unfold { .. } => true,
         _ => false,
     }
 }

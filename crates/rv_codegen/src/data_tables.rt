@@ -1,15 +1,18 @@
 //! Where nodes find the data that they are given, and where they leave those that they complete with.
-ghost use Rattle.std.specs.Prelude.{◌≡◌, ℕ, ◌<◌, IfOk, length, map, vec_len};
+ghost use Rattle.std.specs.Prelude.{◌≡◌, ℕ, ◌<◌, IfOk, length, map, replicate, vec_len};
 ghost use Rattle.action_terms.specs.Actions.{node_at};
 ghost use Rattle.action_terms.specs.Meaning.{action_of};
-ghost use Rattle.frame_layout.specs.Places.{placed_node};
-ghost use Rattle.rv_codegen.specs.Aliases.{back_places, front_places, given_in, given_of, handed_to, list_at, lists_of, out_in, out_of, place_at, whole_places};
+ghost use Rattle.action_terms.specs.Performances.{OneOf};
+ghost use Rattle.frame_layout.specs.Places.{Frame, PlacedNode, frames_of, placed_node};
+ghost use Rattle.rv_codegen.specs.Aliases.{back_places, front_places, given_in, given_of, handed_to, list_at, lists_of, out_in, out_of, place_at, put_frame_words, whole_places};
 ghost use Rattle.sort_rules.specs.Procedures.{parts_at};
 
-use crate::node_places::{escaped_rows, own_escaped, own_given, own_out, record_words};
+use crate::node_places::{
+    escaped_rows, frame_words, own_escaped, own_given, own_out, record_words,
+};
 use acg_base::Memory;
 use action_terms::{Chain, Graph, NodeView};
-use frame_layout::NodePlaces;
+use frame_layout::{Layout, NodePlaces};
 use std::alloc::Global;
 
 // the words that a node wants, or its own where these are not as many
@@ -193,19 +196,25 @@ pub(crate) struct DataTables<'a> {
     pub(crate) escaped: Vec<&'a [u32]>,
     /// The first word of the record of each.
     pub(crate) keeps: Vec<u32>,
+    /// How many words the frame of each has.
+    pub(crate) frames: Vec<u32>,
 }
 
-/// The tables of an action, by the places of its nodes, which stand at their numbers.
+/// The tables of an action, by a layout and the places of its nodes, which stand at their numbers.
 pub(crate) fn data_tables<'a>(
     alloc: Global,
     graph: &Graph<'_>,
+    layout: &Layout<'_>,
     places: &[NodePlaces<'a>],
 ) -> Result<DataTables<'a>, Memory>
-    requires { length places.now ≡ length graph.now.nodes }
+    requires places { length places.now ≡ length graph.now.nodes }
+    requires nodes { (f : Frame) → (n : PlacedNode) → OneOf f (frames_of layout.now)
+        → OneOf n f.nodes → n.node < length graph.now.nodes }
     ensures given_count { IfOk result (λ t. vec_len t.given ≡ length graph.now.nodes) }
     ensures out_count { IfOk result (λ t. vec_len t.out ≡ length graph.now.nodes) }
     ensures escaped_count { IfOk result (λ t. vec_len t.escaped ≡ length graph.now.nodes) }
     ensures keeps_count { IfOk result (λ t. vec_len t.keeps ≡ length graph.now.nodes) }
+    ensures frames_count { IfOk result (λ t. vec_len t.frames ≡ length graph.now.nodes) }
     ensures given { IfOk result (λ t. (k : ℕ) → k < length graph.now.nodes
         → list_at (lists_of t.given.items) k
         ≡ given_of (place_at (map placed_node places.now)) (action_of graph.now) k) }
@@ -216,10 +225,13 @@ pub(crate) fn data_tables<'a>(
         ≡ map (λ n. n.escaped) (map placed_node places.now)) }
     ensures keeps { IfOk result (λ t. t.keeps.items
         ≡ map (λ n. n.keep) (map placed_node places.now)) }
+    ensures frames { IfOk result (λ t. t.frames.items
+        ≡ put_frame_words (frames_of layout.now) (replicate (length graph.now.nodes) 0)) }
 {
     let keeps = record_words(alloc, places)?;
     let escaped = escaped_rows(alloc, places)?;
     let count = graph.nodes().len();
+    let frames = frame_words(alloc, layout, count)?;
     let mut given = Vec::with_capacity(alloc, count)?;
     let mut out = Vec::with_capacity(alloc, count)?;
     for node in 0..count {
@@ -235,5 +247,6 @@ pub(crate) fn data_tables<'a>(
         out,
         escaped,
         keeps,
+        frames,
     })
 }

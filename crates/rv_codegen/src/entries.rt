@@ -4,9 +4,10 @@ ghost use Rattle.std.specs.Prelude.{◌≡◌, ◌+◌, ◌*◌, ◌<◌, ◌≤
 ghost use Rattle.rv_asm.specs.Assembly.{total};
 ghost use Rattle.rv_asm.specs.declared.item.Item.TheVariants.{Mark};
 ghost use Rattle.rv_prelude.specs.Items.{entries_from, prelude_items};
-ghost use Rattle.rv_codegen.specs.Blocks.{completed_label, fail_label, escape_label, send_label, receive_label, allocate_label, start_label, end_label, first_label, opening, ending};
+ghost use Rattle.rv_codegen.specs.Blocks.{completed_label, full_label, fail_label, escape_label, send_label, receive_label, allocate_label, start_label, end_label, first_label, opening, ending};
 ghost use Rattle.rv_codegen.specs.Marks.{extended, AreFresh};
 
+use crate::calls::append_return;
 use crate::labels::NodeLabels;
 use acg_base::{Capacity, Memory};
 use rv_asm::{Asm, Label};
@@ -26,6 +27,7 @@ pub(crate) const ARGUMENT: Reg = Reg(10);
 #[derive(Clone, Copy)]
 pub(crate) struct Entries {
     pub(crate) completed: Label,
+    pub(crate) full: Label,
     pub(crate) fail: Label,
     pub(crate) escape: Label,
     pub(crate) send: Label,
@@ -33,6 +35,7 @@ pub(crate) struct Entries {
     pub(crate) allocate: Label,
     pub(crate) end: Label,
     ghost completed_is: { completed ≡ completed_label },
+    ghost full_is: { full ≡ full_label },
     ghost fail_is: { fail ≡ fail_label },
     ghost escape_is: { escape ≡ escape_label },
     ghost send_is: { send ≡ send_label },
@@ -62,6 +65,7 @@ pub(crate) fn append_prelude(asm: &mut Asm, capacity: Capacity) -> Result<Entrie
     asm.place(entries.start);
     Ok(Entries {
         completed: entries.completed,
+        full: entries.full,
         fail: entries.fail,
         escape: entries.escape,
         send: entries.send,
@@ -83,7 +87,8 @@ pub(crate) fn append_opening(asm: &mut Asm, labels: NodeLabels<'_>, k: usize)
     asm.place(labels.start(k));
 }
 
-/// Appends what stands behind the last node, whose number is one below this.
+/// Appends what stands behind the last node, whose number is one below this: the end of the action,
+/// and the way back of bodies.
 pub(crate) fn append_ending(
     asm: &mut Asm,
     labels: NodeLabels<'_>,
@@ -97,6 +102,8 @@ pub(crate) fn append_ending(
 {
     append_opening(asm, labels, nodes);
     asm.jump(entries.completed)?;
+    asm.place(labels.stop(nodes));
+    append_return(asm)?;
     asm.place(entries.end);
     Ok(())
 }

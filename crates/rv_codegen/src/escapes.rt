@@ -23,7 +23,7 @@ use rv_yield::Source;
 
 /// Appends what puts the address of the word at an offset of the frame into the register of
 /// arguments.
-fn append_address(asm: &mut Asm, offset: u32) -> Result<(), Memory>
+pub(crate) fn append_address(asm: &mut Asm, offset: u32) -> Result<(), Memory>
     requires { offset < 33554432 }
     ensures { OnOk result (asm.new ≡ extended asm.old (map Plain (address_items offset))) }
 {
@@ -45,7 +45,7 @@ fn append_address(asm: &mut Asm, offset: u32) -> Result<(), Memory>
 }
 
 /// The first of some words of the frame, or that of the frame itself where there is none.
-fn first_word(words: &[u32]) -> u32
+pub(crate) fn first_word(words: &[u32]) -> u32
     requires { All (λ o. o < 33554432) words.now }
     ensures first { result ≡ slice_index words.now 0 }
     ensures near { result < 33554432 }

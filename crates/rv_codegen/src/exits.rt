@@ -46,7 +46,8 @@ fn set_exits(exits: &mut Vec<Label>, labels: NodeLabels<'_>, graph: &Graph<'_>, 
     }
 }
 
-/// The label where each node goes on, by the number of the node.
+/// The label where each node goes on, by the number of the node. The root goes on behind the last
+/// node, and the bodies of other procedures at the way back.
 pub(crate) fn make_exits(
     alloc: Global,
     graph: &Graph<'_>,
@@ -57,7 +58,8 @@ pub(crate) fn make_exits(
     ensures exits { IfOk result (λ exits. exits.items ≡ exits_of (action_of graph.now)) }
 {
     let count = graph.nodes().len();
-    let mut exits = vec![in alloc; labels.front(count); count]?;
+    let mut exits = vec![in alloc; labels.stop(count); count]?;
+    exits[0] = labels.front(count);
     for k in 0..count {
         set_exits(&mut exits, labels, graph, k);
     }

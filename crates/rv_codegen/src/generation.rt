@@ -46,7 +46,7 @@ fn append_nodes(asm: &mut Asm, plan: Plan<'_, '_, '_>) -> Result<(), Memory>
     ensures items { OnOk result (asm.new
         ≡ extended asm.old (blocks_from (table_words (lists_of plan.entry.given.now)
         (lists_of plan.entry.out.now) (lists_of plan.entry.escaped.now)
-        plan.entry.keeps.now) 0 plan.entry.exits.now
+        plan.entry.keeps.now plan.entry.frames.now) 0 plan.entry.exits.now
         (action_of plan.entry.graph.now))) }
     ensures fresh { OnOk result (AreFresh (length plan.entry.graph.now.nodes) asm.new.items) }
     ensures short { OnOk result
@@ -67,11 +67,11 @@ fn append_action(asm: &mut Asm, plan: Plan<'_, '_, '_>) -> Result<(), Memory>
     ensures items { OnOk result (asm.new ≡ extended asm.old
         (blocks_from (table_words (lists_of plan.entry.given.now)
         (lists_of plan.entry.out.now) (lists_of plan.entry.escaped.now)
-        plan.entry.keeps.now) 0 plan.entry.exits.now
+        plan.entry.keeps.now plan.entry.frames.now) 0 plan.entry.exits.now
         (action_of plan.entry.graph.now)
         ++ ending (length (action_of plan.entry.graph.now)))) }
     ensures short { OnOk result (total asm.new.items
-        ≤ total asm.old.items + 2 + 530 * length (action_of plan.entry.graph.now)
+        ≤ total asm.old.items + 4 + 530 * length (action_of plan.entry.graph.now)
         + 520 * sum_by node_yielder_count (action_of plan.entry.graph.now)) }
 {
     append_nodes(asm, plan)?;
@@ -90,6 +90,7 @@ fn assemble(
     requires out_count { vec_len tables.now.out ≡ length graph.now.nodes }
     requires escaped_count { vec_len tables.now.escaped ≡ length graph.now.nodes }
     requires keeps_count { vec_len tables.now.keeps ≡ length graph.now.nodes }
+    requires frames_count { vec_len tables.now.frames ≡ length graph.now.nodes }
     requires given_reached { (k : ℕ) → AreReached (list_at (lists_of tables.now.given.items) k) }
     requires out_reached { (k : ℕ) → AreReached (list_at (lists_of tables.now.out.items) k) }
     requires escaped_reached { (k : ℕ)
@@ -99,13 +100,13 @@ fn assemble(
     requires units { (1 ≤ capacity.units) × (capacity.units ≤ 4194304) }
     ensures words { IfOk result (λ code. map Some code.words.items
         ≡ map encode (code_of (action_items (table_words (lists_of tables.now.given.items)
-        (lists_of tables.now.out.items) (lists_of tables.now.escaped.items) tables.now.keeps.items) capacity.stack capacity.units (action_of graph.now)))) }
+        (lists_of tables.now.out.items) (lists_of tables.now.escaped.items) tables.now.keeps.items tables.now.frames.items) capacity.stack capacity.units (action_of graph.now)))) }
     ensures labels { OnOk result (LabelsStand (action_items (table_words (lists_of tables.now.given.items)
-        (lists_of tables.now.out.items) (lists_of tables.now.escaped.items) tables.now.keeps.items) capacity.stack capacity.units (action_of graph.now))) }
+        (lists_of tables.now.out.items) (lists_of tables.now.escaped.items) tables.now.keeps.items tables.now.frames.items) capacity.stack capacity.units (action_of graph.now))) }
     ensures short { OnOk result
         (total (action_items (table_words (lists_of tables.now.given.items)
-        (lists_of tables.now.out.items) (lists_of tables.now.escaped.items) tables.now.keeps.items) capacity.stack capacity.units (action_of graph.now))
-        ≤ 4098 + 530 * node_count (action_of graph.now)) }
+        (lists_of tables.now.out.items) (lists_of tables.now.escaped.items) tables.now.keeps.items tables.now.frames.items) capacity.stack capacity.units (action_of graph.now))
+        ≤ 4100 + 530 * node_count (action_of graph.now)) }
     ensures numbers { OnOk result (NumbersFit (action_of graph.now)) }
 {
     let count = graph.nodes().len();
@@ -124,6 +125,7 @@ fn assemble(
         out: &tables.out,
         escaped: &tables.escaped,
         keeps: &tables.keeps,
+        frames: &tables.frames,
         exits: &exits,
         entries: &entries,
     };
@@ -152,12 +154,12 @@ fn assemble_framed(
     ensures short { OnOk result
         (total (framed_items (action_of graph.now) (frames_of layout.now)
         capacity.stack capacity.units)
-        ≤ 4098 + 530 * node_count (action_of graph.now)) }
+        ≤ 4100 + 530 * node_count (action_of graph.now)) }
     ensures numbers { OnOk result (NumbersFit (action_of graph.now)) }
 {
     let count = graph.nodes().len();
     let places = places_by_number(alloc, layout, count)?;
-    let tables = data_tables(alloc, graph, &places)?;
+    let tables = data_tables(alloc, graph, layout, &places)?;
     assemble(alloc, graph, &tables, capacity)
 }
 

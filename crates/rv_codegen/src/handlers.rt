@@ -32,7 +32,7 @@ const FAR: Reg = Reg(5);
 
 /// Appends what copies the words from the address in register 10 on to these words of the frame,
 /// which are in a row: at most 64 of them. An `Err` says want of memory, here and below.
-fn append_catch(asm: &mut Asm, given: &[u32]) -> Result<(), Memory>
+pub(crate) fn append_catch(asm: &mut Asm, given: &[u32]) -> Result<(), Memory>
     requires few { length given.now ≤ 64 }
     requires near { All (λ o. o < 33554432) given.now }
     ensures items { OnOk result (asm.new ≡ appended asm.old (caught_items given.now)) }

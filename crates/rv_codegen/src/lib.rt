@@ -4,6 +4,7 @@
 
 mod arms;
 mod built;
+mod calls;
 mod checks;
 mod commits;
 mod data;

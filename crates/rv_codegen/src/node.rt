@@ -13,6 +13,7 @@ ghost use Rattle.rv_codegen.specs.Marks.{extended, AreFresh, PlacesStop};
 ghost use Rattle.rv_codegen.specs.Built.{is_built_node};
 
 use crate::arms::append_arms;
+use crate::calls::append_calling;
 use crate::checks::append_checking;
 use crate::commits::append_committing;
 use crate::entries::append_opening;
@@ -51,7 +52,7 @@ fn append_primitive(
     ensures items { OnOk result (asm.new ≡ extended asm.old
         (body (table_words (lists_of plan.entry.given.now)
         (lists_of plan.entry.out.now) (lists_of plan.entry.escaped.now)
-        plan.entry.keeps.now) k exit
+        plan.entry.keeps.now plan.entry.frames.now) k exit
         (Simple (primitive_viewed plan.entry.graph.now.yielders primitive.entry)))) }
     ensures marks { OnOk result (PlacesStop k asm.old.items asm.new.items) }
     ensures short { OnOk result (total asm.new.items ≤ total asm.old.items + 530
@@ -100,7 +101,7 @@ fn append_body(asm: &mut Asm, plan: Plan<'_, '_, '_>, k: usize, exit: Label) -> 
     ensures items { OnOk result (asm.new
         ≡ extended asm.old (body (table_words (lists_of plan.entry.given.now)
         (lists_of plan.entry.out.now) (lists_of plan.entry.escaped.now)
-        plan.entry.keeps.now) k exit
+        plan.entry.keeps.now plan.entry.frames.now) k exit
         (node_at (action_of plan.entry.graph.now) k))) }
     ensures marks { OnOk result (PlacesStop k asm.old.items asm.new.items) }
     ensures short { OnOk result (total asm.new.items ≤ total asm.old.items + 530
@@ -127,6 +128,9 @@ fn append_body(asm: &mut Asm, plan: Plan<'_, '_, '_>, k: usize, exit: Label) -> 
             asm.jump(exit)?;
             append_handler(asm, plan, k, right)
         }
+        NodeView::Unfolding { body } | NodeView::Unfold { body } => {
+            append_calling(asm, plan, k, exit, body as usize)
+        }
         _ => Ok(()),
     }
 }
@@ -145,7 +149,7 @@ pub(crate) fn append_node(
     ensures items { OnOk result (asm.new
         ≡ extended asm.old (block (table_words (lists_of plan.entry.given.now)
         (lists_of plan.entry.out.now) (lists_of plan.entry.escaped.now)
-        plan.entry.keeps.now) k exit
+        plan.entry.keeps.now plan.entry.frames.now) k exit
         (node_at (action_of plan.entry.graph.now) k))) }
     ensures fresh { OnOk result (AreFresh (k + 1) asm.new.items) }
     ensures short { OnOk result (total asm.new.items ≤ total asm.old.items + 530

@@ -2,7 +2,7 @@
 ghost use Rattle.std.specs.Prelude.{◌≡◌, ◌<◌, IfOk, ℕ, length, map, replicate, vec_len};
 ghost use Rattle.frame_layout.specs.Places.{Frame, PlacedNode, frames_of, placed_node};
 ghost use Rattle.action_terms.specs.Performances.{OneOf};
-ghost use Rattle.rv_codegen.specs.Aliases.{lists_of, nowhere, place_at, put_each, put_frames};
+ghost use Rattle.rv_codegen.specs.Aliases.{lists_of, nowhere, place_at, put_each, put_frame_words, put_frames, put_words};
 
 use acg_base::Memory;
 use frame_layout::{Layout, NodePlaces};
@@ -105,4 +105,35 @@ pub(crate) fn escaped_rows<'a>(
         rows.push(place.e)?;
     }
     Ok(rows)
+}
+
+// puts so many words at the numbers of some nodes
+fn put_words(list: &mut Vec<u32>, places: &[NodePlaces<'_>], words: u32)
+    requires { (n : PlacedNode) → OneOf n (map placed_node places.now)
+        → n.node < vec_len list.old }
+    ensures words { list.new.items ≡ put_words (map placed_node places.now) words list.old.items }
+    ensures len { vec_len list.new ≡ vec_len list.old }
+{
+    for place in places {
+        list[place.node as usize] = words;
+    }
+}
+
+/// How many words the frame has in which each of so many nodes is performed.
+pub(crate) fn frame_words(
+    alloc: Global,
+    layout: &Layout<'_>,
+    count: usize,
+) -> Result<Vec<u32>, Memory>
+    requires { (f : Frame) → (n : PlacedNode) → OneOf f (frames_of layout.now) → OneOf n f.nodes
+        → n.node < count }
+    ensures words { IfOk result (λ list. list.items
+        ≡ put_frame_words (frames_of layout.now) (replicate count 0)) }
+    ensures len { IfOk result (λ list. vec_len list ≡ count) }
+{
+    let mut list = vec![in alloc; 0; count]?;
+    for procedure in layout.procedures {
+        put_words(&mut list, procedure.places, procedure.words);
+    }
+    Ok(list)
 }

@@ -36,6 +36,8 @@ pub(crate) struct Plan<'a, 'l, 'd> {
     pub(crate) escaped: &'d [&'d [u32]],
     /// The first word of the record of each node, by the number of the node.
     pub(crate) keeps: &'d [u32],
+    /// How many words the frame has in which each node is performed, by the number of the node.
+    pub(crate) frames: &'d [u32],
     /// Where each node goes on, by the number of the node.
     pub(crate) exits: &'a [Label],
     /// The labels of the entries.
@@ -51,6 +53,7 @@ pub(crate) struct Plan<'a, 'l, 'd> {
     ghost escaped_reached: { (k : ℕ) → AreReached (list_at (lists_of escaped.now) k) },
     ghost keeps_count: { length keeps.now ≡ length graph.now.nodes },
     ghost keeps_reached: { (k : ℕ) → slice_index keeps.now k < 33554432 },
+    ghost frames_count: { length frames.now ≡ length graph.now.nodes },
     ghost rows: { length labels.row.now ≡ 4 * length graph.now.nodes + 4 },
     ghost count: { length exits.now ≡ length graph.now.nodes },
     ghost goes_on: { exits.now ≡ exits_of (action_of graph.now) },
@@ -92,5 +95,12 @@ impl<'d> Plan<'_, '_, 'd> {
         ensures near { result < 33554432 }
     {
         self.keeps[k]
+    }
+    /// How many words the frame of node k has.
+    pub(crate) fn frame_at(self, k: usize) -> u32
+        requires { k < length self.graph.now.nodes }
+        ensures { result ≡ slice_index self.entry.frames.now k }
+    {
+        self.frames[k]
     }
 }

@@ -193,3 +193,59 @@ fn instructions_of_a_check_that_fails(rt: HostRuntime) -> Result<(), Fail> {
     );
     Ok(())
 }
+
+/// A call without data: where the new frame begins and ends, two each; the end of the stack; the branch to `full`, which
+/// isn't taken; the address to return to; the frame's first two words; the address of what is given; the frame; the jump
+/// to the body.
+const CALL: u64 = 2 + 2 + 1 + 1 + 2 + 2 + 1 + 1 + 2;
+
+/// The end of its body: the way to the way back, the way back, and behind the call the address of what was left and the
+/// caller's frame.
+const RETURN: u64 = 2 + 2 + (1 + 1);
+
+// unfolding send 1: the way to the exit is a jump over the body, 19 + 14 + 15 + 6 + 2 + 4 = 60
+#[test]
+fn instructions_of_a_call(rt: HostRuntime) -> Result<(), Fail> {
+    let nodes = [
+        action(Kind::Unfolding),
+        action(Kind::Send),
+        yielder(YKind::Number(1)),
+    ];
+    assert_eq!(rt;
+        instructions(&rt, rt.alloc(), &nodes, 0, &[1])?,
+        TO_ROOT + CALL + (1 + SENDING) + RETURN + 2 + COMPLETED
+    );
+    Ok(())
+}
+
+// (give (1, 2) then unfolding regive) then send sum(the given integer # 1, the given integer # 2): of what is given, of
+// what `regive` gives and of what comes back a word takes two: 19 + 4 + (14 + 4) + 4 + (6 + 4) + 2 + 6 + 14 + 4 = 81
+#[test]
+fn instructions_of_a_call_with_data(rt: HostRuntime) -> Result<(), Fail> {
+    let nodes = [
+        action(Kind::Then),
+        action(Kind::Then),
+        action_of(Kind::Give, 2),
+        yielder(YKind::Number(1)),
+        yielder(YKind::Number(2)),
+        action(Kind::Unfolding),
+        action(Kind::Regive),
+        action(Kind::Send),
+        yielder(YKind::Sum),
+        given(1),
+        given(2),
+    ];
+    assert_eq!(rt;
+        instructions(&rt, rt.alloc(), &nodes, 0, &[3])?,
+        TO_ROOT
+            + 2 * (1 + 1)
+            + (CALL + 2 * 2)
+            + 2 * 2
+            + (RETURN + 2 * 2)
+            + 2
+            + (2 + 4)
+            + SENDING
+            + COMPLETED
+    );
+    Ok(())
+}

@@ -11,8 +11,8 @@ use std::test::Fail;
 
 // The words of (send 7 and send -1) and then (complete and fail), for a stack of 1024 words and one unit. They are
 // those that llvm-mc gives for the first instructions, the entries and the blocks written in its notation.
-const WORDS: [u32; 119] = [
-    0x00000197, 0x1dc18193, 0x7ff18193, 0x7ff18193, 0x00118193, 0x00c1d193, 0x00c19193, 0x00001137,
+const WORDS: [u32; 121] = [
+    0x00000197, 0x1e418193, 0x7ff18193, 0x7ff18193, 0x00118193, 0x00c1d193, 0x00c19193, 0x00001137,
     0x00310133, 0x000032b7, 0x00028293, 0x003282b3, 0x0251b423, 0x0251b823, 0x01000313, 0x00530333,
     0x0261bc23, 0x00000f97, 0x160f8067, 0x00000513, 0x05d00893, 0x00000073, 0x00100513, 0x05d00893,
     0x00000073, 0x00200513, 0x05d00893, 0x00000073, 0x00300513, 0x05d00893, 0x00000073, 0x0081b283,
@@ -26,7 +26,8 @@ const WORDS: [u32; 119] = [
     0x0201b283, 0x0301b403, 0x0381b383, 0x00429313, 0x00640433, 0x01040313, 0x0063f663, 0x00000f97,
     0xef4f8067, 0x00128293, 0x0251b023, 0x00043023, 0x00040513, 0x0001b423, 0x00100293, 0x0051bc23,
     0x00008067, 0x00700513, 0x00000097, 0x01008093, 0x00000f97, 0xf50f8067, 0xfff00513, 0x00000097,
-    0x01008093, 0x00000f97, 0xf3cf8067, 0x00000f97, 0xeb0f8067, 0x00000f97, 0xe78f8067,
+    0x01008093, 0x00000f97, 0xf3cf8067, 0x00000f97, 0xeb0f8067, 0x00000f97, 0xe78f8067, 0x00013283,
+    0x00028067,
 ];
 
 #[test]
@@ -57,7 +58,8 @@ fn count_words(rt: &impl Abort, alloc: Global, nodes: &[Pushed<'_>]) -> Result<u
     Ok(code.words.len())
 }
 
-// A chain of three sends has 19 words of first instructions and 86 of entries before it, and a jump behind it. A send
+// A chain of three sends has 19 words of first instructions and 86 of entries before it, and a jump and
+// the way back of bodies, of two words, behind it. A send
 // of a small number has one word for the number, two for the address to return to and two for the jump to the entry,
 // and no jump stands between the parts, however they are grouped.
 #[test]
@@ -74,7 +76,7 @@ fn no_jump_between_sends(rt: HostRuntime) -> Result<(), Fail> {
     ];
     assert_eq!(rt;
         count_words(&rt, rt.alloc(), &to_the_right)?,
-        19 + 86 + 3 * (1 + 2 + 2) + 2
+        19 + 86 + 3 * (1 + 2 + 2) + 2 + 2
     );
 
     let to_the_left = [
@@ -89,7 +91,7 @@ fn no_jump_between_sends(rt: HostRuntime) -> Result<(), Fail> {
     ];
     assert_eq!(rt;
         count_words(&rt, rt.alloc(), &to_the_left)?,
-        19 + 86 + 3 * (1 + 2 + 2) + 2
+        19 + 86 + 3 * (1 + 2 + 2) + 2 + 2
     );
     Ok(())
 }

@@ -16,7 +16,7 @@ returns-clause-items c =
     let a = action_of graph in
     let count = length c.nodes.result.now in
     let same : count ≡ length a = sym (length-map c.nodes.result.now listed_node) ∙ ap length c.nodes.ensures.nodes ∙ sym (length-action_of graph) in
-    let blocks = blocks_from (table_words (lists_of plan.given.now) (lists_of plan.out.now) (lists_of plan.escaped.now) plan.keeps.now) 0 plan.exits.now a in
+    let blocks = blocks_from (table_words (lists_of plan.given.now) (lists_of plan.out.now) (lists_of plan.escaped.now) plan.keeps.now plan.frames.now) 0 plan.exits.now a in
     OnOk-then c.append_ending.result
     (λ e. both-appended c.args.asm.now c.append_nodes.new.asm c.append_ending.new.asm blocks (ending count) (ending (length a)) c.in_ok-append_nodes.ensures.items e (ap ending same))
     c.append_ending.ensures
