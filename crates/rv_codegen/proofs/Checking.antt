@@ -24,6 +24,8 @@ use Rattle.rv_codegen.proofs.Ending.{nothing-done}
 use Rattle.rv_codegen.proofs.FindsGiven.{all-members, finds-given}
 use Rattle.rv_codegen.proofs.Holding.{grows-same}
 use Rattle.rv_codegen.proofs.InputLeft.{left-same}
+use Rattle.rv_codegen.specs.GivenItems.{alone}
+use Rattle.rv_codegen.proofs.NoSlots.{alone-near, no-slots}
 use Rattle.rv_codegen.proofs.Nothing.{built-makes_none, has-words, nothing-did}
 use Rattle.rv_codegen.proofs.Performing.{Did, step-failed}
 use Rattle.rv_codegen.proofs.PieceStands.{PieceStands, piece-stands}
@@ -39,7 +41,7 @@ pub record IsCheckable (y : Yielder) : Type 0 where
   pub fits : YielderFits y
 
 abbrev condition : List ℕ → Yielder → List Item
-condition given y = condition_items given true fail_label fail_label y
+condition given y = condition_items (alone given) true fail_label fail_label y
 
 module _ (s : Setting) where
   module _ (laid : Laid s) (x : Starting s) (y : Yielder) (e : node_at s.action x.k ≡ Simple (Check y)) where
@@ -97,7 +99,7 @@ module _ (s : Setting) where
           let near_given = all-members (λ o. o < 33554432) given (λ o m. omega (arith, inside o m, laid.data_laid.reached x.k h.node)) in
           let at = piece-stands s x.k (condition given y) laid labels within_labels (Simple (Check y)) refl node in
           let suited : IsSuitedPrimitive (Check y) x.d x.b x.world.cells = subst (λ n. IsSuitedNode n x.d x.b x.world.cells) e (laid.data_laid.suits x.steps x.frames x.k x.d x.b x.world x.runs.here.node x.reached).suited in
-          let chosen = condition-comes s.base (code s) (spot s.items) fail_label fail_label (near s laid fail_label) (near s laid fail_label) h.heap given near_given h.f x.d x.b x.world.cells y true ok.built (has-words y ok.fits) suited.0 (omega (arith, registers-enough y ok.few)) suited.1 (start s x.k).place x.state (omega (arith, at.within)) x.runs.at at.code_stands (finds-given s laid x inside) in
+          let chosen = condition-comes s.base (code s) (spot s.items) fail_label fail_label (near s laid fail_label) (near s laid fail_label) h.heap (alone given) (alone-near near_given) h.f x.d x.b x.world.cells y true ok.built (has-words y ok.fits) (no-slots y ok.built x.b) suited.0 (omega (arith, registers-enough y ok.few)) suited.1 (start s x.k).place x.state (omega (arith, at.within)) x.runs.at at.code_stands (finds-given s laid x inside) in
           by at (yields y x.d x.b x.world.cells) refl chosen
         where
           by : Stood → (o : Option Datum) → yields y x.d x.b x.world.cells ≡ o → Chosen s.base (code s) (spot s.items) true (24 * yielder_count y) x.state next (address_of (failure s).place) (address_of (failure s).place) o → StartGoesOn s x

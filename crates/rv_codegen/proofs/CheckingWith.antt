@@ -19,6 +19,8 @@ use Rattle.rv_codegen.specs.Blocks.{fail_label}
 use Rattle.rv_codegen.proofs.FindsGiven.{all-members, finds-given}
 use Rattle.rv_codegen.proofs.GivenItems.{gave-nothing, holds-none}
 use Rattle.rv_codegen.proofs.Giving.{LeavesBehind, LeavesData}
+use Rattle.rv_codegen.specs.GivenItems.{alone}
+use Rattle.rv_codegen.proofs.NoSlots.{alone-near, no-slots}
 use Rattle.rv_codegen.proofs.Nothing.{nothing-did}
 use Rattle.rv_codegen.proofs.Performing.{step-done, step-failed}
 use Rattle.rv_codegen.proofs.RestPoints.{Laid, Starting, StartGoesOn, near, open-run}
@@ -35,7 +37,7 @@ pub record CanCheck (y : Yielder) : Type 0 where
 
 module _ (s : Setting) (laid : Laid s) (x : Starting s) (y : Yielder) (e : node_at s.action x.k ≡ Simple (Check y)) where
   abbrev size : ℕ
-  size = total (condition_items (s.places.given x.k) true fail_label fail_label y)
+  size = total (condition_items (alone (s.places.given x.k)) true fail_label fail_label y)
 
   abbrev next : ℕ
   next = address_of ((start s x.k).place + size)
@@ -66,12 +68,12 @@ module _ (s : Setting) (laid : Laid s) (x : Starting s) (y : Yielder) (e : node_
         step-failed s laid x (silent failed) (subst (λ z. OneOf (silent z) (open_steps s.action x.world (Run x.k x.d x.b))) none (open-checked ok.none_made o is)) refl (nothing-did s laid x limit (omega (arith, paid)) behind.behind_failure a)
 
     -- the node completes with nothing, or it fails
-    pub check-turns : Has (code s) (address_of (start s x.k).place) (code_from (spot s.items) (start s x.k).place (condition_items (s.places.given x.k) true fail_label fail_label y)) → StartGoesOn s x
+    pub check-turns : Has (code s) (address_of (start s x.k).place) (code_from (spot s.items) (start s x.k).place (condition_items (alone (s.places.given x.k)) true fail_label fail_label y)) → StartGoesOn s x
     check-turns stands =
         let given = s.places.given x.k in
         let h = x.runs.here in
         let suited : IsSuited y x.d x.b x.world.cells × IsOfSort sort.Truth (yields y x.d x.b x.world.cells) = subst (λ n. IsSuitedNode n x.d x.b x.world.cells) e suits.suited in
-        let chosen = condition-comes s.base (code s) (spot s.items) fail_label fail_label (near s laid fail_label) (near s laid fail_label) h.heap given (all-members (λ o. o < 33554432) given places.near_given) h.f x.d x.b x.world.cells y true ok.built ok.words suited.0 ok.few suited.1 (start s x.k).place x.state (omega (arith, behind.within, behind.from_is)) x.runs.at stands (finds-given s laid x places.given_inside) in
+        let chosen = condition-comes s.base (code s) (spot s.items) fail_label fail_label (near s laid fail_label) (near s laid fail_label) h.heap (alone given) (alone-near (all-members (λ o. o < 33554432) given places.near_given)) h.f x.d x.b x.world.cells y true ok.built ok.words (no-slots y ok.built x.b) suited.0 ok.few suited.1 (start s x.k).place x.state (omega (arith, behind.within, behind.from_is)) x.runs.at stands (finds-given s laid x places.given_inside) in
         by (yields y x.d x.b x.world.cells) refl chosen
       where
         by : (o : Option Datum) → yields y x.d x.b x.world.cells ≡ o → Chosen s.base (code s) (spot s.items) true limit x.state next (address_of (failure s).place) (address_of (failure s).place) o → StartGoesOn s x

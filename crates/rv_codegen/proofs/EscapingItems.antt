@@ -19,7 +19,7 @@ use Rattle.rv_codegen.specs.Blocks.{escape_label, fail_label}
 use Rattle.rv_codegen.specs.GivenItems.{escape_with_items, give_items, point_items}
 use Rattle.rv_codegen.proofs.AliasWords.{run-once}
 use Rattle.rv_codegen.proofs.EscapingWith.{EscapesBehind, EscapesPlaces, first-inside}
-use Rattle.rv_codegen.proofs.FindsGiven.{all-members, finds-given, frame-inside, has-frame}
+use Rattle.rv_codegen.proofs.FindsGiven.{all-members, finds-given, frame-inside, has-frame, units-behind}
 use Rattle.rv_codegen.proofs.GivenItems.{AreBuilt, Gave, gives-run, holds-length}
 use Rattle.rv_codegen.proofs.Giving.{items-paid}
 use Rattle.rv_codegen.proofs.Holding.{Holds}
@@ -107,6 +107,7 @@ module _ (s : Setting) (laid : Laid s) (x : Starting s) (is : List Item) (e : no
             inside = λ o m. (places.near_escaped o m, frame-inside s laid x o (places.own.inside o m));
             apart = places.apart;
             once = run-once os places.row;
+            below = λ o number place m p. units-behind s laid x o number place (places.own.inside o m) p;
             enough = λ d q. suits.escapes (silent (Ended (Esc d))) d (open-escaped none (Some d) q) refl;
           })
           (record { near = omega (arith, behind.within, behind.from_is, sizes); before = x.runs.at; stands = stands-front (code s) (spot s.items) (start s x.k).place data_items (map Plain (point_items os)) stands })

@@ -1,7 +1,8 @@
 -- The code of items: it leaves their data at offsets of the frame, one behind the other, or the first item that yields nothing has led to a label.
 use Rattle.std.proofs.Common.{◌≡◌, ⊎_elim, ℕ, ◌+◌, ◌*◌, ◌^◌, ◌<◌, ◌≤◌, true, inl, inr, All, List, [], ◌∷◌, ◌++◌, length, map, take, drop, get_or, Option, Some, None, refl, sym, ap, subst, ◌∙◌, arith, append_assoc, length-append, length-take, length-drop, length-set, get_or-set_other, get_or-set_same}
-use Rattle.std.specs.Prelude.{option_map}
+use Rattle.std.specs.Prelude.{option_map, slice_get}
 use Rattle.std.proofs.lemmas.List.{take-append-drop}
+use Rattle.std.proofs.lemmas.List.Elements.{All-nil}
 use Rattle.rv_code.specs.declared.instruction.Inst.{Inst}
 use Rattle.rv_asm.specs.Assembly.{address_of, total}
 use Rattle.rv_asm.specs.DataWords.{Heap, StandsFor}
@@ -19,7 +20,7 @@ use Rattle.action_terms.proofs.AllLaws.{All-member}
 use Rattle.sort_rules.proofs.ActionNumbers.{one_of-first, one_of-second}
 use Rattle.sort_rules.proofs.Choices.{member_cases}
 use Rattle.rv_yield.specs.Evaluates.{Finds, HasCells}
-use Rattle.rv_yield.specs.Holding.{Holds, word_at}
+use Rattle.rv_yield.specs.Holding.{Holds, HoldsContent, word_at}
 use Rattle.rv_yield.specs.Registers.{HasWords, is_built, registers_needed}
 use Rattle.rv_yield.specs.YielderCode.{stored_items, value_items}
 use Rattle.rv_yield.proofs.Evaluation.{value-comes}
@@ -27,9 +28,10 @@ use Rattle.rv_yield.proofs.Steps.{Arrives}
 use Rattle.rv_yield.proofs.Storing.{HasLeft, stored-comes}
 use Rattle.rv_yield.proofs.Targets.{Stands, stands-back, stands-front}
 use Rattle.rv_yield.proofs.Valued.{Known, valued-cases}
-use Rattle.rv_codegen.specs.GivenItems.{give_items, moves_items}
+use Rattle.rv_codegen.specs.GivenItems.{alone, give_items, moves_items}
 use Rattle.rv_codegen.proofs.AliasWords.{IsOnce}
 use Rattle.rv_codegen.proofs.Holding.{holds-append}
+use Rattle.rv_codegen.proofs.NoSlots.{alone-near, no-slots}
 use Rattle.rv_codegen.proofs.MovedWords.{HasWritten, frame-after, holds-elsewhere, moves-run, once-first, once-rest, written-at, written-none, written-then}
 
 -- as many words as data
@@ -104,13 +106,25 @@ module _ (base : ℕ) (code : List Inst) (heap : Heap) (f : ℕ) where
     output = a.output;
   }
 
-  -- what is given is found where nothing of it was written
-  finds-elsewhere : (limit : ℕ) (t given : List ℕ) (c : WordState) (p : ℕ) (d : Data) (a : HasWritten base code f limit t c p) → ((x : ℕ) → OneOf x given → OneOf x t → ⊥) → Finds base heap given f c d → Finds base heap given f a.end d
-  finds-elsewhere limit t given c p d a apart h = record {
+  -- each of these words of the frame lies below all units of cells
+  abbrev pub IsBelowCells : List ℕ → Type 0
+  IsBelowCells os = (o number place : ℕ) → OneOf o os → slice_get heap.cells number ≡ Some place → f + o < place
+
+  -- what a unit holds stays where the words from it on are as before
+  content-kept : (ws ws' : List ℕ) (place : ℕ) (o : Option Datum) → ((j : ℕ) → place ≤ j → get_or ws' j 0 ≡ get_or ws j 0) → HoldsContent base heap ws place o → HoldsContent base heap ws' place o
+  content-kept ws ws' place None same h = same place (omega arith) ∙ h
+  content-kept ws ws' place (Some x) same h = (same place (omega arith) ∙ h.0, subst (λ w. StandsFor base heap w x) (sym (same (place + 1) (omega arith))) h.1)
+
+  -- what is given is found where nothing of it was written, and no unit of a cell
+  finds-elsewhere : (limit : ℕ) (t given : List ℕ) (c : WordState) (p : ℕ) (d : Data) (b : Binds) (cells : Storage) (a : HasWritten base code f limit t c p) → ((x : ℕ) → OneOf x given → OneOf x t → ⊥) → IsBelowCells t → Finds base heap (alone given) f c d b cells → Finds base heap (alone given) f a.end d b cells
+  finds-elsewhere limit t given c p d b cells a apart below h = record {
     frame = frame-after base code f limit t c p a h.frame;
     inside = subst (λ n. All (λ o. f + o < n) given) (sym a.size) h.inside;
+    slots_inside = All-nil (λ s. f + s.offset < length a.end.words);
     holds = holds-elsewhere base heap f t c.words a.end.words a.kept given d apart h.holds;
+    binds = tt;
     cells = subst (HasCells heap) (sym a.size) h.cells;
+    contents = record { many = h.contents.many; content = λ m place o p q. content-kept c.words a.end.words place o (λ j low. a.kept j (λ x k same. omega (arith, below x m place k p, same, low))) (h.contents.content m place o p q) };
   }
 
   module _ (at : ℕ → ℕ) (l : ℕ) (l_near : at l < 2 ^ 28) (given : List ℕ) (near_given : All (λ o. o < 33554432) given) (d : Data) (b : Binds) (cells : Storage) where
@@ -119,6 +133,7 @@ module _ (base : ℕ) (code : List Inst) (heap : Heap) (f : ℕ) where
       pub inside : (o : ℕ) → OneOf o out → (o < 33554432) × (f + o < length c.words)
       pub apart : (x : ℕ) → OneOf x given → OneOf x out → ⊥
       pub once : IsOnce out
+      pub below : IsBelowCells out
       pub enough : (e : Data) → items_yield is d b cells ≡ Some e → length e ≡ length out
 
     -- the code of the items stands in the code, at a place of it
@@ -135,13 +150,13 @@ module _ (base : ℕ) (code : List Inst) (heap : Heap) (f : ℕ) where
 
     -- the rest of the items, behind what was left at the first places
     abbrev Rest : (r : List ℕ) (is : List Item) (n : ℕ) → Type 0
-    Rest r is n = (c : WordState) → HasPlaces r is c → StandsAt r is n c → Finds base heap given f c d → Gave (limit_of r is) r c (next_of r is n) (address_of (at l)) (items_yield is d b cells)
+    Rest r is n = (c : WordState) → HasPlaces r is c → StandsAt r is n c → Finds base heap (alone given) f c d b cells → Gave (limit_of r is) r c (next_of r is n) (address_of (at l)) (items_yield is d b cells)
 
     -- a yielder whose datum is left at the first place
-    single-stored : (y : Yielder) (o : ℕ) (os : List ℕ) (is : List Item) (n : ℕ) (c : WordState) → is_built y ≡ true → HasWords y → registers_needed y ≤ 16 → IsSuited y d b cells → HasPlaces (o ∷ os) (Single y ∷ is) c → StandsAt (o ∷ os) (Single y ∷ is) n c → Finds base heap given f c d
-        → Rest os is (n + total (stored_items given o l y)) → Gave (limit_of (o ∷ os) (Single y ∷ is)) (o ∷ os) c (next_of (o ∷ os) (Single y ∷ is) n) (address_of (at l)) (items_yield (Single y ∷ is) d b cells)
+    single-stored : (y : Yielder) (o : ℕ) (os : List ℕ) (is : List Item) (n : ℕ) (c : WordState) → is_built y ≡ true → HasWords y → registers_needed y ≤ 16 → IsSuited y d b cells → HasPlaces (o ∷ os) (Single y ∷ is) c → StandsAt (o ∷ os) (Single y ∷ is) n c → Finds base heap (alone given) f c d b cells
+        → Rest os is (n + total (stored_items (alone given) o l y)) → Gave (limit_of (o ∷ os) (Single y ∷ is)) (o ∷ os) c (next_of (o ∷ os) (Single y ∷ is) n) (address_of (at l)) (items_yield (Single y ∷ is) d b cells)
     single-stored y o os is n c built words few suited places at_code finds rest =
-        let first = stored_items given o l y in
+        let first = stored_items (alone given) o l y in
         let behind = give_items given os l is in
         let m = n + total first in
         let sizes : total (first ++ behind) ≡ total first + total behind = total-append first behind in
@@ -151,11 +166,11 @@ module _ (base : ℕ) (code : List Inst) (heap : Heap) (f : ℕ) where
         (λ (p : (yields y d b cells ≡ None) × Arrives base code (24 * yielder_count y) 10 10 c (address_of (at l))).
         subst (λ v. Gave (limit_of (o ∷ os) (Single y ∷ is)) (o ∷ os) c (next_of (o ∷ os) (Single y ∷ is) n) (address_of (at l)) (both_data (option_map (λ x. x ∷ []) v) (items_yield is d b cells))) (sym p.0)
         (gave-nothing (24 * yielder_count y) (limit_of (o ∷ os) (Single y ∷ is)) (o ∷ os) c (address_of (at l)) (omega arith) p.1))
-        (stored-comes base code at l l_near heap given near_given f d b cells y built words suited few o n c near_o.0 near_o.1 (omega (arith, at_code.near, sizes)) at_code.before (stands-front code at n first behind at_code.stands) finds)
+        (stored-comes base code at l l_near heap (alone given) (alone-near near_given) f d b cells y built words (no-slots y built b) suited few o n c near_o.0 near_o.1 (omega (arith, at_code.near, sizes)) at_code.before (stands-front code at n first behind at_code.stands) finds)
       where
-        yielded : HasLeft base code heap (24 * yielder_count y) f o c (address_of (n + total (stored_items given o l y))) (yields y d b cells) → Gave (limit_of (o ∷ os) (Single y ∷ is)) (o ∷ os) c (next_of (o ∷ os) (Single y ∷ is) n) (address_of (at l)) (items_yield (Single y ∷ is) d b cells)
+        yielded : HasLeft base code heap (24 * yielder_count y) f o c (address_of (n + total (stored_items (alone given) o l y))) (yields y d b cells) → Gave (limit_of (o ∷ os) (Single y ∷ is)) (o ∷ os) c (next_of (o ∷ os) (Single y ∷ is) n) (address_of (at l)) (items_yield (Single y ∷ is) d b cells)
         yielded p =
-            let first = stored_items given o l y in
+            let first = stored_items (alone given) o l y in
             let behind = give_items given os l is in
             let m = n + total first in
             let sizes : total (first ++ behind) ≡ total first + total behind = total-append first behind in
@@ -175,11 +190,12 @@ module _ (base : ℕ) (code : List Inst) (heap : Heap) (f : ℕ) where
             let word : word_at p.end.words f o ≡ p.word = ap (λ ws. get_or ws (f + o) 0) p.words ∙ get_or-set_same c.words (f + o) p.word 0 near_o.1 in
             let held : Holds base heap p.end.words f (o ∷ []) (p.datum ∷ []) = (subst (λ w. StandsFor base heap w p.datum) (sym word) p.stands, tt) in
             let one : (x : ℕ) → OneOf x (o ∷ []) → x ≡ o = λ x k. elim (member_cases k) [ inl e ↦ e | inr none ↦ elim none [ ] ] in
-            let finds1 = finds-elsewhere (24 * yielder_count y) (o ∷ []) given c (address_of m) d a (λ x k j. places.apart x k (subst (λ z. OneOf z (o ∷ os)) (sym (one x j)) Here)) finds in
+            let finds1 = finds-elsewhere (24 * yielder_count y) (o ∷ []) given c (address_of m) d b cells a (λ x k j. places.apart x k (subst (λ z. OneOf z (o ∷ os)) (sym (one x j)) Here)) (λ x number place k q. places.below x number place (subst (λ z. OneOf z (o ∷ os)) (sym (one x k)) Here) q) finds in
             let places1 : HasPlaces os is p.end = record {
               inside = λ x k. ((places.inside x (Later k)).0, omega (arith, (places.inside x (Later k)).1, a.size));
               apart = λ x k j. places.apart x k (Later j);
               once = once-rest o os places.once;
+              below = λ x number place k q. places.below x number place (Later k) q;
               enough = λ e q. omega (arith, places.enough (p.datum ∷ e) (ap (λ v. both_data (option_map (λ x. x ∷ []) v) (items_yield is d b cells)) p.is ∙ ap (both_data (Some (p.datum ∷ []))) q));
             } in
             let g = rest p.end places1 (record { near = omega (arith, at_code.near, sizes); before = p.at; stands = stands-back code at n first behind at_code.stands }) finds1 in
@@ -190,14 +206,14 @@ module _ (base : ℕ) (code : List Inst) (heap : Heap) (f : ℕ) where
             (subst (λ q. Gave (limit_of os is) os p.end q (address_of (at l)) (items_yield is d b cells)) there g))
 
     -- a yielder whose datum has no place: one of the items behind it yields nothing
-    single-dropped : (y : Yielder) (is : List Item) (n : ℕ) (c : WordState) → is_built y ≡ true → HasWords y → registers_needed y ≤ 16 → IsSuited y d b cells → HasPlaces [] (Single y ∷ is) c → StandsAt [] (Single y ∷ is) n c → Finds base heap given f c d
-        → Rest [] is (n + total (value_items given 10 10 l y)) → Gave (limit_of [] (Single y ∷ is)) [] c (next_of [] (Single y ∷ is) n) (address_of (at l)) (items_yield (Single y ∷ is) d b cells)
+    single-dropped : (y : Yielder) (is : List Item) (n : ℕ) (c : WordState) → is_built y ≡ true → HasWords y → registers_needed y ≤ 16 → IsSuited y d b cells → HasPlaces [] (Single y ∷ is) c → StandsAt [] (Single y ∷ is) n c → Finds base heap (alone given) f c d b cells
+        → Rest [] is (n + total (value_items (alone given) 10 10 l y)) → Gave (limit_of [] (Single y ∷ is)) [] c (next_of [] (Single y ∷ is) n) (address_of (at l)) (items_yield (Single y ∷ is) d b cells)
     single-dropped y is n c built words few suited places at_code finds rest =
-        let first = value_items given 10 10 l y in
+        let first = value_items (alone given) 10 10 l y in
         let behind = give_items given [] l is in
         let m = n + total first in
         let sizes : total (first ++ behind) ≡ total first + total behind = total-append first behind in
-        let value = value-comes base code at l l_near heap given near_given f d b cells y built words suited 10 10 (omega arith) (omega (arith, few)) (inl refl) n c (omega (arith, at_code.near, sizes)) at_code.before (stands-front code at n first behind at_code.stands) finds in
+        let value = value-comes base code at l l_near heap (alone given) (alone-near near_given) f d b cells y built words (no-slots y built b) suited 10 10 (omega arith) (omega (arith, few)) (inl refl) n c (omega (arith, at_code.near, sizes)) at_code.before (stands-front code at n first behind at_code.stands) finds in
         ⊎_elim
         (λ (p : Known base code heap (12 * yielder_count y) 10 10 c (address_of m) (yields y d b cells)). yielded p)
         (λ (p : (yields y d b cells ≡ None) × Arrives base code (12 * yielder_count y) 10 10 c (address_of (at l))).
@@ -205,16 +221,16 @@ module _ (base : ℕ) (code : List Inst) (heap : Heap) (f : ℕ) where
         (gave-nothing (12 * yielder_count y) (limit_of [] (Single y ∷ is)) [] c (address_of (at l)) (omega arith) p.1))
         (valued-cases base code heap (12 * yielder_count y) 10 10 c (address_of m) (address_of (at l)) (yields y d b cells) value)
       where
-        yielded : Known base code heap (12 * yielder_count y) 10 10 c (address_of (n + total (value_items given 10 10 l y))) (yields y d b cells) → Gave (limit_of [] (Single y ∷ is)) [] c (next_of [] (Single y ∷ is) n) (address_of (at l)) (items_yield (Single y ∷ is) d b cells)
+        yielded : Known base code heap (12 * yielder_count y) 10 10 c (address_of (n + total (value_items (alone given) 10 10 l y))) (yields y d b cells) → Gave (limit_of [] (Single y ∷ is)) [] c (next_of [] (Single y ∷ is) n) (address_of (at l)) (items_yield (Single y ∷ is) d b cells)
         yielded p =
-            let first = value_items given 10 10 l y in
+            let first = value_items (alone given) 10 10 l y in
             let behind = give_items given [] l is in
             let m = n + total first in
             let sizes : total (first ++ behind) ≡ total first + total behind = total-append first behind in
             let a = gave-nothing (12 * yielder_count y) (12 * yielder_count y) [] c (address_of m) (omega arith) p.arrives in
             let over : (e : Data) → items_yield is d b cells ≡ Some e → ⊥ = λ e q. absurd (let n = places.enough (p.datum ∷ e) (ap (λ v. both_data (option_map (λ x. x ∷ []) v) (items_yield is d b cells)) p.is ∙ ap (both_data (Some (p.datum ∷ []))) q) in omega (arith, n)) in
-            let finds1 = finds-elsewhere (12 * yielder_count y) [] given c (address_of m) d a (λ x k none. elim none [ ]) finds in
-            let places1 : HasPlaces [] is a.end = record { inside = λ x none. elim none [ ]; apart = λ x k none. elim none [ ]; once = places.once; enough = λ e q. absurd (over e q) } in
+            let finds1 = finds-elsewhere (12 * yielder_count y) [] given c (address_of m) d b cells a (λ x k none. elim none [ ]) (λ x number place none q. elim none [ ]) finds in
+            let places1 : HasPlaces [] is a.end = record { inside = λ x none. elim none [ ]; apart = λ x k none. elim none [ ]; once = places.once; below = λ x number place none q. elim none [ ]; enough = λ e q. absurd (over e q) } in
             let g = rest a.end places1 (record { near = omega (arith, at_code.near, sizes); before = a.at; stands = stands-back code at n first behind at_code.stands }) finds1 in
             let there : next_of [] is m ≡ next_of [] (Single y ∷ is) n = omega (arith, sizes) in
             subst (λ v. Gave (limit_of [] (Single y ∷ is)) [] c (next_of [] (Single y ∷ is) n) (address_of (at l)) (both_data (option_map (λ x. x ∷ []) v) (items_yield is d b cells))) (sym p.is)
@@ -223,7 +239,7 @@ module _ (base : ℕ) (code : List Inst) (heap : Heap) (f : ℕ) where
             (subst (λ q. Gave (limit_of [] is) [] a.end q (address_of (at l)) (items_yield is d b cells)) there g))
 
     -- all that is given is moved to the first places
-    them-moved : (out : List ℕ) (is : List Item) (n : ℕ) (c : WordState) → HasPlaces out (Them ∷ is) c → StandsAt out (Them ∷ is) n c → Finds base heap given f c d
+    them-moved : (out : List ℕ) (is : List Item) (n : ℕ) (c : WordState) → HasPlaces out (Them ∷ is) c → StandsAt out (Them ∷ is) n c → Finds base heap (alone given) f c d b cells
         → Rest (drop (length given) out) is (n + length (moves_items given (take (length given) out))) → Gave (limit_of out (Them ∷ is)) out c (next_of out (Them ∷ is) n) (address_of (at l)) (items_yield (Them ∷ is) d b cells)
     them-moved out is n c places at_code finds rest =
         let t = take (length given) out in
@@ -238,13 +254,14 @@ module _ (base : ℕ) (code : List Inst) (heap : Heap) (f : ℕ) where
         let w = moved.written in
         let to_m : c.pc + 4 * length moves ≡ address_of m = omega (arith, at_code.before) in
         let a = written-at base code f (20 * length t) t c (c.pc + 4 * length moves) (address_of m) to_m w in
-        let finds1 = finds-elsewhere (20 * length t) t given c (address_of m) d a (λ x k j. places.apart x k (take-member (length given) out x j)) finds in
+        let finds1 = finds-elsewhere (20 * length t) t given c (address_of m) d b cells a (λ x k j. places.apart x k (take-member (length given) out x j)) (λ x number place k q. places.below x number place (take-member (length given) out x k) q) finds in
         let whole : length d ≡ length given = holds-length base heap c.words f given d finds.holds in
         let sum : (e : Data) → items_yield is d b cells ≡ Some e → length d + length e ≡ length out = λ e q. omega (arith, length-append d e, places.enough (d ++ e) (ap (both_data (Some d)) q)) in
         let places1 : HasPlaces r is a.end = record {
           inside = λ x k. let p = places.inside x (drop-member (length given) out x k) in (p.0, omega (arith, p.1, w.size));
           apart = λ x k j. places.apart x k (drop-member (length given) out x j);
           once = drop-once (length given) out places.once;
+          below = λ x number place k q. places.below x number place (drop-member (length given) out x k) q;
           enough = λ e q. omega (arith, sum e q, whole, length-drop (length given) out);
         } in
         let g = rest a.end places1 (record { near = omega (arith, at_code.near, sizes); before = a.at; stands = subst (λ k. Stands code at k behind) (let k : n + total first ≡ m = omega (arith, total-plain moves) in k) (stands-back code at n first behind at_code.stands) }) finds1 in
@@ -254,12 +271,12 @@ module _ (base : ℕ) (code : List Inst) (heap : Heap) (f : ℕ) where
         (subst (λ q. Gave (limit_of r is) r a.end q (address_of (at l)) (items_yield is d b cells)) there g)
 
     -- wherever the code of items stands, it leaves their data
-    pub gives-run : (is : List Item) (out : List ℕ) (n : ℕ) (c : WordState) → AreBuilt is → AreSuited is d b cells → HasPlaces out is c → StandsAt out is n c → Finds base heap given f c d → Gave (limit_of out is) out c (next_of out is n) (address_of (at l)) (items_yield is d b cells)
+    pub gives-run : (is : List Item) (out : List ℕ) (n : ℕ) (c : WordState) → AreBuilt is → AreSuited is d b cells → HasPlaces out is c → StandsAt out is n c → Finds base heap (alone given) f c d b cells → Gave (limit_of out is) out c (next_of out is n) (address_of (at l)) (items_yield is d b cells)
     gives-run [] [] n c built suited places at_code finds = (written-none base code f 0 [] c (address_of (n + 0)) (omega (arith, at_code.before)), tt)
     gives-run [] (o ∷ out) n c built suited places at_code finds = absurd (let e = places.enough [] refl in omega (arith, e))
     gives-run (Single y ∷ is) [] n c built suited places at_code finds =
-        single-dropped y is n c built.0 built.1 built.2 suited.0 places at_code finds (λ e places1 at1 finds1. gives-run is [] (n + total (value_items given 10 10 l y)) e built.3 suited.1 places1 at1 finds1)
+        single-dropped y is n c built.0 built.1 built.2 suited.0 places at_code finds (λ e places1 at1 finds1. gives-run is [] (n + total (value_items (alone given) 10 10 l y)) e built.3 suited.1 places1 at1 finds1)
     gives-run (Single y ∷ is) (o ∷ out) n c built suited places at_code finds =
-        single-stored y o out is n c built.0 built.1 built.2 suited.0 places at_code finds (λ e places1 at1 finds1. gives-run is out (n + total (stored_items given o l y)) e built.3 suited.1 places1 at1 finds1)
+        single-stored y o out is n c built.0 built.1 built.2 suited.0 places at_code finds (λ e places1 at1 finds1. gives-run is out (n + total (stored_items (alone given) o l y)) e built.3 suited.1 places1 at1 finds1)
     gives-run (Them ∷ is) out n c built suited places at_code finds =
         them-moved out is n c places at_code finds (λ e places1 at1 finds1. gives-run is (drop (length given) out) (n + length (moves_items given (take (length given) out))) e built suited places1 at1 finds1)

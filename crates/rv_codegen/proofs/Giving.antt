@@ -15,7 +15,7 @@ use Rattle.rv_codegen.specs.Blocks.{fail_label}
 use Rattle.rv_codegen.specs.GivenItems.{give_items, moves_items}
 use Rattle.rv_codegen.proofs.AliasWords.{IsOnce}
 use Rattle.rv_codegen.proofs.Around.{BindsLeft}
-use Rattle.rv_codegen.proofs.FindsGiven.{all-members, finds-given, frame-inside}
+use Rattle.rv_codegen.proofs.FindsGiven.{all-members, finds-given, frame-inside, units-behind}
 use Rattle.rv_codegen.proofs.GivenItems.{AreBuilt, Gave, gives-run, holds-length}
 use Rattle.rv_codegen.proofs.MovedWords.{moves-run}
 use Rattle.rv_codegen.proofs.Nothing.{moves-on}
@@ -104,7 +104,7 @@ module _ (s : Setting) (laid : Laid s) (x : Starting s) where
         let enough : (d : Data) → yielded ≡ Some d → length d ≡ length out = λ d q. suits.completes (silent (Ended (Done d NoBinds))) d NoBinds (open-gave none (Some d) q) refl in
         gave-goes none places behind
         (gives-run s.base (code s) x.runs.here.heap x.runs.here.f (spot s.items) fail_label (near s laid fail_label) given (all-members (λ o. o < 33554432) given places.near_given) x.d x.b x.world.cells is out (start s x.k).place x.state built suited
-        (record { inside = out-inside places; apart = places.apart; once = places.once; enough = enough })
+        (record { inside = out-inside places; apart = places.apart; once = places.once; below = λ o number place m p. units-behind s laid x o number place (places.own.inside o m) p; enough = enough })
         (record { near = omega (arith, behind.within, behind.from_is); before = x.runs.at; stands = stands })
         (finds-given s laid x places.given_inside))
 

@@ -14,7 +14,7 @@ use Rattle.rv_yield.specs.YielderCode.{load_items, store_items, stored_items}
 use Rattle.rv_yield.proofs.ItemLaws.{AreQuiet, IsShort, none-short, quiet-append, quiet-load, quiet-store, short-append, unmarked-plain, value-short}
 use Rattle.rv_yield.proofs.Stored.{length-store}
 use Rattle.rv_yield.proofs.Targets.{some-count}
-use Rattle.rv_codegen.specs.GivenItems.{give_items, move_items, moves_items, point_items, single_items}
+use Rattle.rv_codegen.specs.GivenItems.{alone, give_items, move_items, moves_items, point_items, single_items}
 use Rattle.rv_codegen.specs.ItemCode.{AreReached}
 use Rattle.rv_codegen.proofs.MovedWords.{length-moves}
 
@@ -33,13 +33,13 @@ moves-short xs os near_x near_o = record {
   unmarked = unmarked-plain (moves_items xs os) (quiet-moves xs os);
 }
 
-stored-short : (given : List ℕ) (o l : ℕ) (y : Yielder) → IsShort (22 * yielder_count y) (stored_items given o l y)
+stored-short : (given : List ℕ) (o l : ℕ) (y : Yielder) → IsShort (22 * yielder_count y) (stored_items (alone given) o l y)
 stored-short given o l y =
-    short-append (12 * yielder_count y) 10 (22 * yielder_count y) _ _ (omega (arith, some-count y)) (value-short given y 10 10 l)
+    short-append (12 * yielder_count y) 10 (22 * yielder_count y) _ _ (omega (arith, some-count y)) (value-short (alone given) y 10 10 l)
     (record { few = omega (arith, total-plain (store_items o), length-store o); unmarked = unmarked-plain (store_items o) (quiet-store o) })
 
 single-short : (given out : List ℕ) (l : ℕ) (y : Yielder) → IsShort (520 * yielder_count y) (single_items given out l y)
-single-short given [] l y = let s = value-short given y 10 10 l in record { few = omega (arith, s.few); unmarked = s.unmarked }
+single-short given [] l y = let s = value-short (alone given) y 10 10 l in record { few = omega (arith, s.few); unmarked = s.unmarked }
 single-short given (o ∷ out) l y = let s = stored-short given o l y in record { few = omega (arith, s.few); unmarked = s.unmarked }
 
 take-reached : (n : ℕ) (os : List ℕ) → AreReached os → AreReached (take n os)

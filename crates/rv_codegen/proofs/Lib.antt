@@ -100,6 +100,7 @@ pub mod Receiving
 pub mod OperandRegisters
 pub mod CellWritten
 pub mod Storing
+pub mod NoSlots
 pub mod CallCode
 pub mod CalledItems
 pub mod FrameWords

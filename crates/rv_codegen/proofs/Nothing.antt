@@ -5,7 +5,7 @@ use Rattle.rv_asm.specs.Assembly.{address_of}
 use Rattle.rv_asm.specs.WordMachine.{WordState, Goes, run_words}
 use Rattle.rv_asm.proofs.Places.{and-true}
 use Rattle.rv_asm.proofs.Stretches.{quiet-between}
-use Rattle.action_terms.specs.Actions.{Yielder, NumberLiteral, TruthLiteral, Given, GivenAt, OnTwo, OnOne}
+use Rattle.action_terms.specs.Actions.{Yielder, NumberLiteral, TruthLiteral, Given, GivenAt, StoredIn, OnTwo, OnOne}
 use Rattle.action_terms.specs.Literals.{YielderFits}
 use Rattle.action_terms.specs.Frames.{plugged}
 use Rattle.action_terms.specs.Steps.{silent, failed, closures_in}
@@ -26,6 +26,7 @@ built-makes_none (NumberLiteral z) built = refl
 built-makes_none (TruthLiteral t) built = refl
 built-makes_none (Given sort) built = refl
 built-makes_none (GivenAt sort place) built = refl
+built-makes_none (StoredIn sort y) built = built-makes_none y built
 built-makes_none (OnTwo f y1 y2) built =
     let q = and-true (is_built y1) (is_built y2) built in
     rw (built-makes_none y1 q.0, built-makes_none y2 q.1) refl
@@ -37,6 +38,7 @@ pub has-words : (y : Yielder) → YielderFits y → HasWords y
 has-words (NumberLiteral z) fits = fits
 has-words (OnTwo f y1 y2) fits = (has-words y1 fits.0, has-words y2 fits.1)
 has-words (OnOne f y) fits = has-words y fits
+has-words (StoredIn sort y) fits = has-words y fits
 has-words _ fits = tt
 
 -- a run from one place to another, further in front, has an instruction

@@ -37,6 +37,8 @@ use Rattle.rv_codegen.proofs.InputLeft.{left-same}
 use Rattle.rv_prelude.proofs.Jumps.{jumped, jump-runs, addressed, address-runs}
 use Rattle.rv_codegen.proofs.Nothing.{built-makes_none, has-words, nothing-did}
 use Rattle.rv_codegen.proofs.Messages.{bytes_of-message, messages_bytes-append}
+use Rattle.rv_codegen.specs.GivenItems.{alone}
+use Rattle.rv_codegen.proofs.NoSlots.{alone-near, no-slots}
 use Rattle.rv_codegen.proofs.Performing.{Did, step-failed}
 use Rattle.rv_codegen.proofs.RestPoints.{Laid, Starting, StartGoesOn, near, open-run}
 use Rattle.rv_codegen.proofs.SendEntry.{send_code, send_entry-runs}
@@ -55,8 +57,8 @@ module _ (s : Setting) where
   -- what stands in the code of node k, which sends what a yielder yields: the yielder's code, and the call of the entry
   record Calls (k : ℕ) (y : Yielder) : Type 0 where
     call : ℕ
-    value : Has (code s) (address_of (start s k).place) (code_from (spot s.items) (start s k).place (value_items (s.places.given k) 10 10 fail_label y))
-    behind_value : call ≡ (start s k).place + total (value_items (s.places.given k) 10 10 fail_label y)
+    value : Has (code s) (address_of (start s k).place) (code_from (spot s.items) (start s k).place (value_items (alone (s.places.given k)) 10 10 fail_label y))
+    behind_value : call ≡ (start s k).place + total (value_items (alone (s.places.given k)) 10 10 fail_label y)
     within : call + 2 < 2 ^ 28
     back : Has (code s) (address_of call) (far_address 1 call (stop s k).place)
     enter : Has (code s) (address_of (call + 2)) (far_jump (call + 2) (point s send_label).place)
@@ -64,7 +66,7 @@ module _ (s : Setting) where
 
   calls-stand : Laid s → LabelsStand s.items → (k : ℕ) (y : Yielder) (n : ℕ) (behind : List Item) → spot s.items (start_of k) ≡ n → stop_of k < s.labels → Cursor s.items n ((sends (s.places.given k) k y ++ leaves k (get_or s.exits k 0)) ++ (opening (suc k) ++ behind)) → Calls k y
   calls-stand laid labels k y n behind here within c =
-      let value = value_items (s.places.given k) 10 10 fail_label y in
+      let value = value_items (alone (s.places.given k)) 10 10 fail_label y in
       let rest = leaves k (get_or s.exits k 0) ++ (opening (suc k) ++ behind) in
       let tail = Address 1 (stop_of k) ∷ Jump send_label ∷ Mark (stop_of k) ∷ rest in
       let same : (sends (s.places.given k) k y ++ leaves k (get_or s.exits k 0)) ++ (opening (suc k) ++ behind) ≡ value ++ tail =
@@ -201,13 +203,13 @@ module _ (s : Setting) where
               let inside = λ (o : ℕ) (m : OneOf o given). laid.data_laid.given_within k o h.node m in
               let near_given = all-members (λ o. o < 33554432) given (λ o m. omega (arith, inside o m, laid.data_laid.reached k h.node)) in
               let calls = calls-stand laid labels k y stands.place stands.behind stands.opened.start within stands.opened.cursor in
-              let size = total (value_items given 10 10 fail_label y) in
+              let size = total (value_items (alone given) 10 10 fail_label y) in
               let next : address_of ((start s k).place + size) ≡ address_of calls.call = ap address_of (sym calls.behind_value) in
               let less : (failure s).place < (start s k).place = omega (arith, stands.opened.start, stands.behind_failure) in
               let v = yields y x.d x.b x.world.cells in
               let suited : IsSuitedPrimitive (Send y) x.d x.b x.world.cells = subst (λ n. IsSuitedNode n x.d x.b x.world.cells) e (laid.data_laid.suits x.steps x.frames k x.d x.b x.world x.runs.here.node x.reached).suited in
               let outcome =
-              value-comes s.base (code s) (spot s.items) fail_label (near s laid fail_label) h.heap given near_given h.f x.d x.b x.world.cells y ok.built (has-words y ok.fits) suited.0 10 10 (omega arith) (omega (arith, registers-enough y ok.few)) (inl refl) (start s k).place x.state (omega (arith, calls.within, calls.behind_value)) x.runs.at calls.value (finds-given s laid x inside) in
+              value-comes s.base (code s) (spot s.items) fail_label (near s laid fail_label) h.heap (alone given) (alone-near near_given) h.f x.d x.b x.world.cells y ok.built (has-words y ok.fits) (no-slots y ok.built x.b) suited.0 10 10 (omega arith) (omega (arith, registers-enough y ok.few)) (inl refl) (start s k).place x.state (omega (arith, calls.within, calls.behind_value)) x.runs.at calls.value (finds-given s laid x inside) in
               ⊎_elim
               (λ (q : Known s.base (code s) h.heap (12 * yielder_count y) 10 10 x.state (address_of calls.call) v).
               let p = present (address_of calls.call) q suited.1 in

@@ -41,6 +41,8 @@ use Rattle.rv_codegen.proofs.FindsGiven.{all-members, finds-given, words-many}
 use Rattle.rv_codegen.proofs.Holding.{grows-same}
 use Rattle.rv_codegen.proofs.InputLeft.{left-same}
 use Rattle.rv_codegen.proofs.Nothing.{built-makes_none, has-words, nothing-did}
+use Rattle.rv_codegen.specs.GivenItems.{alone}
+use Rattle.rv_codegen.proofs.NoSlots.{alone-near, no-slots}
 use Rattle.rv_codegen.proofs.OperandRegisters.{earlier-room, later-room}
 use Rattle.rv_codegen.proofs.Performing.{Did, step-failed}
 use Rattle.rv_codegen.proofs.PieceStands.{PieceStands, piece-stands}
@@ -227,8 +229,8 @@ module _ (s : Setting) (laid : Laid s) (x : Starting s) (y1 y2 : Yielder) (e : n
         let h = x.runs.here in
         let more = ltb-false _ _ q in
         let last = map Plain (put_word 10 11 ++ commit) in
-        let i1 = value_items given 10 10 fail_label y1 in
-        let i2 = value_items given 11 11 fail_label y2 in
+        let i1 = value_items (alone given) 10 10 fail_label y1 in
+        let i2 = value_items (alone given) 11 11 fail_label y2 in
         let is : puts given y1 y2 ≡ i1 ++ (i2 ++ last) = rw q refl in
         let at = spot s.items in
         let n0 = (start s x.k).place in
@@ -237,9 +239,9 @@ module _ (s : Setting) (laid : Laid s) (x : Starting s) (y1 y2 : Yielder) (e : n
         let all : Has (code s) (address_of n0) (code_from at n0 (i1 ++ (i2 ++ last))) = subst (λ z. Has (code s) (address_of n0) (code_from at n0 z)) is stands.code_stands in
         let near_given = all-members (λ o. o < 33554432) given near-given in
         let fail_near = near s laid fail_label in
-        let outcome = operands-known s.base (code s) at fail_label fail_near h.heap given near_given h.f x.d x.b x.world.cells 10 (omega arith) y1 y2 last
-        (value-comes s.base (code s) at fail_label fail_near h.heap given near_given h.f x.d x.b x.world.cells y1 ok.datum_built (has-words y1 ok.datum_fits) suited.0 10 10 (omega arith) (earlier-room y1 y2 ok.few) (inl refl))
-        (value-comes s.base (code s) at fail_label fail_near h.heap given near_given h.f x.d x.b x.world.cells y2 ok.cell_built (has-words y2 ok.cell_fits) suited.1 11 11 (omega arith) (later-room y1 y2 ok.few more) (inl refl))
+        let outcome = operands-known s.base (code s) at fail_label fail_near h.heap (alone given) (alone-near near_given) h.f x.d x.b x.world.cells 10 (omega arith) y1 y2 last
+        (value-comes s.base (code s) at fail_label fail_near h.heap (alone given) (alone-near near_given) h.f x.d x.b x.world.cells y1 ok.datum_built (has-words y1 ok.datum_fits) (no-slots y1 ok.datum_built x.b) suited.0 10 10 (omega arith) (earlier-room y1 y2 ok.few) (inl refl))
+        (value-comes s.base (code s) at fail_label fail_near h.heap (alone given) (alone-near near_given) h.f x.d x.b x.world.cells y2 ok.cell_built (has-words y2 ok.cell_fits) (no-slots y2 ok.cell_built x.b) suited.1 11 11 (omega arith) (later-room y1 y2 ok.few more) (inl refl))
         n0 x.state (omega (arith, stands.within, ap total is)) x.runs.at all (finds-given s laid x given-inside) in
         let has : Has (code s) (address_of m) (put_word 10 11 ++ commit) = subst (Has (code s) (address_of m)) (code_from-plain at m (put_word 10 11 ++ commit)) (stands-back (code s) at (n0 + total i1) i2 last (stands-back (code s) at n0 i1 (i2 ++ last) all)) in
         ⊎_elim
@@ -255,8 +257,8 @@ module _ (s : Setting) (laid : Laid s) (x : Starting s) (y1 y2 : Yielder) (e : n
         let h = x.runs.here in
         let more = ltb-true _ _ q in
         let last = map Plain (put_word 11 10 ++ commit) in
-        let i2 = value_items given 10 10 fail_label y2 in
-        let i1 = value_items given 11 11 fail_label y1 in
+        let i2 = value_items (alone given) 10 10 fail_label y2 in
+        let i1 = value_items (alone given) 11 11 fail_label y1 in
         let is : puts given y1 y2 ≡ i2 ++ (i1 ++ last) = rw q refl in
         let at = spot s.items in
         let n0 = (start s x.k).place in
@@ -266,9 +268,9 @@ module _ (s : Setting) (laid : Laid s) (x : Starting s) (y1 y2 : Yielder) (e : n
         let near_given = all-members (λ o. o < 33554432) given near-given in
         let fail_near = near s laid fail_label in
         let few : yielder_count y2 + yielder_count y1 < 65536 = omega (arith, ok.few) in
-        let outcome = operands-known s.base (code s) at fail_label fail_near h.heap given near_given h.f x.d x.b x.world.cells 10 (omega arith) y2 y1 last
-        (value-comes s.base (code s) at fail_label fail_near h.heap given near_given h.f x.d x.b x.world.cells y2 ok.cell_built (has-words y2 ok.cell_fits) suited.1 10 10 (omega arith) (earlier-room y2 y1 few) (inl refl))
-        (value-comes s.base (code s) at fail_label fail_near h.heap given near_given h.f x.d x.b x.world.cells y1 ok.datum_built (has-words y1 ok.datum_fits) suited.0 11 11 (omega arith) (later-room y2 y1 few (omega (arith, more))) (inl refl))
+        let outcome = operands-known s.base (code s) at fail_label fail_near h.heap (alone given) (alone-near near_given) h.f x.d x.b x.world.cells 10 (omega arith) y2 y1 last
+        (value-comes s.base (code s) at fail_label fail_near h.heap (alone given) (alone-near near_given) h.f x.d x.b x.world.cells y2 ok.cell_built (has-words y2 ok.cell_fits) (no-slots y2 ok.cell_built x.b) suited.1 10 10 (omega arith) (earlier-room y2 y1 few) (inl refl))
+        (value-comes s.base (code s) at fail_label fail_near h.heap (alone given) (alone-near near_given) h.f x.d x.b x.world.cells y1 ok.datum_built (has-words y1 ok.datum_fits) (no-slots y1 ok.datum_built x.b) suited.0 11 11 (omega arith) (later-room y2 y1 few (omega (arith, more))) (inl refl))
         n0 x.state (omega (arith, stands.within, ap total is)) x.runs.at all (finds-given s laid x given-inside) in
         let has : Has (code s) (address_of m) (put_word 11 10 ++ commit) = subst (Has (code s) (address_of m)) (code_from-plain at m (put_word 11 10 ++ commit)) (stands-back (code s) at (n0 + total i2) i1 last (stands-back (code s) at n0 i2 (i1 ++ last) all)) in
         ⊎_elim

@@ -15,7 +15,7 @@ pub use Rattle.rv_codegen.specs.AddressItems.{address_items}
 use Rattle.rv_codegen.specs.CallItems.{call_items, fetch_items, return_items}
 use Rattle.rv_codegen.specs.TrapItems.{traps}
 use Rattle.rv_codegen.specs.StorageItems.{fetches, stores}
-use Rattle.rv_codegen.specs.GivenItems.{escape_with_items, give_items, moves_items}
+use Rattle.rv_codegen.specs.GivenItems.{alone, escape_with_items, give_items, moves_items}
 
 -- ---- nodes
 
@@ -50,7 +50,7 @@ leaves k exit = goes (front_of (suc k)) exit
 
 -- sends the integer of a yielder by the entry that sends, which commits; where the yielder yields nothing, this goes to the entry for failures
 abbrev pub sends : (given : List ℕ) → (k : ℕ) → Yielder → List Item
-sends given k y = value_items given 10 10 fail_label y ++ (Address 1 (stop_of k) ∷ Jump send_label ∷ Mark (stop_of k) ∷ [])
+sends given k y = value_items (alone given) 10 10 fail_label y ++ (Address 1 (stop_of k) ∷ Jump send_label ∷ Mark (stop_of k) ∷ [])
 
 -- closes every open alternative
 abbrev pub commits : (k : ℕ) → List Item
@@ -58,7 +58,7 @@ commits k = map Plain commit ++ Mark (stop_of k) ∷ []
 
 -- goes on where a yielder yields `true`, and else to the entry for failures
 abbrev pub checks : (given : List ℕ) → (k : ℕ) → Yielder → List Item
-checks given k y = condition_items given true fail_label fail_label y ++ Mark (stop_of k) ∷ []
+checks given k y = condition_items (alone given) true fail_label fail_label y ++ Mark (stop_of k) ∷ []
 
 -- leaves data; where one of their items yields nothing, this goes to the entry for failures
 abbrev pub gives : (given out : List ℕ) → (k : ℕ) → List DataItem → List Item

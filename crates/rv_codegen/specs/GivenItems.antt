@@ -9,8 +9,13 @@ use Rattle.rv_asm.specs.Pieces.{load_constant}
 use Rattle.rv_asm.specs.declared.item.Item.{Item}
 use Rattle.rv_asm.specs.declared.item.Item.TheVariants.{Plain}
 use Rattle.action_terms.specs.Actions.{Item as DataItem, Single, Them, Yielder}
+use Rattle.rv_yield.specs.Holding.{Places}
 use Rattle.rv_yield.specs.Registers.{first_register}
 use Rattle.rv_yield.specs.YielderCode.{load_items, store_items, stored_items, value_items}
+
+-- where a yielder finds what is given, where no token has a slot
+abbrev pub alone : (given : List ℕ) → Places
+alone given = record { given = given; bound = [] }
 
 -- the word at an offset of the frame goes to another offset, through register 10
 abbrev pub move_items : (from to : ℕ) → List Inst
@@ -24,8 +29,8 @@ moves_items (x ∷ from) (o ∷ to) = move_items x o ++ moves_items from to
 
 -- the datum of a yielder is left at the first of these offsets. Where there are none, it is not kept
 abbrev pub single_items : (given out : List ℕ) → (nothing : ℕ) → Yielder → List Item
-single_items given [] nothing y = value_items given first_register first_register nothing y
-single_items given (o ∷ out) nothing y = stored_items given o nothing y
+single_items given [] nothing y = value_items (alone given) first_register first_register nothing y
+single_items given (o ∷ out) nothing y = stored_items (alone given) o nothing y
 
 -- the data of items are left at these offsets, one behind the other; where one yields nothing, the code goes to the label `nothing`
 abbrev pub give_items : (given out : List ℕ) → (nothing : ℕ) → List DataItem → List Item

@@ -10,6 +10,7 @@ use Rattle.action_terms.specs.Actions.{Yielder}
 use Rattle.rv_prelude.specs.Pieces.{commit}
 use Rattle.rv_yield.specs.Registers.{registers_needed, first_register}
 use Rattle.rv_yield.specs.YielderCode.{in_order, store_items, value_items}
+use Rattle.rv_codegen.specs.GivenItems.{alone}
 use Rattle.rv_codegen.specs.NodeLabels.{fail_label, stop_of, joint_of}
 
 -- ---- a word from an entry
@@ -34,8 +35,8 @@ put_word value cell = OpImm Addi 5 0 (pos 1) ∷ Store Sd cell 5 (pos 0) ∷ Sto
 abbrev pub puts : (given : List ℕ) → (datum cell : Yielder) → List Item
 puts given datum cell =
     in_order (nat_lt (registers_needed datum) (registers_needed cell)) first_register
-    (value_items given 10 10 fail_label datum) (value_items given 11 11 fail_label datum)
-    (value_items given 10 10 fail_label cell) (value_items given 11 11 fail_label cell)
+    (value_items (alone given) 10 10 fail_label datum) (value_items (alone given) 11 11 fail_label datum)
+    (value_items (alone given) 10 10 fail_label cell) (value_items (alone given) 11 11 fail_label cell)
     (λ a b. map Plain (put_word a b ++ commit))
 
 -- the code of node k, which stores the datum of a yielder in the cell of another; where one of them yields nothing, this goes to the entry for failures

@@ -42,6 +42,7 @@ fn append_checks(
         graph: plan.graph,
         needs: plan.needs,
         given: plan.given_at(k),
+        bound: &[],
         nothing: fail,
     };
     condition_code(plan.alloc, asm, &source, yielder, fail)?;

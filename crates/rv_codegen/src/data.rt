@@ -7,7 +7,8 @@ ghost use Rattle.action_terms.specs.Need.{items_yielder_count, yielder_count};
 ghost use Rattle.action_terms.specs.Numbering.{node_limit};
 ghost use Rattle.rv_yield.specs.Registers.{is_built};
 ghost use Rattle.rv_codegen.specs.Built.{are_built};
-ghost use Rattle.rv_codegen.specs.GivenItems.{give_items, move_items, moves_items, single_items};
+ghost use Rattle.rv_yield.specs.Sources.{places_of};
+ghost use Rattle.rv_codegen.specs.GivenItems.{alone, give_items, move_items, moves_items, single_items};
 ghost use Rattle.rv_codegen.specs.ItemCode.{item_code, item_words};
 ghost use Rattle.rv_codegen.specs.Marks.{extended};
 
@@ -74,6 +75,7 @@ fn append_single<'a>(
     requires built { is_built (yielder_at source.now.graph.now.yielders yielder) ≡ true }
     requires few { yielder_count (yielder_at source.now.graph.now.yielders yielder) < node_limit }
     requires near_out { All (λ o. o < 33554432) out.now }
+    requires alone { places_of source.now ≡ alone source.now.given.now }
     requires label { source.now.nothing < asm.old.labels }
     ensures items { OnOk result (asm.new ≡ extended asm.old (single_items source.now.given.now
         out.now source.now.nothing (yielder_at source.now.graph.now.yielders yielder))) }
@@ -100,6 +102,7 @@ fn append_item<'a>(
     requires few { items_yielder_count (item_at source.now.graph.now.yielders item ∷ [])
         < node_limit }
     requires near_out { All (λ o. o < 33554432) out.now }
+    requires alone { places_of source.now ≡ alone source.now.given.now }
     requires label { source.now.nothing < asm.old.labels }
     ensures items { OnOk result (asm.new ≡ extended asm.old (item_code source.now.given.now
         out.now source.now.nothing (item_at source.now.graph.now.yielders item))) }
@@ -125,6 +128,7 @@ pub(crate) fn append_data(
     requires few { items_yielder_count (items_at source.now.graph.now.yielders items.now)
         < node_limit }
     requires near_out { All (λ o. o < 33554432) out.now }
+    requires alone { places_of source.now ≡ alone source.now.given.now }
     requires label { source.now.nothing < asm.old.labels }
     ensures { OnOk result (asm.new ≡ extended asm.old (give_items source.now.given.now out.now
         source.now.nothing (items_at source.now.graph.now.yielders items.now))) }

@@ -117,6 +117,7 @@ fn append_row(asm: &mut Asm, plan: Plan<'_, '_, '_>, k: usize, items: &[u32]) ->
         graph: plan.graph,
         needs: plan.needs,
         given: plan.given_at(k),
+        bound: &[],
         nothing,
     };
     append_data(plan.alloc, asm, &source, escaped, items)?;

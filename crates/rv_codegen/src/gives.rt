@@ -44,6 +44,7 @@ fn append_gives(
         graph: plan.graph,
         needs: plan.needs,
         given: plan.given_at(k),
+        bound: &[],
         nothing,
     };
     append_data(plan.alloc, asm, &source, plan.out_at(k), items)?;

@@ -39,6 +39,7 @@ fn append_sends(asm: &mut Asm, plan: Plan<'_, '_, '_>, k: usize, yielder: u32) -
         graph: plan.graph,
         needs: plan.needs,
         given: plan.given_at(k),
+        bound: &[],
         nothing: plan.entries.fail,
     };
     value_code(plan.alloc, asm, &source, yielder, ARGUMENT)?;

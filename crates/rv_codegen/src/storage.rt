@@ -11,6 +11,7 @@ ghost use Rattle.rv_yield.specs.Registers.{is_built, registers_needed};
 ghost use Rattle.rv_yield.specs.YielderCode.{value_items};
 ghost use Rattle.rv_codegen.specs.Aliases.{list_at, lists_of};
 ghost use Rattle.rv_codegen.specs.Blocks.{fail_label, first_label, stop_of, leaves};
+ghost use Rattle.rv_codegen.specs.GivenItems.{alone};
 ghost use Rattle.rv_codegen.specs.Marks.{extended, PlacesStop};
 ghost use Rattle.rv_codegen.specs.StorageItems.{put_word, puts, stores};
 
@@ -90,9 +91,9 @@ fn append_pair(
     requires more { registers_needed (yielder_at plan.graph.now.yielders later)
         ≤ registers_needed (yielder_at plan.graph.now.yielders earlier) }
     ensures items { OnOk result (asm.new ≡ extended asm.old
-        (value_items (list_at (lists_of plan.entry.given.now) k) 10 10 fail_label
+        (value_items (alone (list_at (lists_of plan.entry.given.now) k)) 10 10 fail_label
         (yielder_at plan.entry.graph.now.yielders earlier)
-        ++ value_items (list_at (lists_of plan.entry.given.now) k) 11 11 fail_label
+        ++ value_items (alone (list_at (lists_of plan.entry.given.now) k)) 11 11 fail_label
         (yielder_at plan.entry.graph.now.yielders later))) }
     ensures placed { OnOk result ((l : ℕ) → is_placed asm.new.items l ≡ is_placed asm.old.items l) }
     ensures short { OnOk result (total asm.new.items ≤ total asm.old.items
@@ -103,6 +104,7 @@ fn append_pair(
         graph: plan.graph,
         needs: plan.needs,
         given: plan.given_at(k),
+        bound: &[],
         nothing: plan.entries.fail,
     };
     value_code(plan.alloc, asm, &source, earlier, EARLIER)?;

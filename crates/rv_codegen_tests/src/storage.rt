@@ -243,3 +243,91 @@ fn two_cells_are_two(rt: HostRuntime) -> Result<(), Fail> {
     // the second one finds no unit
     exits(&rt, alloc, &two_cells(1), 1, b"", FULL, &[])
 }
+
+// The integer stored in the n-th of the given cells, or in the only one for 0.
+fn stored(place: u32) -> [Pushed<'static>; 2] {
+    [
+        yielder(YKind::Stored {
+            sort: Sort::Integer,
+        }),
+        given(Sort::Cell, place),
+    ]
+}
+
+// allocate a cell then (store 5 in the given cell and then send the integer stored in the given cell)
+#[test]
+fn what_was_stored_is_read(rt: HostRuntime) -> Result<(), Fail> {
+    let [content, cell] = stored(0);
+    let nodes = [
+        action(Kind::Then),
+        action(Kind::Allocate),
+        action(Kind::AndThen),
+        action(Kind::Store),
+        yielder(YKind::Number(5)),
+        given(Sort::Cell, 0),
+        action(Kind::Send),
+        content,
+        cell,
+    ];
+    exits(&rt, rt.alloc(), &nodes, 1, b"", COMPLETED, &[5])
+}
+
+// allocate a cell then ((check false and then store 0 in the given cell) or send the integer stored in the given cell):
+// the cell is still unset
+#[test]
+fn an_unset_cell_yields_nothing(rt: HostRuntime) -> Result<(), Fail> {
+    let [content, cell] = stored(0);
+    let nodes = [
+        action(Kind::Then),
+        action(Kind::Allocate),
+        action(Kind::Or),
+        action(Kind::AndThen),
+        action(Kind::Check),
+        yielder(YKind::Truth(false)),
+        action(Kind::Store),
+        yielder(YKind::Number(0)),
+        given(Sort::Cell, 0),
+        action(Kind::Send),
+        content,
+        cell,
+    ];
+    exits(&rt, rt.alloc(), &nodes, 1, b"", FAILED, &[])
+}
+
+// (allocate a cell and allocate a cell) then (store 1 in the given cell # 1 and then (store 2 in the given cell # 2
+// and then (store sum(10, the integer stored in the given cell # 1) in the given cell # 1 and then
+// (send the integer stored in the given cell # 1 and then send the integer stored in the given cell # 2))))
+#[test]
+fn two_cells_do_not_mix(rt: HostRuntime) -> Result<(), Fail> {
+    let [content, first] = stored(1);
+    let second = given(Sort::Cell, 2);
+    let nodes = [
+        action(Kind::Then),
+        action(Kind::And),
+        action(Kind::Allocate),
+        action(Kind::Allocate),
+        action(Kind::AndThen),
+        action(Kind::Store),
+        yielder(YKind::Number(1)),
+        first,
+        action(Kind::AndThen),
+        action(Kind::Store),
+        yielder(YKind::Number(2)),
+        second,
+        action(Kind::AndThen),
+        action(Kind::Store),
+        yielder(YKind::Sum),
+        yielder(YKind::Number(10)),
+        content,
+        first,
+        first,
+        action(Kind::AndThen),
+        action(Kind::Send),
+        content,
+        first,
+        action(Kind::Send),
+        content,
+        second,
+    ];
+    exits(&rt, rt.alloc(), &nodes, 2, b"", COMPLETED, &[11, 2])
+}

@@ -9,17 +9,18 @@ use Rattle.action_terms.specs.Forms.{yielder_at, IsDatum}
 use Rattle.action_terms.specs.Need.{yielder_count}
 use Rattle.action_terms.specs.Numbering.{ListedYielder}
 use Rattle.rv_yield.specs.Conditions.{turned, literal_condition, compared, tested, condition_items}
+use Rattle.rv_yield.specs.Holding.{Places}
 use Rattle.rv_yield.specs.Registers.{AreNeeds, is_built, registers_needed, need_of}
 use Rattle.rv_yield.specs.YielderCode.{value_items}
 use Rattle.rv_yield.proofs.ItemLaws.{IsShort, value-short, short-append, order-short}
 
 -- ---- the order of two operands
 
-module _ (given : List ℕ) (op : BranchOp) (otherwise l : ℕ) (y1 y2 : Yielder) where
-  pub compared-later : ltb (registers_needed y1) (registers_needed y2) ≡ true → compared given op otherwise l y1 y2 ≡ value_items given 10 10 l y2 ++ (value_items given 11 11 l y1 ++ BranchTo op 11 10 otherwise ∷ [])
+module _ (places : Places) (op : BranchOp) (otherwise l : ℕ) (y1 y2 : Yielder) where
+  pub compared-later : ltb (registers_needed y1) (registers_needed y2) ≡ true → compared places op otherwise l y1 y2 ≡ value_items places 10 10 l y2 ++ (value_items places 11 11 l y1 ++ BranchTo op 11 10 otherwise ∷ [])
   compared-later q = rw q refl
 
-  pub compared-in_turn : ltb (registers_needed y1) (registers_needed y2) ≡ false → compared given op otherwise l y1 y2 ≡ value_items given 10 10 l y1 ++ (value_items given 11 11 l y2 ++ BranchTo op 10 11 otherwise ∷ [])
+  pub compared-in_turn : ltb (registers_needed y1) (registers_needed y2) ≡ false → compared places op otherwise l y1 y2 ≡ value_items places 10 10 l y1 ++ (value_items places 11 11 l y2 ++ BranchTo op 10 11 otherwise ∷ [])
   compared-in_turn q = rw q refl
 
 need-built : (y : Yielder) → is_built y ≡ true → need_of y ≡ registers_needed y
@@ -43,19 +44,19 @@ branch-short op a b l = record { few = omega arith; unmarked = (refl, tt) }
 short-more : (m n : ℕ) (is : List Item) → m ≤ n → IsShort m is → IsShort n is
 short-more m n is le h = record { few = omega (arith, h.few, le); unmarked = h.unmarked }
 
-module _ (given : List ℕ) (otherwise l : ℕ) where
-  compared-short : (f : Two) (op : BranchOp) (y1 y2 : Yielder) → IsShort (15 * yielder_count (OnTwo f y1 y2)) (compared given op otherwise l y1 y2)
+module _ (places : Places) (otherwise l : ℕ) where
+  compared-short : (f : Two) (op : BranchOp) (y1 y2 : Yielder) → IsShort (15 * yielder_count (OnTwo f y1 y2)) (compared places op otherwise l y1 y2)
   compared-short f op y1 y2 =
       let c1 = yielder_count y1 in
       let c2 = yielder_count y2 in
-      order-short (12 * c1) (12 * c2) 3 (15 * yielder_count (OnTwo f y1 y2)) (ltb (registers_needed y1) (registers_needed y2)) 10 _ _ _ _ _ (omega arith) (value-short given y1 10 10 l) (value-short given y1 11 11 l)
-      (value-short given y2 10 10 l) (value-short given y2 11 11 l) (λ a b. branch-short op a b otherwise)
+      order-short (12 * c1) (12 * c2) 3 (15 * yielder_count (OnTwo f y1 y2)) (ltb (registers_needed y1) (registers_needed y2)) 10 _ _ _ _ _ (omega arith) (value-short places y1 10 10 l) (value-short places y1 11 11 l)
+      (value-short places y2 10 10 l) (value-short places y2 11 11 l) (λ a b. branch-short op a b otherwise)
 
-  tested-short : (wanted : Bool) (y : Yielder) → 1 ≤ yielder_count y → IsShort (15 * yielder_count y) (tested given wanted otherwise l y)
-  tested-short wanted y some = short-append (12 * yielder_count y) 3 (15 * yielder_count y) _ _ (omega (arith, some)) (value-short given y 10 10 l) (branch-short (turned wanted Beq) 10 0 otherwise)
+  tested-short : (wanted : Bool) (y : Yielder) → 1 ≤ yielder_count y → IsShort (15 * yielder_count y) (tested places wanted otherwise l y)
+  tested-short wanted y some = short-append (12 * yielder_count y) 3 (15 * yielder_count y) _ _ (omega (arith, some)) (value-short places y 10 10 l) (branch-short (turned wanted Beq) 10 0 otherwise)
 
   -- at most 15 instructions for each yielder
-  pub condition-short : (y : Yielder) (wanted : Bool) → IsShort (15 * yielder_count y) (condition_items given wanted otherwise l y)
+  pub condition-short : (y : Yielder) (wanted : Bool) → IsShort (15 * yielder_count y) (condition_items places wanted otherwise l y)
   condition-short (TruthLiteral t) wanted = literal-short wanted t otherwise
   condition-short (OnOne Not y) wanted = short-more (15 * yielder_count y) (15 * yielder_count (OnOne Not y)) _ (omega arith) (condition-short y (not wanted))
   condition-short (OnTwo Is y1 y2) wanted = compared-short Is (turned wanted Bne) y1 y2

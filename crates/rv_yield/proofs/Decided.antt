@@ -13,8 +13,10 @@ use Rattle.action_terms.specs.Yielding.{yields}
 use Rattle.rv_yield.specs.Conditions.{condition_items}
 use Rattle.rv_yield.specs.Evaluates.{label_address, Decided, Decides}
 use Rattle.rv_yield.specs.Fronts.{extended}
+use Rattle.rv_yield.specs.Holding.{Places}
 use Rattle.rv_yield.specs.Registers.{is_built, registers_needed, HasWords}
 use Rattle.rv_yield.proofs.Deciding.{Chosen, condition-comes}
+use Rattle.rv_yield.proofs.Given.{IsNear}
 use Rattle.rv_yield.proofs.Evaluated.{comes-at}
 
 module _ (base : ℕ) (code : List Inst) (at : ℕ → ℕ) where
@@ -28,10 +30,10 @@ module _ (base : ℕ) (code : List Inst) (at : ℕ → ℕ) where
   chosen-decided limit c next next' otherwise nothing None e h = comes-at base code limit 10 c nothing nothing refl h
 
 pub decides :
-    (given : List ℕ) (o l : ℕ) (y : Yielder) (old : Listing) → All (λ o. o < 33554432) given → is_built y ≡ true → HasWords y → registers_needed y ≤ 16 →
-    Decides given o l y old (extended old (condition_items given true o l y))
-decides given o l y old near_given built words few behind c base f heap d b cells can sorted =
-    let piece = condition_items given true o l y in
+    (places : Places) (o l : ℕ) (y : Yielder) (old : Listing) → IsNear places → is_built y ≡ true → HasWords y → registers_needed y ≤ 16 →
+    Decides places o l y old (extended old (condition_items places true o l y))
+decides places o l y old near_places built words few behind c base f heap d b cells can sorted =
+    let piece = condition_items places true o l y in
     let new = extended old piece in
     let items = new.items ++ behind in
     let code = code_with new behind in
@@ -41,5 +43,5 @@ decides given o l y old near_given built words few behind c base f heap d b cell
     let next : address_of (total old.items + total piece) ≡ end_of new = omega (arith, total-append old.items piece) in
     let stands = piece-stands items old.items piece behind parts in
     chosen-decided base code (spot items) limit c (address_of (total old.items + total piece)) (end_of new) (label_address new behind o) (label_address new behind l) (yields y d b cells) next
-    (condition-comes base code (spot items) o l (omega (arith, spot_le-total items o, can.near)) (omega (arith, spot_le-total items l, can.near)) heap given near_given f d b cells y true built words can.suited few sorted (total old.items) c
+    (condition-comes base code (spot items) o l (omega (arith, spot_le-total items o, can.near)) (omega (arith, spot_le-total items l, can.near)) heap places near_places f d b cells y true built words can.slots can.suited few sorted (total old.items) c
     (omega (arith, can.near, sizes)) can.before stands can.finds)

@@ -22,11 +22,13 @@ use Rattle.action_terms.specs.Suited.{IsOfSort, AreWanted, IsWanted, IsSuited}
 use Rattle.action_terms.specs.Yielding.{bool_eq, on_two, on_one, and_then, yields}
 use Rattle.action_terms.specs.declared.kinds.Sort.TheVariants as sort
 use Rattle.rv_yield.specs.Conditions.{turned, literal_condition, compared, tested, condition_items}
-use Rattle.rv_yield.specs.Evaluates.{Finds}
+use Rattle.rv_yield.specs.Evaluates.{HasSlots, Finds}
+use Rattle.rv_yield.specs.Holding.{Places}
 use Rattle.rv_yield.specs.Registers.{is_built, registers_needed, HasWords}
 use Rattle.rv_yield.specs.YielderCode.{value_items}
 use Rattle.rv_yield.proofs.ConditionLaws.{compared-later, compared-in_turn}
 use Rattle.rv_yield.proofs.Evaluation.{BothKnown, OneMissing, exchanged, operands-known, value-comes}
+use Rattle.rv_yield.proofs.Given.{IsNear}
 use Rattle.rv_yield.proofs.Sorted.{same-is, less-is}
 use Rattle.rv_yield.proofs.Steps.{Arrives, arrives-then, arrives-weaker, ran-none, ran-passed, ran-leaves, ran-arrives}
 use Rattle.rv_yield.proofs.Targets.{Stands, stands-front, stands-back, some-count}
@@ -60,13 +62,13 @@ module _ (base : ℕ) (code : List Inst) (at : ℕ → ℕ) where
   Chosen wanted limit c next otherwise nothing None = Arrives base code limit 10 10 c nothing
 
 module _
-    (base : ℕ) (code : List Inst) (at : ℕ → ℕ) (otherwise l : ℕ) (o_near : at otherwise < 2 ^ 28) (l_near : at l < 2 ^ 28) (heap : Heap) (given : List ℕ) (near_given : All (λ o. o < 33554432) given) (f0 : ℕ)
+    (base : ℕ) (code : List Inst) (at : ℕ → ℕ) (otherwise l : ℕ) (o_near : at otherwise < 2 ^ 28) (l_near : at l < 2 ^ 28) (heap : Heap) (places : Places) (near_places : IsNear places) (f0 : ℕ)
     (d : Data) (b : Binds) (cells : Storage)
   where
     -- the code stands somewhere, and comes to what the truth-value says
     abbrev pub ComesTo : (wanted : Bool) → Yielder → List Item → Type 0
     ComesTo wanted y items =
-        (n : ℕ) (c : WordState) → n + total items < 2 ^ 28 + 1 → c.pc ≡ address_of n → Stands code at n items → Finds base heap given f0 c d →
+        (n : ℕ) (c : WordState) → n + total items < 2 ^ 28 + 1 → c.pc ≡ address_of n → Stands code at n items → Finds base heap places f0 c d b cells →
         Chosen base code at wanted (24 * yielder_count y) c (address_of (n + total items)) (address_of (at otherwise)) (address_of (at l)) (yields y d b cells)
 
     -- ---- a literal
@@ -125,13 +127,13 @@ module _
     chosen-then wanted l1 limit c p next (Some (Closure k bs own)) a h few = absurd h
 
     test-decides :
-        (wanted : Bool) (y : Yielder) → is_built y ≡ true → HasWords y → IsSuited y d b cells → registers_needed y ≤ 16 → IsOfSort sort.Truth (yields y d b cells) → ComesTo wanted y (tested given wanted otherwise l y)
-    test-decides wanted y built words suited few sorted n c near here h finds =
-        let a = value_items given 10 10 l y in
+        (wanted : Bool) (y : Yielder) → is_built y ≡ true → HasWords y → HasSlots places.bound y b → IsSuited y d b cells → registers_needed y ≤ 16 → IsOfSort sort.Truth (yields y d b cells) → ComesTo wanted y (tested places wanted otherwise l y)
+    test-decides wanted y built words slots suited few sorted n c near here h finds =
+        let a = value_items places 10 10 l y in
         let last = BranchTo (turned wanted Beq) 10 0 otherwise ∷ [] in
         let sizes : total (a ++ last) ≡ total a + 3 = total-append a last in
         let limit = 12 * yielder_count y in
-        let value = value-comes base code at l l_near heap given near_given f0 d b cells y built words suited 10 10 (omega arith) (omega (arith, few)) (inl refl) n c (omega (arith, near, sizes)) here (stands-front code at n a last h) finds in
+        let value = value-comes base code at l l_near heap places near_places f0 d b cells y built words slots suited 10 10 (omega arith) (omega (arith, few)) (inl refl) n c (omega (arith, near, sizes)) here (stands-front code at n a last h) finds in
         ⊎_elim
         (λ (p : Known base code heap limit 10 10 c (address_of (n + total a)) (yields y d b cells)).
         let v = p.is in
@@ -154,7 +156,7 @@ module _
     -- so it is for all data that are wanted
     abbrev pub ComparesAll : Two → BranchOp → Type 0
     ComparesAll f op =
-        (r1 r2 : ℕ) (e : WordState) (x y : Datum) → 0 < r1 → 0 < r2 → AreWanted f (Some x) (Some y) → StandsFor base heap (e.registers r1) x → StandsFor base heap (e.registers r2) y → Finds base heap given f0 e d →
+        (r1 r2 : ℕ) (e : WordState) (x y : Datum) → 0 < r1 → 0 < r2 → AreWanted f (Some x) (Some y) → StandsFor base heap (e.registers r1) x → StandsFor base heap (e.registers r2) y → Finds base heap places f0 e d b cells →
         Compares f op r1 r2 e x y
 
     pub is-compares : ComparesAll Is Bne
@@ -179,7 +181,7 @@ module _
 
     compare-goes :
         (f : Two) (op : BranchOp) → ComparesAll f op → (wanted : Bool) (r1 r2 m : ℕ) (e : WordState) (next : ℕ) (x y : Datum) → 0 < r1 → 0 < r2 → m + 3 < 2 ^ 28 + 1 → e.pc ≡ address_of m → address_of (m + 3) ≡ next →
-        AreWanted f (Some x) (Some y) → StandsFor base heap (e.registers r1) x → StandsFor base heap (e.registers r2) y → Finds base heap given f0 e d → Stands code at m (BranchTo (turned wanted op) r1 r2 otherwise ∷ []) →
+        AreWanted f (Some x) (Some y) → StandsFor base heap (e.registers r1) x → StandsFor base heap (e.registers r2) y → Finds base heap places f0 e d b cells → Stands code at m (BranchTo (turned wanted op) r1 r2 otherwise ∷ []) →
         Chosen base code at wanted 3 e next (address_of (at otherwise)) (address_of (at l)) (on_two f x y)
     compare-goes f op compares wanted r1 r2 m e next x y some1 some2 near here there w s t finds h =
         let g = compares r1 r2 e x y some1 some2 w s t finds in
@@ -191,7 +193,7 @@ module _
 
     module _
         (f : Two) (op : BranchOp) (compares : ComparesAll f op) (wanted : Bool) (y1 y2 : Yielder) (built1 : is_built y1 ≡ true) (built2 : is_built y2 ≡ true) (words1 : HasWords y1) (words2 : HasWords y2)
-        (suited1 : IsSuited y1 d b cells) (suited2 : IsSuited y2 d b cells) (both_wanted : AreWanted f (yields y1 d b cells) (yields y2 d b cells)) (few : registers_needed (OnTwo f y1 y2) ≤ 16)
+        (slots1 : HasSlots places.bound y1 b) (slots2 : HasSlots places.bound y2 b) (suited1 : IsSuited y1 d b cells) (suited2 : IsSuited y2 d b cells) (both_wanted : AreWanted f (yields y1 d b cells) (yields y2 d b cells)) (few : registers_needed (OnTwo f y1 y2) ≤ 16)
       where
         abbrev pub limit : ℕ
         limit = 24 * yielder_count (OnTwo f y1 y2)
@@ -201,60 +203,60 @@ module _
 
         abbrev pub placed : List Item → Type 0
         placed items =
-            (n : ℕ) (c : WordState) → n + total items < 2 ^ 28 + 1 → c.pc ≡ address_of n → Stands code at n items → Finds base heap given f0 c d →
+            (n : ℕ) (c : WordState) → n + total items < 2 ^ 28 + 1 → c.pc ≡ address_of n → Stands code at n items → Finds base heap places f0 c d b cells →
             Chosen base code at wanted limit c (address_of (n + total items)) (address_of (at otherwise)) (address_of (at l)) (and_then (yields y1 d b cells) (λ x. and_then (yields y2 d b cells) (on_two f x)))
 
-        comes : (y : Yielder) → is_built y ≡ true → HasWords y → IsSuited y d b cells → (free : ℕ) → 10 ≤ free → free + registers_needed y ≤ 26 →
-            (n : ℕ) (c : WordState) → n + total (value_items given free free l y) < 2 ^ 28 + 1 → c.pc ≡ address_of n → Stands code at n (value_items given free free l y) → Finds base heap given f0 c d →
-            Valued base code heap (12 * yielder_count y) free free c (address_of (n + total (value_items given free free l y))) (address_of (at l)) (yields y d b cells)
-        comes y built words suited free low room = value-comes base code at l l_near heap given near_given f0 d b cells y built words suited free free low room (inl refl)
+        comes : (y : Yielder) → is_built y ≡ true → HasWords y → HasSlots places.bound y b → IsSuited y d b cells → (free : ℕ) → 10 ≤ free → free + registers_needed y ≤ 26 →
+            (n : ℕ) (c : WordState) → n + total (value_items places free free l y) < 2 ^ 28 + 1 → c.pc ≡ address_of n → Stands code at n (value_items places free free l y) → Finds base heap places f0 c d b cells →
+            Valued base code heap (12 * yielder_count y) free free c (address_of (n + total (value_items places free free l y))) (address_of (at l)) (yields y d b cells)
+        comes y built words slots suited free low room = value-comes base code at l l_near heap places near_places f0 d b cells y built words slots suited free free low room (inl refl)
 
-        in-turn : ltb (registers_needed y1) (registers_needed y2) ≡ false → placed (value_items given 10 10 l y1 ++ (value_items given 11 11 l y2 ++ branch 10 11))
+        in-turn : ltb (registers_needed y1) (registers_needed y2) ≡ false → placed (value_items places 10 10 l y1 ++ (value_items places 11 11 l y2 ++ branch 10 11))
         in-turn q n c near here h finds =
             let more = ltb-false _ _ q in
-            let a = value_items given 10 10 l y1 in
-            let e = value_items given 11 11 l y2 in
+            let a = value_items places 10 10 l y1 in
+            let e = value_items places 11 11 l y2 in
             let last = branch 10 11 in
             let sizes : total (a ++ (e ++ last)) ≡ total a + (total e + 3) = omega (arith, total-append a (e ++ last), total-append e last) in
             let stands = stands-back code at (n + total a) e last (stands-back code at n a (e ++ last) h) in
             let next = address_of (n + total (a ++ (e ++ last))) in
             ⊎_elim
-            (λ (p : BothKnown base code at l l_near heap given near_given f0 d b cells 10 (12 * yielder_count y1 + 12 * yielder_count y2) y1 y2 c (address_of (n + total a + total e))).
+            (λ (p : BothKnown base code at l l_near heap places near_places f0 d b cells 10 (12 * yielder_count y1 + 12 * yielder_count y2) y1 y2 c (address_of (n + total a + total e))).
             let v1 = p.first_is in
             let v2 = p.second_is in
             let w : AreWanted f (Some p.first) (Some p.second) = subst (λ o. AreWanted f o (Some p.second)) v1 (subst (AreWanted f (yields y1 d b cells)) v2 both_wanted) in
             let goes = compare-goes f op compares wanted 10 11 (n + total a + total e) p.arrives.end next p.first p.second (omega arith) (omega arith) (omega (arith, near, sizes)) p.arrives.at (omega (arith, sizes)) w p.first_stands p.second_stands p.finds stands in
             rw (v1, v2) (chosen-then wanted (12 * yielder_count y1 + 12 * yielder_count y2) limit c (address_of (n + total a + total e)) next (on_two f p.first p.second) p.arrives goes (omega arith)))
-            (λ (p : OneMissing base code at l l_near heap given near_given f0 d b cells 10 (12 * yielder_count y1 + 12 * yielder_count y2) y1 y2 c).
+            (λ (p : OneMissing base code at l l_near heap places near_places f0 d b cells 10 (12 * yielder_count y1 + 12 * yielder_count y2) y1 y2 c).
             let v = p.none (on_two f) in
             rw v (arrives-weaker base code (12 * yielder_count y1 + 12 * yielder_count y2) limit 10 10 10 10 c (address_of (at l)) p.arrives (omega arith) (omega arith) (inl refl)))
-            (operands-known base code at l l_near heap given near_given f0 d b cells 10 (omega arith) y1 y2 last (comes y1 built1 words1 suited1 10 (omega arith) (omega (arith, few))) (comes y2 built2 words2 suited2 11 (omega arith) (omega (arith, few, more))) n c near here h finds)
+            (operands-known base code at l l_near heap places near_places f0 d b cells 10 (omega arith) y1 y2 last (comes y1 built1 words1 slots1 suited1 10 (omega arith) (omega (arith, few))) (comes y2 built2 words2 slots2 suited2 11 (omega arith) (omega (arith, few, more))) n c near here h finds)
 
-        later : ltb (registers_needed y1) (registers_needed y2) ≡ true → placed (value_items given 10 10 l y2 ++ (value_items given 11 11 l y1 ++ branch 11 10))
+        later : ltb (registers_needed y1) (registers_needed y2) ≡ true → placed (value_items places 10 10 l y2 ++ (value_items places 11 11 l y1 ++ branch 11 10))
         later q n c near here h finds =
             let more = ltb-true _ _ q in
-            let a = value_items given 10 10 l y2 in
-            let e = value_items given 11 11 l y1 in
+            let a = value_items places 10 10 l y2 in
+            let e = value_items places 11 11 l y1 in
             let last = branch 11 10 in
             let sizes : total (a ++ (e ++ last)) ≡ total a + (total e + 3) = omega (arith, total-append a (e ++ last), total-append e last) in
             let stands = stands-back code at (n + total a) e last (stands-back code at n a (e ++ last) h) in
             let next = address_of (n + total (a ++ (e ++ last))) in
-            let order = exchanged base code at l l_near heap given near_given f0 d b cells (yields y1 d b cells) (yields y2 d b cells) (on_two f) in
+            let order = exchanged base code at l l_near heap places near_places f0 d b cells (yields y1 d b cells) (yields y2 d b cells) (on_two f) in
             ⊎_elim
-            (λ (p : BothKnown base code at l l_near heap given near_given f0 d b cells 10 (12 * yielder_count y2 + 12 * yielder_count y1) y2 y1 c (address_of (n + total a + total e))).
+            (λ (p : BothKnown base code at l l_near heap places near_places f0 d b cells 10 (12 * yielder_count y2 + 12 * yielder_count y1) y2 y1 c (address_of (n + total a + total e))).
             let v2 = p.first_is in
             let v1 = p.second_is in
             let w : AreWanted f (Some p.second) (Some p.first) = subst (λ o. AreWanted f o (Some p.first)) v1 (subst (AreWanted f (yields y1 d b cells)) v2 both_wanted) in
             let goes = compare-goes f op compares wanted 11 10 (n + total a + total e) p.arrives.end next p.second p.first (omega arith) (omega arith) (omega (arith, near, sizes)) p.arrives.at (omega (arith, sizes)) w p.second_stands p.first_stands p.finds stands in
             rw (v1, v2) (chosen-then wanted (12 * yielder_count y2 + 12 * yielder_count y1) limit c (address_of (n + total a + total e)) next (on_two f p.second p.first) p.arrives goes (omega arith)))
-            (λ (p : OneMissing base code at l l_near heap given near_given f0 d b cells 10 (12 * yielder_count y2 + 12 * yielder_count y1) y2 y1 c).
+            (λ (p : OneMissing base code at l l_near heap places near_places f0 d b cells 10 (12 * yielder_count y2 + 12 * yielder_count y1) y2 y1 c).
             let v = order ∙ p.none (λ x y. on_two f y x) in
             rw v (arrives-weaker base code (12 * yielder_count y2 + 12 * yielder_count y1) limit 10 10 10 10 c (address_of (at l)) p.arrives (omega arith) (omega arith) (inl refl)))
-            (operands-known base code at l l_near heap given near_given f0 d b cells 10 (omega arith) y2 y1 last (comes y2 built2 words2 suited2 10 (omega arith) (omega (arith, few))) (comes y1 built1 words1 suited1 11 (omega arith) (omega (arith, few, more))) n c near here h finds)
+            (operands-known base code at l l_near heap places near_places f0 d b cells 10 (omega arith) y2 y1 last (comes y2 built2 words2 slots2 suited2 10 (omega arith) (omega (arith, few))) (comes y1 built1 words1 slots1 suited1 11 (omega arith) (omega (arith, few, more))) n c near here h finds)
 
-        pub compared-decides : placed (compared given (turned wanted op) otherwise l y1 y2)
+        pub compared-decides : placed (compared places (turned wanted op) otherwise l y1 y2)
         compared-decides =
-            ⊎_elim (λ q. subst placed (sym (compared-later given (turned wanted op) otherwise l y1 y2 q)) (later q)) (λ q. subst placed (sym (compared-in_turn given (turned wanted op) otherwise l y1 y2 q)) (in-turn q))
+            ⊎_elim (λ q. subst placed (sym (compared-later places (turned wanted op) otherwise l y1 y2 q)) (later q)) (λ q. subst placed (sym (compared-in_turn places (turned wanted op) otherwise l y1 y2 q)) (in-turn q))
             (true-or-false (ltb (registers_needed y1) (registers_needed y2)))
 
     -- ---- every condition
@@ -281,31 +283,31 @@ module _
     not-chosen wanted limit c next (Some (Closure k bs own)) h = absurd h
 
     pub condition-comes :
-        (y : Yielder) (wanted : Bool) → is_built y ≡ true → HasWords y → IsSuited y d b cells → registers_needed y ≤ 16 → IsOfSort sort.Truth (yields y d b cells) → ComesTo wanted y (condition_items given wanted otherwise l y)
-    condition-comes (TruthLiteral t) wanted built words suited few sorted n c near here h finds = literal-decides wanted t n c near here h finds
-    condition-comes (OnOne Not y) wanted built words suited few sorted n c near here h finds =
+        (y : Yielder) (wanted : Bool) → is_built y ≡ true → HasWords y → HasSlots places.bound y b → IsSuited y d b cells → registers_needed y ≤ 16 → IsOfSort sort.Truth (yields y d b cells) → ComesTo wanted y (condition_items places wanted otherwise l y)
+    condition-comes (TruthLiteral t) wanted built words slots suited few sorted n c near here h finds = literal-decides wanted t n c near here h finds
+    condition-comes (OnOne Not y) wanted built words slots suited few sorted n c near here h finds =
         let v = yields y d b cells in
-        let inner = condition-comes y (not wanted) built words suited.0 few (not-sorted v sorted suited.1) n c near here h finds in
+        let inner = condition-comes y (not wanted) built words slots suited.0 few (not-sorted v sorted suited.1) n c near here h finds in
         let more : 24 + 24 * yielder_count y ≡ 24 * yielder_count (OnOne Not y) = omega arith in
-        subst (λ k. Chosen base code at wanted k c (address_of (n + total (condition_items given (not wanted) otherwise l y))) (address_of (at otherwise)) (address_of (at l)) (and_then v (on_one Not))) more
-        (not-chosen wanted (24 * yielder_count y) c (address_of (n + total (condition_items given (not wanted) otherwise l y))) v inner)
-    condition-comes (OnTwo Is y1 y2) wanted built words suited few sorted n c near here h finds =
+        subst (λ k. Chosen base code at wanted k c (address_of (n + total (condition_items places (not wanted) otherwise l y))) (address_of (at otherwise)) (address_of (at l)) (and_then v (on_one Not))) more
+        (not-chosen wanted (24 * yielder_count y) c (address_of (n + total (condition_items places (not wanted) otherwise l y))) v inner)
+    condition-comes (OnTwo Is y1 y2) wanted built words slots suited few sorted n c near here h finds =
         let q = and-true (is_built y1) (is_built y2) built in
-        compared-decides Is Bne is-compares wanted y1 y2 q.0 q.1 words.0 words.1 suited.0 suited.1 suited.2 few n c near here h finds
-    condition-comes (OnTwo Less y1 y2) wanted built words suited few sorted n c near here h finds =
+        compared-decides Is Bne is-compares wanted y1 y2 q.0 q.1 words.0 words.1 slots.0 slots.1 suited.0 suited.1 suited.2 few n c near here h finds
+    condition-comes (OnTwo Less y1 y2) wanted built words slots suited few sorted n c near here h finds =
         let q = and-true (is_built y1) (is_built y2) built in
-        compared-decides Less Bge less-compares wanted y1 y2 q.0 q.1 words.0 words.1 suited.0 suited.1 suited.2 few n c near here h finds
-    condition-comes (NumberLiteral z) wanted built words suited few sorted n c near here h finds = test-decides wanted (NumberLiteral z) built words suited few sorted n c near here h finds
-    condition-comes (Given s) wanted built words suited few sorted n c near here h finds = test-decides wanted (Given s) built words suited few sorted n c near here h finds
-    condition-comes (GivenAt s k) wanted built words suited few sorted n c near here h finds = test-decides wanted (GivenAt s k) built words suited few sorted n c near here h finds
-    condition-comes (OnOne Negation y) wanted built words suited few sorted n c near here h finds = test-decides wanted (OnOne Negation y) built words suited few sorted n c near here h finds
-    condition-comes (OnTwo Sum y1 y2) wanted built words suited few sorted n c near here h finds = test-decides wanted (OnTwo Sum y1 y2) built words suited few sorted n c near here h finds
-    condition-comes (OnTwo Difference y1 y2) wanted built words suited few sorted n c near here h finds = test-decides wanted (OnTwo Difference y1 y2) built words suited few sorted n c near here h finds
-    condition-comes (OnTwo Product y1 y2) wanted built words suited few sorted n c near here h finds = test-decides wanted (OnTwo Product y1 y2) built words suited few sorted n c near here h finds
-    condition-comes (OnTwo Quotient y1 y2) wanted built words suited few sorted n c near here h finds = test-decides wanted (OnTwo Quotient y1 y2) built words suited few sorted n c near here h finds
-    condition-comes (OnTwo Remainder y1 y2) wanted built words suited few sorted n c near here h finds = test-decides wanted (OnTwo Remainder y1 y2) built words suited few sorted n c near here h finds
-    condition-comes (OnTwo BothOf y1 y2) wanted built words suited few sorted n c near here h finds = test-decides wanted (OnTwo BothOf y1 y2) built words suited few sorted n c near here h finds
-    condition-comes (OnTwo EitherOf y1 y2) wanted built words suited few sorted n c near here h finds = test-decides wanted (OnTwo EitherOf y1 y2) built words suited few sorted n c near here h finds
-    condition-comes (BoundTo s t) wanted built words suited few sorted n c near here h finds = absurd (cc)
-    condition-comes (StoredIn s y) wanted built words suited few sorted n c near here h finds = absurd (cc)
-    condition-comes (ClosureOf k) wanted built words suited few sorted n c near here h finds = absurd (cc)
+        compared-decides Less Bge less-compares wanted y1 y2 q.0 q.1 words.0 words.1 slots.0 slots.1 suited.0 suited.1 suited.2 few n c near here h finds
+    condition-comes (NumberLiteral z) wanted built words slots suited few sorted n c near here h finds = test-decides wanted (NumberLiteral z) built words slots suited few sorted n c near here h finds
+    condition-comes (Given s) wanted built words slots suited few sorted n c near here h finds = test-decides wanted (Given s) built words slots suited few sorted n c near here h finds
+    condition-comes (GivenAt s k) wanted built words slots suited few sorted n c near here h finds = test-decides wanted (GivenAt s k) built words slots suited few sorted n c near here h finds
+    condition-comes (OnOne Negation y) wanted built words slots suited few sorted n c near here h finds = test-decides wanted (OnOne Negation y) built words slots suited few sorted n c near here h finds
+    condition-comes (OnTwo Sum y1 y2) wanted built words slots suited few sorted n c near here h finds = test-decides wanted (OnTwo Sum y1 y2) built words slots suited few sorted n c near here h finds
+    condition-comes (OnTwo Difference y1 y2) wanted built words slots suited few sorted n c near here h finds = test-decides wanted (OnTwo Difference y1 y2) built words slots suited few sorted n c near here h finds
+    condition-comes (OnTwo Product y1 y2) wanted built words slots suited few sorted n c near here h finds = test-decides wanted (OnTwo Product y1 y2) built words slots suited few sorted n c near here h finds
+    condition-comes (OnTwo Quotient y1 y2) wanted built words slots suited few sorted n c near here h finds = test-decides wanted (OnTwo Quotient y1 y2) built words slots suited few sorted n c near here h finds
+    condition-comes (OnTwo Remainder y1 y2) wanted built words slots suited few sorted n c near here h finds = test-decides wanted (OnTwo Remainder y1 y2) built words slots suited few sorted n c near here h finds
+    condition-comes (OnTwo BothOf y1 y2) wanted built words slots suited few sorted n c near here h finds = test-decides wanted (OnTwo BothOf y1 y2) built words slots suited few sorted n c near here h finds
+    condition-comes (OnTwo EitherOf y1 y2) wanted built words slots suited few sorted n c near here h finds = test-decides wanted (OnTwo EitherOf y1 y2) built words slots suited few sorted n c near here h finds
+    condition-comes (BoundTo s t) wanted built words slots suited few sorted n c near here h finds = test-decides wanted (BoundTo s t) built words slots suited few sorted n c near here h finds
+    condition-comes (StoredIn s y) wanted built words slots suited few sorted n c near here h finds = test-decides wanted (StoredIn s y) built words slots suited few sorted n c near here h finds
+    condition-comes (ClosureOf k) wanted built words slots suited few sorted n c near here h finds = absurd (cc)

@@ -11,10 +11,12 @@ use Rattle.action_terms.specs.Actions.{Yielder}
 use Rattle.action_terms.specs.Need.{yielder_count}
 use Rattle.action_terms.specs.Yielding.{yields}
 use Rattle.rv_yield.specs.Evaluates.{label_address, Comes, Evaluated, Evaluates}
+use Rattle.rv_yield.specs.Holding.{Places}
 use Rattle.rv_yield.specs.Registers.{is_built, registers_needed, HasWords}
 use Rattle.rv_yield.specs.Fronts.{extended}
 use Rattle.rv_yield.specs.YielderCode.{value_items}
 use Rattle.rv_yield.proofs.Evaluation.{value-comes}
+use Rattle.rv_yield.proofs.Given.{IsNear}
 use Rattle.rv_yield.proofs.Steps.{Arrives}
 use Rattle.rv_yield.proofs.Valued.{Known, valued-cases}
 
@@ -39,11 +41,11 @@ comes-at base code limit r c p q same a = record {
 }
 
 pub evaluates :
-    (given : List ℕ) (r l : ℕ) (y : Yielder) (old : Listing) → All (λ o. o < 33554432) given → is_built y ≡ true → HasWords y → 10 ≤ r → r + registers_needed y ≤ 26 →
-    Evaluates given r l y old (extended old (value_items given r r l y))
+    (places : Places) (r l : ℕ) (y : Yielder) (old : Listing) → IsNear places → is_built y ≡ true → HasWords y → 10 ≤ r → r + registers_needed y ≤ 26 →
+    Evaluates places r l y old (extended old (value_items places r r l y))
 unfolding comes-at
-evaluates given r l y old near_given built words low room behind c base f heap d b cells can =
-    let piece = value_items given r r l y in
+evaluates places r l y old near_places built words low room behind c base f heap d b cells can =
+    let piece = value_items places r r l y in
     let new = extended old piece in
     let items = new.items ++ behind in
     let code = code_with new behind in
@@ -54,7 +56,7 @@ evaluates given r l y old near_given built words low room behind c base f heap d
     let next : address_of (total old.items + total piece) ≡ end_of new = omega (arith, total-append old.items piece) in
     let stands = piece-stands items old.items piece behind parts in
     let outcome =
-    value-comes base code (spot items) l (omega (arith, spot_le-total items l, can.near)) heap given near_given f d b cells y built words can.suited r r low room (inl refl) (total old.items) c (omega (arith, can.near, sizes)) can.before stands can.finds in
+    value-comes base code (spot items) l (omega (arith, spot_le-total items l, can.near)) heap places near_places f d b cells y built words can.slots can.suited r r low room (inl refl) (total old.items) c (omega (arith, can.near, sizes)) can.before stands can.finds in
     ⊎_elim
     (λ (p : Known base code heap limit r r c (address_of (total old.items + total piece)) (yields y d b cells)).
     subst (Evaluated base heap code limit r c (end_of new) nothing) (sym p.is) (comes-at base code limit r c _ _ next p.arrives, p.stands))

@@ -16,21 +16,23 @@ use Rattle.rv_asm.proofs.Places.{and-true}
 use Rattle.rv_asm.proofs.Registers.{put-other, get-above}
 use Rattle.rv_asm.proofs.Sending.{code_from-plain, total-plain}
 use Rattle.action_terms.specs.Information.{Datum, Number, Truth, CellOf, Closure, Binds, Data, Storage}
+use Rattle.action_terms.specs.Bindings.{lookup}
 use Rattle.action_terms.specs.Actions.{Two, One, Yielder, NumberLiteral, TruthLiteral, Given, GivenAt, BoundTo, StoredIn, OnTwo, OnOne, ClosureOf}
 use Rattle.action_terms.specs.Need.{yielder_count}
 use Rattle.action_terms.specs.Suited.{IsOfSort, AreWanted, IsWanted, IsSuited}
-use Rattle.action_terms.specs.Yielding.{within_64, on_two, on_one, of_sort, only, nth, and_then, yields}
+use Rattle.action_terms.specs.Yielding.{within_64, on_two, on_one, of_sort, only, nth, stored, and_then, yields}
 use Rattle.action_terms.specs.declared.kinds.Sort.{Sort}
 use Rattle.action_terms.specs.declared.kinds.Sort.TheVariants as sort
-use Rattle.rv_yield.specs.Evaluates.{Finds}
-use Rattle.rv_yield.specs.Holding.{only_offset, nth_offset}
+use Rattle.rv_yield.specs.Evaluates.{Finds, HasSlots}
+use Rattle.rv_yield.specs.Holding.{Places, only_offset, nth_offset, slot_offset}
 use Rattle.rv_yield.specs.Registers.{is_built, registers_needed, HasWords}
-use Rattle.rv_yield.specs.YielderCode.{operation_items, one_items, addition_items, placed_items, second_constant, first_constant, of_literal, addend_for, value_items}
+use Rattle.rv_yield.specs.YielderCode.{operation_items, one_items, addition_items, content_items, placed_items, second_constant, first_constant, of_literal, addend_for, value_items}
 use Rattle.rv_yield.specs.Tasks.{IsTarget}
 use Rattle.rv_yield.proofs.Numbers.{fits-below}
 use Rattle.rv_yield.proofs.Additions.{second-added, first-added}
 use Rattle.rv_yield.proofs.Checks.{IsValue}
-use Rattle.rv_yield.proofs.Given.{Stands_at, only-stands, nth-stands, sort-same, placed-comes}
+use Rattle.rv_yield.proofs.Contents.{content-comes, and_then-nested}
+use Rattle.rv_yield.proofs.Given.{IsNear, Stands_at, only-stands, nth-stands, bound-stands, sort-same, placed-comes}
 use Rattle.rv_yield.proofs.Sorted.{operation-valued, one-valued}
 use Rattle.rv_yield.proofs.Steps.{put-written, Arrives, arrives-then, arrives-weaker}
 use Rattle.rv_yield.proofs.Sums.{addition-does}
@@ -38,14 +40,14 @@ use Rattle.rv_yield.proofs.Targets.{some-count, some-need, option-cases, Stands,
 use Rattle.rv_yield.proofs.Valued.{Valued, HasValue, NoValue, Known, valued-cases, valued-integer, valued-then, finds-after}
 
 module _
-    (base : ℕ) (code : List Inst) (at : ℕ → ℕ) (l : ℕ) (l_near : at l < 2 ^ 28) (heap : Heap) (given : List ℕ) (near_given : All (λ o. o < 33554432) given) (f0 : ℕ)
+    (base : ℕ) (code : List Inst) (at : ℕ → ℕ) (l : ℕ) (l_near : at l < 2 ^ 28) (heap : Heap) (places : Places) (near_places : IsNear places) (f0 : ℕ)
     (d : Data) (b : Binds) (cells : Storage)
   where
     -- the code of a yielder, wherever it stands, comes to what the yielder yields
     abbrev pub Comes : (to free : ℕ) → Yielder → Type 0
     Comes to free y =
-        (n : ℕ) (c : WordState) → n + total (value_items given to free l y) < 2 ^ 28 + 1 → c.pc ≡ address_of n → Stands code at n (value_items given to free l y) → Finds base heap given f0 c d →
-        Valued base code heap (12 * yielder_count y) to free c (address_of (n + total (value_items given to free l y))) (address_of (at l)) (yields y d b cells)
+        (n : ℕ) (c : WordState) → n + total (value_items places to free l y) < 2 ^ 28 + 1 → c.pc ≡ address_of n → Stands code at n (value_items places to free l y) → Finds base heap places f0 c d b cells →
+        Valued base code heap (12 * yielder_count y) to free c (address_of (n + total (value_items places to free l y))) (address_of (at l)) (yields y d b cells)
 
     -- a constant is put into the register
     constant-comes :
@@ -68,10 +70,10 @@ module _
         })
         (subst (λ u. StandsFor base heap u x) (sym (put-written c.registers to w v.0)) stands)
 
-    -- what is given is loaded from where it stands
+    -- what is given, and what a token is bound to, is loaded from where it stands
     given-comes :
         (to free : ℕ) (o : Option ℕ) (s : Sort) (v : Option Datum) → 10 ≤ to → free ≤ 31 → IsOfSort s v → (n : ℕ) (c : WordState) → Stands_at base heap c.words f0 o v →
-        n + total (placed_items o to l) < 2 ^ 28 + 1 → c.pc ≡ address_of n → Stands code at n (placed_items o to l) → Finds base heap given f0 c d →
+        n + total (placed_items o to l) < 2 ^ 28 + 1 → c.pc ≡ address_of n → Stands code at n (placed_items o to l) → Finds base heap places f0 c d b cells →
         Valued base code heap 12 to free c (address_of (n + total (placed_items o to l))) (address_of (at l)) (and_then v (of_sort s))
     given-comes to free o s v low few sorted n c stands near here h finds =
         subst (Valued base code heap 12 to free c (address_of (n + total (placed_items o to l))) (address_of (at l))) (sym (sort-same s v sorted))
@@ -86,7 +88,7 @@ module _
       pub arrives : Arrives base code limit free free c place
       pub first_stands : StandsFor base heap (arrives.end.registers free) first
       pub second_stands : StandsFor base heap (arrives.end.registers (free + 1)) second
-      pub finds : Finds base heap given f0 arrives.end d
+      pub finds : Finds base heap places f0 arrives.end d b cells
 
     -- or one of them yields nothing
     pub record OneMissing (free limit : ℕ) (y1 y2 : Yielder) (c : WordState) : Type 0 where
@@ -96,21 +98,21 @@ module _
     -- two operands come one behind the other, and something behind them
     module _ (free : ℕ) (low : 10 ≤ free) (y1 y2 : Yielder) (last : List Item) where
       abbrev both : List Item
-      both = value_items given free free l y1 ++ (value_items given (free + 1) (free + 1) l y2 ++ last)
+      both = value_items places free free l y1 ++ (value_items places (free + 1) (free + 1) l y2 ++ last)
 
       abbrev pub behind_both : ℕ → ℕ
-      behind_both n = n + total (value_items given free free l y1) + total (value_items given (free + 1) (free + 1) l y2)
+      behind_both n = n + total (value_items places free free l y1) + total (value_items places (free + 1) (free + 1) l y2)
 
       abbrev pub limit_both : ℕ
       limit_both = 12 * yielder_count y1 + 12 * yielder_count y2
 
       pub operands-known :
-          Comes free free y1 → Comes (free + 1) (free + 1) y2 → (n : ℕ) (c : WordState) → n + total both < 2 ^ 28 + 1 → c.pc ≡ address_of n → Stands code at n both → Finds base heap given f0 c d →
+          Comes free free y1 → Comes (free + 1) (free + 1) y2 → (n : ℕ) (c : WordState) → n + total both < 2 ^ 28 + 1 → c.pc ≡ address_of n → Stands code at n both → Finds base heap places f0 c d b cells →
           BothKnown free limit_both y1 y2 c (address_of (behind_both n)) ⊎ OneMissing free limit_both y1 y2 c
       unfolding arrives-then
       operands-known comes1 comes2 n c near here h finds =
-          let a = value_items given free free l y1 in
-          let e = value_items given (free + 1) (free + 1) l y2 in
+          let a = value_items places free free l y1 in
+          let e = value_items places (free + 1) (free + 1) l y2 in
           let sizes : total (a ++ (e ++ last)) ≡ total a + (total e + total last) = omega (arith, total-append a (e ++ last), total-append e last) in
           let h2 = stands-back code at n a (e ++ last) h in
           let one = valued-cases base code heap (12 * yielder_count y1) free free c (address_of (n + total a)) (address_of (at l)) (yields y1 d b cells)
@@ -118,10 +120,10 @@ module _
           ⊎_elim
           (λ (p : Known base code heap (12 * yielder_count y1) free free c (address_of (n + total a)) (yields y1 d b cells)).
           let c1 = p.arrives.end in
-          let finds1 = finds-after base code heap given f0 c c1 d (p.arrives.others 2 (omega (arith, low)) (omega (arith, low))) p.arrives.words finds in
+          let finds1 = finds-after base code heap places f0 c c1 d b cells (p.arrives.others 2 (omega (arith, low)) (omega (arith, low))) p.arrives.words finds in
           let two = valued-cases base code heap (12 * yielder_count y2) (free + 1) (free + 1) c1 (address_of (n + total a + total e)) (address_of (at l)) (yields y2 d b cells)
           (comes2 (n + total a) c1 (omega (arith, near, sizes)) p.arrives.at (stands-front code at (n + total a) e last h2) finds1) in
-          ⊎_elim (λ q. inl (known n c p q (finds-after base code heap given f0 c1 q.arrives.end d (q.arrives.others 2 (omega (arith, low)) (omega (arith, low))) q.arrives.words finds1)))
+          ⊎_elim (λ q. inl (known n c p q (finds-after base code heap places f0 c1 q.arrives.end d b cells (q.arrives.others 2 (omega (arith, low)) (omega (arith, low))) q.arrives.words finds1)))
           (λ (q : (yields y2 d b cells ≡ None) × Arrives base code (12 * yielder_count y2) (free + 1) (free + 1) c1 (address_of (at l))).
           let v1 = p.is in
           let v2 = q.0 in
@@ -139,15 +141,15 @@ module _
           one
         where
           known :
-              (n : ℕ) (c : WordState) (p : Known base code heap (12 * yielder_count y1) free free c (address_of (n + total (value_items given free free l y1))) (yields y1 d b cells))
+              (n : ℕ) (c : WordState) (p : Known base code heap (12 * yielder_count y1) free free c (address_of (n + total (value_items places free free l y1))) (yields y1 d b cells))
               (q : Known base code heap (12 * yielder_count y2) (free + 1) (free + 1) p.arrives.end (address_of (behind_both n)) (yields y2 d b cells)) →
-              Finds base heap given f0 q.arrives.end d → BothKnown free limit_both y1 y2 c (address_of (behind_both n))
+              Finds base heap places f0 q.arrives.end d b cells → BothKnown free limit_both y1 y2 c (address_of (behind_both n))
           known n c p q finds2 = record {
             first = p.datum;
             second = q.datum;
             first_is = p.is;
             second_is = q.is;
-            arrives = arrives-then base code (12 * yielder_count y1) (12 * yielder_count y2) limit_both free (free + 1) free free (free + 1) free c (address_of (n + total (value_items given free free l y1))) (address_of (behind_both n)) p.arrives q.arrives (omega arith) (omega arith) (omega arith) (inl refl) (inr (omega arith));
+            arrives = arrives-then base code (12 * yielder_count y1) (12 * yielder_count y2) limit_both free (free + 1) free free (free + 1) free c (address_of (n + total (value_items places free free l y1))) (address_of (behind_both n)) p.arrives q.arrives (omega arith) (omega arith) (omega arith) (inl refl) (inr (omega arith));
             first_stands = subst (λ w. StandsFor base heap w p.datum) (sym (q.arrives.others free (omega arith) (omega arith))) p.stands;
             second_stands = q.stands;
             finds = finds2;
@@ -159,16 +161,16 @@ module _
       abbrev pub Applies : Type 0
       Applies =
           (m : ℕ) (e : WordState) (x y : Datum) → m + total last < 2 ^ 28 + 1 → e.pc ≡ address_of m → yields y1 d b cells ≡ Some x → yields y2 d b cells ≡ Some y →
-          StandsFor base heap (e.registers free) x → StandsFor base heap (e.registers (free + 1)) y → Finds base heap given f0 e d → Stands code at m last →
+          StandsFor base heap (e.registers free) x → StandsFor base heap (e.registers (free + 1)) y → Finds base heap places f0 e d b cells → Stands code at m last →
           Valued base code heap 12 to free e (address_of (m + total last)) (address_of (at l)) (g x y)
 
       pub operands-come :
           12 * yielder_count y1 + 12 * yielder_count y2 + 12 ≤ limit → Comes free free y1 → Comes (free + 1) (free + 1) y2 → Applies →
-          (n : ℕ) (c : WordState) → n + total (both free low y1 y2 last) < 2 ^ 28 + 1 → c.pc ≡ address_of n → Stands code at n (both free low y1 y2 last) → Finds base heap given f0 c d →
+          (n : ℕ) (c : WordState) → n + total (both free low y1 y2 last) < 2 ^ 28 + 1 → c.pc ≡ address_of n → Stands code at n (both free low y1 y2 last) → Finds base heap places f0 c d b cells →
           Valued base code heap limit to free c (address_of (n + total (both free low y1 y2 last))) (address_of (at l)) (and_then (yields y1 d b cells) (λ x. and_then (yields y2 d b cells) (g x)))
       operands-come few comes1 comes2 applies n c near here h finds =
-          let a = value_items given free free l y1 in
-          let e = value_items given (free + 1) (free + 1) l y2 in
+          let a = value_items places free free l y1 in
+          let e = value_items places (free + 1) (free + 1) l y2 in
           let sizes : total (a ++ (e ++ last)) ≡ total a + (total e + total last) = omega (arith, total-append a (e ++ last), total-append e last) in
           let m = behind_both free low y1 y2 last n in
           let k = limit_both free low y1 y2 last in
@@ -191,14 +193,14 @@ module _
       abbrev pub AppliesTo : Type 0
       AppliesTo =
           (m : ℕ) (e : WordState) (x : Datum) → m + total last < 2 ^ 28 + 1 → e.pc ≡ address_of m → yields y d b cells ≡ Some x → StandsFor base heap (e.registers source) x →
-          Finds base heap given f0 e d → Stands code at m last → Valued base code heap 12 to free e (address_of (m + total last)) (address_of (at l)) (g x)
+          Finds base heap places f0 e d b cells → Stands code at m last → Valued base code heap 12 to free e (address_of (m + total last)) (address_of (at l)) (g x)
 
       pub operand-comes :
           12 * yielder_count y + 12 ≤ limit → Comes source free y → AppliesTo →
-          (n : ℕ) (c : WordState) → n + total (value_items given source free l y ++ last) < 2 ^ 28 + 1 → c.pc ≡ address_of n → Stands code at n (value_items given source free l y ++ last) → Finds base heap given f0 c d →
-          Valued base code heap limit to free c (address_of (n + total (value_items given source free l y ++ last))) (address_of (at l)) (and_then (yields y d b cells) g)
+          (n : ℕ) (c : WordState) → n + total (value_items places source free l y ++ last) < 2 ^ 28 + 1 → c.pc ≡ address_of n → Stands code at n (value_items places source free l y ++ last) → Finds base heap places f0 c d b cells →
+          Valued base code heap limit to free c (address_of (n + total (value_items places source free l y ++ last))) (address_of (at l)) (and_then (yields y d b cells) g)
       operand-comes few comes applies n c near here h finds =
-          let a = value_items given source free l y in
+          let a = value_items places source free l y in
           let next = address_of (n + total (a ++ last)) in
           let sizes : total (a ++ last) ≡ total a + total last = total-append a last in
           let one = valued-cases base code heap (12 * yielder_count y) source free c (address_of (n + total a)) (address_of (at l)) (yields y d b cells)
@@ -207,7 +209,7 @@ module _
           (λ (p : Known base code heap (12 * yielder_count y) source free c (address_of (n + total a)) (yields y d b cells)).
           let v = p.is in
           let e = p.arrives.end in
-          let finds1 = finds-after base code heap given f0 c e d (p.arrives.others 2 (omega (arith, low)) other) p.arrives.words finds in
+          let finds1 = finds-after base code heap places f0 c e d b cells (p.arrives.others 2 (omega (arith, low)) other) p.arrives.words finds in
           let done = applies (n + total a) e p.datum (omega (arith, near, sizes)) p.arrives.at v p.stands finds1 (stands-back code at n a last h) in
           let end : address_of (n + total a + total last) ≡ next = omega (arith, sizes) in
           let all = valued-then base code heap (12 * yielder_count y) 12 limit source to free free free c (address_of (n + total a)) (address_of (n + total a + total last)) (address_of (at l)) (g p.datum) p.arrives done few (omega arith) (omega arith) own in
@@ -225,8 +227,8 @@ module _
 
     -- the code that stands is that of the yielder, and so is what it comes to
     as-code :
-        (to free : ℕ) (y : Yielder) (items : List Item) (v : Option Datum) → value_items given to free l y ≡ items → yields y d b cells ≡ v →
-        ((n : ℕ) (c : WordState) → n + total items < 2 ^ 28 + 1 → c.pc ≡ address_of n → Stands code at n items → Finds base heap given f0 c d →
+        (to free : ℕ) (y : Yielder) (items : List Item) (v : Option Datum) → value_items places to free l y ≡ items → yields y d b cells ≡ v →
+        ((n : ℕ) (c : WordState) → n + total items < 2 ^ 28 + 1 → c.pc ≡ address_of n → Stands code at n items → Finds base heap places f0 c d b cells →
         Valued base code heap (12 * yielder_count y) to free c (address_of (n + total items)) (address_of (at l)) v) →
         Comes to free y
     as-code to free y items v same is comes n c near here h =
@@ -320,7 +322,7 @@ module _
             let limit = 12 * yielder_count (OnTwo f y1 y2) in
             let own = above-free to free (omega (arith, room)) in
             let other = addend-other to free low in
-            as-code to free (OnTwo f y1 y2) (value_items given source free l y1 ++ last) _ (rw e refl) is
+            as-code to free (OnTwo f y1 y2) (value_items places source free l y1 ++ last) _ (rw e refl) is
             (operand-comes free source low y1 last to limit g own other (omega (arith, some-count y2)) (each1 source free low (omega (arith, room)) (addend-target to free))
             (addition-applies to free z g low (omega (arith, room)) target a.fits a.same y1 limit own other (a.wanted _ (subst (λ y. AreWanted f (yields y1 d b cells) (yields y d b cells)) a.is wanted))))
 
@@ -334,7 +336,7 @@ module _
             let limit = 12 * yielder_count (OnTwo f y1 y2) in
             let own = above-free to free (omega (arith, room)) in
             let other = addend-other to free low in
-            as-code to free (OnTwo f y1 y2) (value_items given source free l y2 ++ last) _ (rw (o2, e) refl) is
+            as-code to free (OnTwo f y1 y2) (value_items places source free l y2 ++ last) _ (rw (o2, e) refl) is
             (operand-comes free source low y2 last to limit g own other (omega (arith, some-count y1)) (each2 source free low (omega (arith, room)) (addend-target to free))
             (addition-applies to free z g low (omega (arith, room)) target a.fits a.same y2 limit own other (a.wanted _ (subst (λ y. AreWanted f (yields y d b cells) (yields y2 d b cells)) a.is wanted))))
 
@@ -343,7 +345,7 @@ module _
             let last = operation_items f to free (free + 1) l in
             let limit = 12 * yielder_count (OnTwo f y1 y2) in
             let more = ltb-false _ _ q in
-            as-code to free (OnTwo f y1 y2) (value_items given free free l y1 ++ (value_items given (free + 1) (free + 1) l y2 ++ last)) _ (rw (o2, o1, q) refl) refl
+            as-code to free (OnTwo f y1 y2) (value_items places free free l y1 ++ (value_items places (free + 1) (free + 1) l y2 ++ last)) _ (rw (o2, o1, q) refl) refl
             (operands-come free low y1 y2 last to limit (on_two f) (omega arith) (each1 free free low (omega (arith, room, more)) (inl refl)) (each2 (free + 1) (free + 1) (omega arith) (omega (arith, room, more)) (inl refl))
             (operation-applies f to free low (omega (arith, room, some-need y1, some-need y2)) target y1 y2 limit wanted))
 
@@ -352,7 +354,7 @@ module _
             let last = operation_items f to (free + 1) free l in
             let limit = 12 * yielder_count (OnTwo f y1 y2) in
             let more = ltb-true _ _ q in
-            as-code to free (OnTwo f y1 y2) (value_items given free free l y2 ++ (value_items given (free + 1) (free + 1) l y1 ++ last)) _ (rw (o2, o1, q) refl) (exchanged (yields y1 d b cells) (yields y2 d b cells) (on_two f))
+            as-code to free (OnTwo f y1 y2) (value_items places free free l y2 ++ (value_items places (free + 1) (free + 1) l y1 ++ last)) _ (rw (o2, o1, q) refl) (exchanged (yields y1 d b cells) (yields y2 d b cells) (on_two f))
             (operands-come free low y2 y1 last to limit (λ x y. on_two f y x) (omega arith) (each2 free free low (omega (arith, room, more)) (inl refl)) (each1 (free + 1) (free + 1) (omega arith) (omega (arith, room, more)) (inl refl))
             (exchanged-applies f to free low (omega (arith, room, some-need y1, some-need y2)) target y2 y1 limit wanted))
 
@@ -364,20 +366,36 @@ module _
         one-valued base code heap at m to free l e v (omega (arith, room)) l_near here (length e.words) finds.cells finds.frame.below f free (e.registers free) x (omega arith) (omega (arith, room, some-need y)) near refl
         (subst (IsWanted f) is wanted) s (subst (λ p. Has code p (code_from at m (one_items f to free l))) (sym here) h))
 
-    pub value-comes : (y : Yielder) → is_built y ≡ true → HasWords y → IsSuited y d b cells → EachComes y
-    value-comes (NumberLiteral z) built words suited to free low room target n c near here h finds =
+    -- a cell's address comes to the register, and then what the cell holds
+    cell-comes :
+        (s : Sort) (y : Yielder) → IsOfSort sort.Cell (yields y d b cells) → IsOfSort s (and_then (yields y d b cells) (stored cells)) → EachComes y → EachComes (StoredIn s y)
+    cell-comes s y cell sorted each to free low room target =
+        as-code to free (StoredIn s y) (value_items places free free l y ++ content_items to free l) (and_then (yields y d b cells) content) refl (and_then-nested (yields y d b cells) (stored cells) (of_sort s))
+        (operand-comes free free low y (content_items to free l) to (12 * yielder_count (StoredIn s y)) content (inr (omega arith)) (omega (arith, low)) (omega arith) (each free free low room (inl refl))
+        (λ m e x near here is stands finds h.
+        content-comes base code heap at to free l (target-value to free low (omega (arith, room, some-need y)) target) free (omega (arith, low), omega (arith, room, some-need y)) (omega (arith, room)) l_near places f0 d b cells s m e x near here
+        (subst (IsOfSort sort.Cell) is cell) (subst (λ o. IsOfSort s (and_then o (stored cells))) is sorted) stands finds (subst (λ p. Has code p (code_from at m (content_items to free l))) (sym here) h)))
+      where
+        content : Datum → Option Datum
+        content x = and_then (stored cells x) (of_sort s)
+
+    pub value-comes : (y : Yielder) → is_built y ≡ true → HasWords y → HasSlots places.bound y b → IsSuited y d b cells → EachComes y
+    value-comes (NumberLiteral z) built words slots suited to free low room target n c near here h finds =
         constant-comes to free (integer_word z) (Number z) (fits-below z words) (refl, words) (target-value to free low (omega (arith, room)) target) n c here h
-    value-comes (TruthLiteral t) built words suited to free low room target n c near here h finds =
+    value-comes (TruthLiteral t) built words slots suited to free low room target n c near here h finds =
         constant-comes to free (truth_word t) (Truth t) (truth-below t) refl (target-value to free low (omega (arith, room)) target) n c here h
-    value-comes (Given s) built words suited to free low room target n c near here h finds =
-        given-comes to free (only_offset given) s (only d) (target-low to free low target) (omega (arith, room)) suited n c (only-stands base heap c.words f0 given d near_given finds.inside finds.holds) near here h finds
-    value-comes (GivenAt s place) built words suited to free low room target n c near here h finds =
-        given-comes to free (nth_offset given place) s (nth d place) (target-low to free low target) (omega (arith, room)) suited n c (nth-stands base heap c.words f0 given d place near_given finds.inside finds.holds) near here h finds
-    value-comes (OnTwo f y1 y2) built words suited to free low room target n c near here h finds =
+    value-comes (Given s) built words slots suited to free low room target n c near here h finds =
+        given-comes to free (only_offset places.given) s (only d) (target-low to free low target) (omega (arith, room)) suited n c (only-stands base heap c.words f0 places.given d near_places.given finds.inside finds.holds) near here h finds
+    value-comes (GivenAt s place) built words slots suited to free low room target n c near here h finds =
+        given-comes to free (nth_offset places.given place) s (nth d place) (target-low to free low target) (omega (arith, room)) suited n c (nth-stands base heap c.words f0 places.given d place near_places.given finds.inside finds.holds) near here h finds
+    value-comes (OnTwo f y1 y2) built words slots suited to free low room target n c near here h finds =
         let q = and-true (is_built y1) (is_built y2) built in
-        two-comes f y1 y2 suited.2 (value-comes y1 q.0 words.0 suited.0) (value-comes y2 q.1 words.1 suited.1) to free low room target n c near here h finds
-    value-comes (OnOne f y) built words suited to free low room target n c near here h finds =
-        one-comes f y suited.1 (value-comes y built words suited.0) to free low room target n c near here h finds
-    value-comes (BoundTo s t) built words suited to free low room target n c near here h finds = absurd (cc)
-    value-comes (StoredIn s y) built words suited to free low room target n c near here h finds = absurd (cc)
-    value-comes (ClosureOf k) built words suited to free low room target n c near here h finds = absurd (cc)
+        two-comes f y1 y2 suited.2 (value-comes y1 q.0 words.0 slots.0 suited.0) (value-comes y2 q.1 words.1 slots.1 suited.1) to free low room target n c near here h finds
+    value-comes (OnOne f y) built words slots suited to free low room target n c near here h finds =
+        one-comes f y suited.1 (value-comes y built words slots suited.0) to free low room target n c near here h finds
+    value-comes (BoundTo s t) built words slots suited to free low room target n c near here h finds =
+        given-comes to free (slot_offset places.bound t) s (lookup t b) (target-low to free low target) (omega (arith, room)) suited n c
+        (bound-stands base heap c.words f0 places.bound b t near_places.bound finds.slots_inside finds.binds slots) near here h finds
+    value-comes (StoredIn s y) built words slots suited to free low room target n c near here h finds =
+        cell-comes s y suited.1 suited.2 (value-comes y built words slots suited.0) to free low room target n c near here h finds
+    value-comes (ClosureOf k) built words slots suited to free low room target n c near here h finds = absurd (cc)

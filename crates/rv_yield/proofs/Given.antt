@@ -1,6 +1,9 @@
--- What is given is loaded into a register from where it stands.
-use Rattle.std.proofs.Common.{◌≡◌, ⊎_elim, ℕ, zero, suc, ◌+◌, ◌*◌, ◌^◌, ◌<◌, ◌≤◌, true, false, List, [], ◌∷◌, ◌++◌, All, length, Option, Some, None, pos, refl, sym, ap, ◌∙◌, subst, arith, length-append, ltb}
+-- What is given, and what a token is bound to, is loaded into a register from where it stands.
+use Rattle.std.proofs.Common.{◌≡◌, ⊎_elim, ℕ, zero, suc, ◌+◌, ◌*◌, ◌^◌, ◌<◌, ◌≤◌, Bool, true, false, List, [], ◌∷◌, ◌++◌, All, length, Option, Some, None, pos, refl, sym, ap, ◌∙◌, subst, arith, length-append, ltb}
 use Rattle.std.specs.Prelude.{slice_get, slice_index}
+use Rattle.std.specs.Str.{bytes_eq}
+use Rattle.std.proofs.lemmas.Slice.Eq.{bytes_eq-Decides}
+use Rattle.std.proofs.lemmas.Option.{none-some, same_Some}
 use Rattle.std.proofs.lemmas.List.Elements.{All-head, All-tail}
 use Rattle.rv_code.proofs.Bools.{true-or-false}
 use Rattle.rv_code.specs.Arithmetic.{wrap}
@@ -19,17 +22,23 @@ use Rattle.rv_asm.proofs.Registers.{put-other}
 use Rattle.rv_asm.proofs.Sending.{code_from-plain, total-plain}
 use Rattle.rv_asm.proofs.Stretches.{then-runs}
 use Rattle.rv_asm.proofs.Words.{IsReachable, load-runs}
-use Rattle.action_terms.specs.Information.{Datum, Data}
+use Rattle.action_terms.specs.Bindings.{lookup}
+use Rattle.action_terms.specs.Information.{Token, Datum, Binds, Data}
 use Rattle.action_terms.specs.Suited.{IsOfSort}
 use Rattle.action_terms.specs.Yielding.{only, nth, of_sort, and_then}
 use Rattle.action_terms.specs.declared.kinds.Sort.{Sort}
 use Rattle.rv_yield.specs.Evaluates.{HasFrame}
-use Rattle.rv_yield.specs.Holding.{word_at, Holds, only_offset, nth_offset}
+use Rattle.rv_yield.specs.Holding.{Slot, Places, word_at, Holds, HoldsBinds, only_offset, nth_offset, slot_offset}
 use Rattle.rv_yield.specs.YielderCode.{load_items, placed_items}
 use Rattle.rv_yield.proofs.Steps.{written, get-written, put-written, op-runs, Arrives}
 use Rattle.rv_yield.proofs.Valued.{Valued, HasValue, NoValue}
 
 -- ---- where data stand
+
+-- the offsets of these places are those of frames
+pub record IsNear (places : Places) : Type 0 where
+  pub given : All (λ o. o < 33554432) places.given
+  pub bound : All (λ s. s.offset < 33554432) places.bound
 
 module _ (base : ℕ) (heap : Heap) (words : List ℕ) (f : ℕ) where
   -- a datum that is there stands at its offset, and where there is none, neither is an offset
@@ -65,6 +74,34 @@ module _ (base : ℕ) (heap : Heap) (words : List ℕ) (f : ℕ) where
   pub nth-stands : (given : List ℕ) (d : Data) (k : ℕ) → Near given → Inside given → Holds base heap words f given d → Stands_at (nth_offset given k) (nth d k)
   nth-stands given d zero n i h = Missing
   nth-stands given d (suc k) n i h = get-stands given d k n i h
+
+  -- what a token is bound to stands at its slot, and a token without a slot isn't bound
+  pub bound-stands :
+      (slots : List Slot) (b : Binds) (t : Token) → All (λ s. s.offset < 33554432) slots → All (λ s. f + s.offset < length words) slots → HoldsBinds base heap words f slots b →
+      (slot_offset slots t ≡ None → lookup t b ≡ None) → Stands_at (slot_offset slots t) (lookup t b)
+  bound-stands [] b t n i h none = subst (Stands_at None) (sym (none refl)) Missing
+  bound-stands (s ∷ ss) b t n i h none =
+      by (bytes_eq s.token t) refl
+      (λ other. bound-stands ss b t (All-tail (λ s. s.offset < 33554432) s ss n) (All-tail (λ s. f + s.offset < length words) s ss i) h.1 (λ q. none (rw other q)))
+    where
+      by : (q : Bool) → bytes_eq s.token t ≡ q → (bytes_eq s.token t ≡ false → Stands_at (slot_offset ss t) (lookup t b)) → Stands_at (slot_offset (s ∷ ss) t) (lookup t b)
+      by true e rest =
+          let is : lookup t b ≡ Some h.0.datum = subst (λ u. lookup u b ≡ Some h.0.datum) ((bytes_eq-Decides s.token t).0 e) h.0.is in
+          rw (e, is) (There s.offset h.0.datum (All-head (λ s. s.offset < 33554432) s ss n) (All-head (λ s. f + s.offset < length words) s ss i) h.0.stands)
+      by false e rest = rw e (rest e)
+
+-- a token's slot is one of a frame
+pub slot-near : (slots : List Slot) (t : Token) (n : ℕ) → All (λ s. s.offset < 33554432) slots → slot_offset slots t ≡ Some n → n < 33554432
+slot-near [] t n near e = absurd (none-some n e)
+slot-near (s ∷ ss) t n near e = by (bytes_eq s.token t) refl (slot-near ss t n (All-tail (λ s. s.offset < 33554432) s ss near))
+  where
+    by : (q : Bool) → bytes_eq s.token t ≡ q → (slot_offset ss t ≡ Some n → n < 33554432) → n < 33554432
+    by true q rest =
+        let same : slot_offset (s ∷ ss) t ≡ Some s.offset = rw q refl in
+        subst (λ o. o < 33554432) (same_Some s.offset n (sym same ∙ e)) (All-head (λ s. s.offset < 33554432) s ss near)
+    by false q rest =
+        let same : slot_offset (s ∷ ss) t ≡ slot_offset ss t = rw q refl in
+        rest (sym same ∙ e)
 
 -- what is found is of the sort that is asked for
 pub sort-same : (s : Sort) (o : Option Datum) → IsOfSort s o → and_then o (of_sort s) ≡ o

@@ -15,9 +15,9 @@ use Rattle.rv_asm.proofs.Sending.{total-plain}
 use Rattle.action_terms.specs.Actions.{Two, Sum, Difference, Product, Quotient, Remainder, Is, Less, BothOf, EitherOf, One, Negation, Not, Yielder, NumberLiteral, TruthLiteral, Given, GivenAt, BoundTo, StoredIn, OnTwo, OnOne, ClosureOf}
 use Rattle.action_terms.specs.Need.{yielder_count}
 use Rattle.rv_yield.specs.Calls.{is_call, calls}
-use Rattle.rv_yield.specs.Holding.{only_offset, nth_offset}
+use Rattle.rv_yield.specs.Holding.{Places, only_offset, nth_offset, slot_offset}
 use Rattle.rv_yield.specs.Registers.{registers_needed}
-use Rattle.rv_yield.specs.YielderCode.{operation_items, one_items, addition_items, load_items, placed_items, store_items, in_order, second_constant, first_constant, of_literal, addend_for, either_adding, value_items}
+use Rattle.rv_yield.specs.YielderCode.{operation_items, one_items, addition_items, content_items, load_items, placed_items, store_items, in_order, second_constant, first_constant, of_literal, addend_for, either_adding, value_items}
 use Rattle.rv_yield.proofs.Given.{length-load}
 
 -- no label is placed, and nothing is called
@@ -108,6 +108,9 @@ one-short : (o : One) (to a l : ℕ) → IsShort 12 (one_items o to a l)
 one-short Negation to a l = record { few = omega arith; unmarked = (refl, (refl, (refl, (refl, tt)))) }
 one-short Not to a l = record { few = omega arith; unmarked = (refl, tt) }
 
+content-short : (to a l : ℕ) → IsShort 12 (content_items to a l)
+content-short to a l = record { few = omega arith; unmarked = (refl, (refl, (refl, tt))) }
+
 constant-short : (to w : ℕ) → IsShort 12 (map Plain (load_constant to w))
 constant-short to w = record { few = omega (arith, total-plain (load_constant to w), length-load_constant to w); unmarked = unmarked-plain (load_constant to w) (quiet-constant to w) }
 
@@ -138,22 +141,23 @@ pub none-short : (n : ℕ) → IsShort n []
 none-short n = record { few = omega arith; unmarked = tt }
 
 -- at most 12 instructions for each yielder
-pub value-short : (given : List ℕ) (y : Yielder) (to free l : ℕ) → IsShort (12 * yielder_count y) (value_items given to free l y)
-value-short given (NumberLiteral z) to free l = constant-short to (integer_word z)
-value-short given (TruthLiteral t) to free l = constant-short to (truth_word t)
-value-short given (Given s) to free l = placed-short (only_offset given) to l
-value-short given (GivenAt s k) to free l = placed-short (nth_offset given k) to l
-value-short given (OnTwo f y1 y2) to free l =
+pub value-short : (places : Places) (y : Yielder) (to free l : ℕ) → IsShort (12 * yielder_count y) (value_items places to free l y)
+value-short places (NumberLiteral z) to free l = constant-short to (integer_word z)
+value-short places (TruthLiteral t) to free l = constant-short to (truth_word t)
+value-short places (Given s) to free l = placed-short (only_offset places.given) to l
+value-short places (GivenAt s k) to free l = placed-short (nth_offset places.given k) to l
+value-short places (OnTwo f y1 y2) to free l =
     let c1 = yielder_count y1 in
     let c2 = yielder_count y2 in
     let n = 12 * yielder_count (OnTwo f y1 y2) in
     either-short n (of_literal (second_constant f) y2) (of_literal (first_constant f) y1) to l _ _ _
-    (λ z. short-append (12 * c1) 12 n _ _ (omega arith) (value-short given y1 (addend_for to) free l) (addition-short to (addend_for to) z l))
-    (λ z. short-append (12 * c2) 12 n _ _ (omega arith) (value-short given y2 (addend_for to) free l) (addition-short to (addend_for to) z l))
-    (order-short (12 * c1) (12 * c2) 12 n (ltb (registers_needed y1) (registers_needed y2)) free _ _ _ _ _ (omega arith) (value-short given y1 free free l) (value-short given y1 (free + 1) (free + 1) l)
-    (value-short given y2 free free l) (value-short given y2 (free + 1) (free + 1) l) (λ a b. operation-short f to a b l))
-value-short given (OnOne f y) to free l =
-    short-append (12 * yielder_count y) 12 (12 * yielder_count (OnOne f y)) _ _ (omega arith) (value-short given y free free l) (one-short f to free l)
-value-short given (BoundTo s t) to free l = none-short _
-value-short given (StoredIn s y) to free l = none-short _
-value-short given (ClosureOf k) to free l = none-short _
+    (λ z. short-append (12 * c1) 12 n _ _ (omega arith) (value-short places y1 (addend_for to) free l) (addition-short to (addend_for to) z l))
+    (λ z. short-append (12 * c2) 12 n _ _ (omega arith) (value-short places y2 (addend_for to) free l) (addition-short to (addend_for to) z l))
+    (order-short (12 * c1) (12 * c2) 12 n (ltb (registers_needed y1) (registers_needed y2)) free _ _ _ _ _ (omega arith) (value-short places y1 free free l) (value-short places y1 (free + 1) (free + 1) l)
+    (value-short places y2 free free l) (value-short places y2 (free + 1) (free + 1) l) (λ a b. operation-short f to a b l))
+value-short places (OnOne f y) to free l =
+    short-append (12 * yielder_count y) 12 (12 * yielder_count (OnOne f y)) _ _ (omega arith) (value-short places y free free l) (one-short f to free l)
+value-short places (BoundTo s t) to free l = placed-short (slot_offset places.bound t) to l
+value-short places (StoredIn s y) to free l =
+    short-append (12 * yielder_count y) 12 (12 * yielder_count (StoredIn s y)) _ _ (omega arith) (value-short places y free free l) (content-short to free l)
+value-short places (ClosureOf k) to free l = none-short _

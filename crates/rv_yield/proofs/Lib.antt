@@ -10,6 +10,7 @@ mod Additions
 pub mod Targets
 pub mod Valued
 pub mod Given
+mod Contents
 pub mod Comparisons
 pub mod Sorted
 pub mod Evaluation
@@ -22,4 +23,3 @@ mod Evaluated
 mod Decided
 pub mod Stored
 pub mod Storing
-pub mod Integral

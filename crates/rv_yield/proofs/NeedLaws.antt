@@ -28,7 +28,7 @@ registers-few (TruthLiteral t) = omega arith
 registers-few (Given s) = omega arith
 registers-few (GivenAt s k) = omega arith
 registers-few (BoundTo s t) = omega arith
-registers-few (StoredIn s y) = omega arith
+registers-few (StoredIn s y) = omega (arith, registers-few y)
 registers-few (OnTwo f y1 y2) = two (registers_needed y1) (registers_needed y2) (yielder_count y1) (yielder_count y2) (registers-few y1) (registers-few y2)
   where
     one-more : (m c1 c2 : ℕ) → 2 ^ m ≤ c1 + 1 → 2 ^ m ≤ c2 + 1 → 2 ^ (m + 1) ≤ 1 + (c1 + c2) + 1

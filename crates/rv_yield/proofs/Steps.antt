@@ -113,7 +113,7 @@ module _ (base : ℕ) (code : List Inst) where
     Yielded : (n : ℤ) → FitsSigned w64 n → (a : Arrives limit to free c next) → a.end.registers to ≡ unsigned n → Outcome limit to free c next nothing (Some (Number n))
     NotYielded : Arrives limit to free c nothing → Outcome limit to free c next nothing None
 
-  pub ran-arrives : (k limit to free : ℕ) (c e : WordState) (address : ℕ) → Ran k to c e → k ≤ limit → free ≤ 26 → e.pc ≡ address → Arrives limit to free c address
+  unfoldable pub ran-arrives : (k limit to free : ℕ) (c e : WordState) (address : ℕ) → Ran k to c e → k ≤ limit → free ≤ 26 → e.pc ≡ address → Arrives limit to free c address
   ran-arrives k limit to free c e address r few low there = record {
     count = k;
     few = few;

@@ -15,10 +15,12 @@ use Rattle.action_terms.specs.Actions.{Yielder}
 use Rattle.action_terms.specs.Need.{yielder_count}
 use Rattle.action_terms.specs.Suited.{IsSuited}
 use Rattle.action_terms.specs.Yielding.{yields}
-use Rattle.rv_yield.specs.Evaluates.{label_address, Comes, Finds, Left, Stores}
+use Rattle.rv_yield.specs.Evaluates.{HasSlots, label_address, Comes, Finds, Left, Stores}
 use Rattle.rv_yield.specs.Fronts.{extended}
+use Rattle.rv_yield.specs.Holding.{Places}
 use Rattle.rv_yield.specs.Registers.{is_built, registers_needed, HasWords}
 use Rattle.rv_yield.specs.YielderCode.{value_items, store_items, stored_items}
+use Rattle.rv_yield.proofs.Given.{IsNear}
 use Rattle.rv_yield.proofs.Evaluated.{leads-at, comes-at}
 use Rattle.rv_yield.proofs.Evaluation.{value-comes}
 use Rattle.rv_yield.proofs.Steps.{Arrives, arrives-weaker}
@@ -44,25 +46,25 @@ pub record HasLeft (base : ℕ) (code : List Inst) (heap : Heap) (limit f offset
   pub output : end.output ≡ c.output
 
 module _
-    (base : ℕ) (code : List Inst) (at : ℕ → ℕ) (l : ℕ) (l_near : at l < 2 ^ 28) (heap : Heap) (given : List ℕ) (near_given : All (λ o. o < 33554432) given) (f0 : ℕ)
+    (base : ℕ) (code : List Inst) (at : ℕ → ℕ) (l : ℕ) (l_near : at l < 2 ^ 28) (heap : Heap) (places : Places) (near_places : IsNear places) (f0 : ℕ)
     (d : Data) (b : Binds) (cells : Storage)
   where
     -- wherever the code stands, it leaves what the yielder yields
     pub stored-comes :
-        (y : Yielder) → is_built y ≡ true → HasWords y → IsSuited y d b cells → registers_needed y ≤ 16 → (offset n : ℕ) (c : WordState) → offset < 33554432 → f0 + offset < length c.words →
-        n + total (stored_items given offset l y) < 2 ^ 28 + 1 → c.pc ≡ address_of n → Stands code at n (stored_items given offset l y) → Finds base heap given f0 c d →
-        HasLeft base code heap (24 * yielder_count y) f0 offset c (address_of (n + total (stored_items given offset l y))) (yields y d b cells)
+        (y : Yielder) → is_built y ≡ true → HasWords y → HasSlots places.bound y b → IsSuited y d b cells → registers_needed y ≤ 16 → (offset n : ℕ) (c : WordState) → offset < 33554432 → f0 + offset < length c.words →
+        n + total (stored_items places offset l y) < 2 ^ 28 + 1 → c.pc ≡ address_of n → Stands code at n (stored_items places offset l y) → Finds base heap places f0 c d b cells →
+        HasLeft base code heap (24 * yielder_count y) f0 offset c (address_of (n + total (stored_items places offset l y))) (yields y d b cells)
         ⊎ ((yields y d b cells ≡ None) × Arrives base code (24 * yielder_count y) 10 10 c (address_of (at l)))
-    stored-comes y built words suited few offset n c small inside near here h finds =
-        let a = value_items given 10 10 l y in
+    stored-comes y built words slots suited few offset n c small inside near here h finds =
+        let a = value_items places 10 10 l y in
         let piece = store_items offset in
         let limit = 12 * yielder_count y in
         let sizes : total (a ++ map Plain piece) ≡ total a + length piece = omega (arith, total-append a (map Plain piece), total-plain piece) in
-        let value = value-comes base code at l l_near heap given near_given f0 d b cells y built words suited 10 10 (omega arith) (omega (arith, few)) (inl refl) n c (omega (arith, near, sizes)) here (stands-front code at n a (map Plain piece) h) finds in
+        let value = value-comes base code at l l_near heap places near_places f0 d b cells y built words slots suited 10 10 (omega arith) (omega (arith, few)) (inl refl) n c (omega (arith, near, sizes)) here (stands-front code at n a (map Plain piece) h) finds in
         ⊎_elim
         (λ (p : Known base code heap limit 10 10 c (address_of (n + total a)) (yields y d b cells)).
         let e = p.arrives.end in
-        let finds1 = finds-after base code heap given f0 c e d (p.arrives.others 2 (omega arith) (omega arith)) p.arrives.words finds in
+        let finds1 = finds-after base code heap places f0 c e d b cells (p.arrives.others 2 (omega arith) (omega arith)) p.arrives.words finds in
         let has : Has code e.pc piece =
         subst (λ q. Has code q piece) (sym p.arrives.at) (subst (Has code (address_of (n + total a))) (code_from-plain at (n + total a) piece) (stands-back code at n a (map Plain piece) h)) in
         let stored = store-stores base code f0 offset e small finds1.frame (omega (arith, inside, ap length p.arrives.words)) has in
@@ -101,10 +103,10 @@ fewer-kept g = record {
 }
 
 pub stores :
-    (given : List ℕ) (offset l : ℕ) (y : Yielder) (old : Listing) → All (λ o. o < 33554432) given → is_built y ≡ true → HasWords y → registers_needed y ≤ 16 → offset < 33554432 →
-    Stores given offset l y old (extended old (stored_items given offset l y))
-stores given offset l y old near_given built words few small behind c base f heap d b cells can inside =
-    let piece = stored_items given offset l y in
+    (places : Places) (offset l : ℕ) (y : Yielder) (old : Listing) → IsNear places → is_built y ≡ true → HasWords y → registers_needed y ≤ 16 → offset < 33554432 →
+    Stores places offset l y old (extended old (stored_items places offset l y))
+stores places offset l y old near_places built words few small behind c base f heap d b cells can inside =
+    let piece = stored_items places offset l y in
     let new = extended old piece in
     let items = new.items ++ behind in
     let code = code_with new behind in
@@ -131,5 +133,5 @@ stores given offset l y old near_given built words few small behind c base f hea
       },
     ))
     (λ (p : (yields y d b cells ≡ None) × Arrives base code limit 10 10 c nothing). subst (Left base heap code limit f offset c (end_of new) nothing) (sym p.0) (fewer-kept (comes-at base code limit 10 c nothing nothing refl p.1)))
-    (stored-comes base code (spot items) l (omega (arith, spot_le-total items l, can.near)) heap given near_given f d b cells y built words can.suited few offset (total old.items) c small inside (omega (arith, can.near, sizes)) can.before
+    (stored-comes base code (spot items) l (omega (arith, spot_le-total items l, can.near)) heap places near_places f d b cells y built words can.slots can.suited few offset (total old.items) c small inside (omega (arith, can.near, sizes)) can.before
     (piece-stands items old.items piece behind parts) can.finds)

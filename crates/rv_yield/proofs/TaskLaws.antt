@@ -5,13 +5,15 @@ use Rattle.rv_code.proofs.Bools.{true-or-false}
 use Rattle.rv_code.specs.Encode.{has_bits}
 use Rattle.rv_asm.specs.Assembly.{Listing}
 use Rattle.rv_asm.specs.declared.item.Item.{Item}
-use Rattle.action_terms.specs.Actions.{Yielder, OnTwo, OnOne}
+use Rattle.action_terms.specs.Actions.{Yielder, StoredIn, OnTwo, OnOne}
 use Rattle.action_terms.specs.Forms.{yielder_at, two_viewed, one_viewed, IsDatum}
 use Rattle.action_terms.specs.Need.{yielder_count}
 use Rattle.action_terms.specs.Numbering.{ListedYielder}
+use Rattle.action_terms.specs.declared.kinds.Sort.{Sort}
 use Rattle.action_terms.specs.declared.view.One.{One as OneView}
 use Rattle.action_terms.specs.declared.view.Two.{Two as TwoView}
 use Rattle.rv_yield.specs.Fronts.{IsAppended, AppendsFrontOf}
+use Rattle.rv_yield.specs.Holding.{Places}
 use Rattle.rv_yield.specs.Registers.{is_built, registers_needed, HasWords, first_register}
 use Rattle.rv_yield.specs.YielderCode.{value_items, second_constant, first_constant, of_literal, addend_for}
 use Rattle.rv_yield.specs.Tasks.{task_items, items_of, operand_tasks, IsReady, HasTaskWords, HaveWords, task_turns, turns}
@@ -26,13 +28,13 @@ is-true : (b : Bool) → b ≡ true → IsTrue b
 is-true true e = refl
 is-true false e = absurd (cc)
 
-module _ (ls : List ListedYielder) (given : List ℕ) where
+module _ (ls : List ListedYielder) (places : Places) where
   -- ---- a stack of tasks and more on top
 
-  items_of-append : (n : ℕ) (ts us : List Task) → items_of ls given n (ts ++ us) ≡ items_of ls given n us ++ items_of ls given n ts
-  items_of-append n [] us = sym (append-nil (items_of ls given n us))
+  items_of-append : (n : ℕ) (ts us : List Task) → items_of ls places n (ts ++ us) ≡ items_of ls places n us ++ items_of ls places n ts
+  items_of-append n [] us = sym (append-nil (items_of ls places n us))
   items_of-append n (t ∷ ts) us =
-      ap (λ i. i ++ task_items ls given n t) (items_of-append n ts us) ∙ append_assoc (items_of ls given n us) (items_of ls given n ts) (task_items ls given n t)
+      ap (λ i. i ++ task_items ls places n t) (items_of-append n ts us) ∙ append_assoc (items_of ls places n us) (items_of ls places n ts) (task_items ls places n t)
 
   turns-append : (ts us : List Task) → turns ls (ts ++ us) ≡ turns ls ts + turns ls us
   turns-append [] us = omega arith
@@ -46,16 +48,16 @@ module _ (ls : List ListedYielder) (given : List ℕ) where
 
   -- the tasks come to what the yielder's value does
   pub record Stand_for (y to free : ℕ) (ts : List Task) : Type 0 where
-    pub items : (n : ℕ) → items_of ls given n ts ≡ value_items given to free n (yielder_at ls y)
+    pub items : (n : ℕ) → items_of ls places n ts ≡ value_items places to free n (yielder_at ls y)
     pub ready : All (IsReady ls) ts
     pub words : HaveWords ls ts → HasWords (yielder_at ls y)
     pub fewer : turns ls ts < 4 * yielder_count (yielder_at ls y)
 
   module _ (y to free : ℕ) (before after ts : List Task) (stand : Stand_for y to free ts) (is : after ≡ before ++ ts) where
-    pub stand-emitted : (n : ℕ) (s : Listing) → IsAppended (value_items given to free n (yielder_at ls y) ++ items_of ls given n before) (items_of ls given n after) s s
+    pub stand-emitted : (n : ℕ) (s : Listing) → IsAppended (value_items places to free n (yielder_at ls y) ++ items_of ls places n before) (items_of ls places n after) s s
     stand-emitted n s =
-        subst (λ piece. IsAppended piece (items_of ls given n after) s s) (ap (items_of ls given n) is ∙ items_of-append n before ts ∙ ap (λ i. i ++ items_of ls given n before) (stand.items n))
-        (appended-none (items_of ls given n after) s)
+        subst (λ piece. IsAppended piece (items_of ls places n after) s s) (ap (items_of ls places n) is ∙ items_of-append n before ts ∙ ap (λ i. i ++ items_of ls places n before) (stand.items n))
+        (appended-none (items_of ls places n after) s)
 
     pub stand-ready : All (IsReady ls) before → All (IsReady ls) after
     stand-ready h = subst (All (IsReady ls)) (sym is) (All-append (IsReady ls) before ts h stand.ready)
@@ -72,7 +74,7 @@ module _ (ls : List ListedYielder) (given : List ℕ) where
       (y to free x : ℕ) (o : OneView) → yielder_at ls y ≡ OnOne (one_viewed o) (yielder_at ls x) → IsDatum ls x → IsReady ls (task.Value y to free) →
       Stand_for y to free (task.OnOne o to free ∷ task.Value x free free ∷ [])
   one-stands y to free x o is datum ready = record {
-    items = λ n. ap (value_items given to free n) (sym is);
+    items = λ n. ap (value_items places to free n) (sym is);
     ready =
         let one : IsReady ls (task.Value x free free) = (datum, subst (λ u. is_built u ≡ true) is ready.1, ready.2, subst (λ u. free + registers_needed u ≤ 26) is ready.3, inl refl) in
         All-cons (IsReady ls) (task.OnOne o to free) (task.Value x free free ∷ []) tt (All-cons (IsReady ls) (task.Value x free free) [] one (All-nil (IsReady ls)));
@@ -80,9 +82,19 @@ module _ (ls : List ListedYielder) (given : List ℕ) where
     fewer = omega (arith, ap yielder_count is);
   }
 
-  -- two tasks that were pushed, one after the other
-  pub pushed-both : (before mid after : List Task) (t u : Task) → mid ≡ before ++ t ∷ [] → after ≡ mid ++ u ∷ [] → after ≡ before ++ (t ∷ u ∷ [])
-  pushed-both before mid after t u e f = f ∙ ap (λ i. i ++ u ∷ []) e ∙ append_assoc before (t ∷ []) (u ∷ [])
+  -- ---- what a cell holds
+
+  pub content-stands :
+      (y to free x : ℕ) (s : Sort) → yielder_at ls y ≡ StoredIn s (yielder_at ls x) → IsDatum ls x → IsReady ls (task.Value y to free) →
+      Stand_for y to free (task.Content to free ∷ task.Value x free free ∷ [])
+  content-stands y to free x s is datum ready = record {
+    items = λ n. ap (value_items places to free n) (sym is);
+    ready =
+        let one : IsReady ls (task.Value x free free) = (datum, subst (λ u. is_built u ≡ true) is ready.1, ready.2, subst (λ u. free + registers_needed u ≤ 26) is ready.3, inl refl) in
+        All-cons (IsReady ls) (task.Content to free) (task.Value x free free ∷ []) tt (All-cons (IsReady ls) (task.Value x free free) [] one (All-nil (IsReady ls)));
+    words = λ h. subst HasWords (sym is) h.0.1;
+    fewer = omega (arith, ap yielder_count is);
+  }
 
   -- ---- an operation on two operands
 
@@ -170,7 +182,7 @@ module _ (ls : List ListedYielder) (given : List ℕ) where
             let more = ltb-false _ _ q in
             same-tasks (task.OnTwo f to free (free + 1) ∷ task.Value x2 (free + 1) (free + 1) ∷ task.Value x1 free free ∷ []) (rw (o2, o1, q) refl)
             (record {
-              items = λ n. rw (is, o2, o1, q) (append_assoc (value_items given free free n u1) (value_items given (free + 1) (free + 1) n u2) _);
+              items = λ n. rw (is, o2, o1, q) (append_assoc (value_items places free free n u1) (value_items places (free + 1) (free + 1) n u2) _);
               ready = both-ready (task.OnTwo f to free (free + 1)) x2 x1 tt datum2 built2 datum1 built1 (omega (arith, room-both, more)) (omega (arith, room-both, more));
               words = λ h. subst HasWords (sym is) (h.0.0.1, h.0.1);
               fewer = omega (arith, ap yielder_count is);
@@ -181,7 +193,7 @@ module _ (ls : List ListedYielder) (given : List ℕ) where
             let more = ltb-true _ _ q in
             same-tasks (task.OnTwo f to (free + 1) free ∷ task.Value x1 (free + 1) (free + 1) ∷ task.Value x2 free free ∷ []) (rw (o2, o1, q) refl)
             (record {
-              items = λ n. rw (is, o2, o1, q) (append_assoc (value_items given free free n u2) (value_items given (free + 1) (free + 1) n u1) _);
+              items = λ n. rw (is, o2, o1, q) (append_assoc (value_items places free free n u2) (value_items places (free + 1) (free + 1) n u1) _);
               ready = both-ready (task.OnTwo f to (free + 1) free) x1 x2 tt datum1 built1 datum2 built2 (omega (arith, room-both, more)) (omega (arith, room-both, more));
               words = λ h. subst HasWords (sym is) (h.0.1, h.0.0.1);
               fewer = omega (arith, ap yielder_count is);
@@ -194,20 +206,20 @@ module _ (ls : List ListedYielder) (given : List ℕ) where
   words-join (t ∷ ts) us h k = (words-join ts us h.0 k, h.1)
 
   module _ (t : Task) (stack before after : List Task) (is : stack ≡ before ++ t ∷ []) where
-    turn-stack : (n : ℕ) → items_of ls given n stack ≡ task_items ls given n t ++ items_of ls given n before
-    turn-stack n = ap (items_of ls given n) is ∙ items_of-append n before (t ∷ [])
+    turn-stack : (n : ℕ) → items_of ls places n stack ≡ task_items ls places n t ++ items_of ls places n before
+    turn-stack n = ap (items_of ls places n) is ∙ items_of-append n before (t ∷ [])
 
     pub turn-items :
-        (n : ℕ) (piece : List Item) (old mid new : Listing) → IsAppended piece (items_of ls given n stack) old mid →
-        IsAppended (task_items ls given n t ++ items_of ls given n before) (items_of ls given n after) mid new → IsAppended piece (items_of ls given n after) old new
+        (n : ℕ) (piece : List Item) (old mid new : Listing) → IsAppended piece (items_of ls places n stack) old mid →
+        IsAppended (task_items ls places n t ++ items_of ls places n before) (items_of ls places n after) mid new → IsAppended piece (items_of ls places n after) old new
     turn-items n piece old mid new a b =
-        appended-then piece (items_of ls given n stack) (items_of ls given n after) old mid new a (subst (λ i. IsAppended i (items_of ls given n after) mid new) (sym (turn-stack n)) b)
+        appended-then piece (items_of ls places n stack) (items_of ls places n after) old mid new a (subst (λ i. IsAppended i (items_of ls places n after) mid new) (sym (turn-stack n)) b)
 
     pub turn-front :
-        (n : ℕ) (piece : List Item) (old mid new : Listing) → IsAppended piece (items_of ls given n stack) old mid → AppendsFrontOf (task_items ls given n t) mid new → AppendsFrontOf piece old new
+        (n : ℕ) (piece : List Item) (old mid new : Listing) → IsAppended piece (items_of ls places n stack) old mid → AppendsFrontOf (task_items ls places n t) mid new → AppendsFrontOf piece old new
     turn-front n piece old mid new a f =
-        front-behind piece (items_of ls given n stack) old mid new a
-        (subst (λ i. AppendsFrontOf i mid new) (sym (turn-stack n)) (front-first (task_items ls given n t) (items_of ls given n before) mid new f))
+        front-behind piece (items_of ls places n stack) old mid new a
+        (subst (λ i. AppendsFrontOf i mid new) (sym (turn-stack n)) (front-first (task_items ls places n t) (items_of ls places n before) mid new f))
 
     pub turn-words : HaveWords ls before × HasTaskWords ls t → HaveWords ls stack
     turn-words h = subst (HaveWords ls) (sym is) (words-join before (t ∷ []) h.0 (tt, h.1))

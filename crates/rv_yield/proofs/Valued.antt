@@ -4,9 +4,9 @@ use Rattle.rv_code.specs.declared.instruction.Inst.{Inst}
 use Rattle.rv_asm.specs.DataWords.{Heap, StandsFor}
 use Rattle.rv_asm.specs.WordMachine.{WordState, Goes, run_words}
 use Rattle.rv_asm.proofs.Registers.{put-other}
-use Rattle.action_terms.specs.Information.{Datum, Number, Data}
-use Rattle.rv_yield.specs.Evaluates.{HasCells, Finds}
-use Rattle.rv_yield.specs.Holding.{Holds}
+use Rattle.action_terms.specs.Information.{Datum, Number, Binds, Data, Storage}
+use Rattle.rv_yield.specs.Evaluates.{HasCells, HoldsCells, Finds}
+use Rattle.rv_yield.specs.Holding.{Places, Holds, HoldsBinds}
 use Rattle.rv_yield.proofs.Steps.{written, put-written, Arrives, Outcome, Yielded, NotYielded, arrives-then}
 
 module _ (base : ℕ) (code : List Inst) (heap : Heap) where
@@ -56,14 +56,17 @@ module _ (base : ℕ) (code : List Inst) (heap : Heap) where
 
   -- what was found is found behind some code
   pub finds-after :
-      (given : List ℕ) (f : ℕ) (c e : WordState) (d : Data) → e.registers 2 ≡ c.registers 2 → e.words ≡ c.words → Finds base heap given f c d → Finds base heap given f e d
-  finds-after given f c e d frame words h = record {
+      (places : Places) (f : ℕ) (c e : WordState) (d : Data) (b : Binds) (cells : Storage) → e.registers 2 ≡ c.registers 2 → e.words ≡ c.words → Finds base heap places f c d b cells → Finds base heap places f e d b cells
+  finds-after places f c e d b cells frame words h = record {
     frame = record {
       aligned = h.frame.aligned;
       below = omega (arith, h.frame.below, ap length words);
       frame = frame ∙ h.frame.frame;
     };
-    inside = subst (λ ws. All (λ o. f + o < length ws) given) (sym words) h.inside;
-    holds = subst (λ ws. Holds base heap ws f given d) (sym words) h.holds;
+    inside = subst (λ ws. All (λ o. f + o < length ws) places.given) (sym words) h.inside;
+    slots_inside = subst (λ ws. All (λ s. f + s.offset < length ws) places.bound) (sym words) h.slots_inside;
+    holds = subst (λ ws. Holds base heap ws f places.given d) (sym words) h.holds;
+    binds = subst (λ ws. HoldsBinds base heap ws f places.bound b) (sym words) h.binds;
     cells = subst (λ ws. HasCells heap (length ws)) (sym words) h.cells;
+    contents = subst (λ ws. HoldsCells base heap ws cells) (sym words) h.contents;
   }

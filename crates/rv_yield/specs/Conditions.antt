@@ -7,6 +7,7 @@ use Rattle.rv_asm.specs.Assembly.{opposite}
 use Rattle.rv_asm.specs.declared.item.Item.{Item}
 use Rattle.rv_asm.specs.declared.item.Item.TheVariants.{Jump, BranchTo}
 use Rattle.action_terms.specs.Actions.{Is, Less, Not, Yielder, TruthLiteral, OnTwo, OnOne}
+use Rattle.rv_yield.specs.Holding.{Places}
 use Rattle.rv_yield.specs.Registers.{registers_needed, first_register}
 use Rattle.rv_yield.specs.YielderCode.{value_items, in_order}
 
@@ -22,22 +23,22 @@ literal_condition false false otherwise = []
 literal_condition _ _ otherwise = Jump otherwise ∷ []
 
 -- the values of two operands, and a branch by their comparison
-abbrev pub compared : (given : List ℕ) → BranchOp → (otherwise nothing : ℕ) → (y1 y2 : Yielder) → List Item
-compared given op otherwise nothing y1 y2 =
+abbrev pub compared : Places → BranchOp → (otherwise nothing : ℕ) → (y1 y2 : Yielder) → List Item
+compared places op otherwise nothing y1 y2 =
     in_order (nat_lt (registers_needed y1) (registers_needed y2)) first_register
-    (value_items given first_register first_register nothing y1) (value_items given (first_register + 1) (first_register + 1) nothing y1)
-    (value_items given first_register first_register nothing y2) (value_items given (first_register + 1) (first_register + 1) nothing y2)
+    (value_items places first_register first_register nothing y1) (value_items places (first_register + 1) (first_register + 1) nothing y1)
+    (value_items places first_register first_register nothing y2) (value_items places (first_register + 1) (first_register + 1) nothing y2)
     (λ a b. BranchTo op a b otherwise ∷ [])
 
 -- the value of a yielder, and a branch where it isn't wanted
-abbrev pub tested : (given : List ℕ) → (wanted : Bool) → (otherwise nothing : ℕ) → Yielder → List Item
-tested given wanted otherwise nothing y =
-    value_items given first_register first_register nothing y ++ BranchTo (turned wanted Beq) first_register 0 otherwise ∷ []
+abbrev pub tested : Places → (wanted : Bool) → (otherwise nothing : ℕ) → Yielder → List Item
+tested places wanted otherwise nothing y =
+    value_items places first_register first_register nothing y ++ BranchTo (turned wanted Beq) first_register 0 otherwise ∷ []
 
 -- the code that goes on where the yielder yields the truth-value that is wanted
-abbrev pub condition_items : (given : List ℕ) → (wanted : Bool) → (otherwise nothing : ℕ) → Yielder → List Item
-condition_items given wanted otherwise nothing (TruthLiteral t) = literal_condition wanted t otherwise
-condition_items given wanted otherwise nothing (OnOne Not y) = condition_items given (not wanted) otherwise nothing y
-condition_items given wanted otherwise nothing (OnTwo Is y1 y2) = compared given (turned wanted Bne) otherwise nothing y1 y2
-condition_items given wanted otherwise nothing (OnTwo Less y1 y2) = compared given (turned wanted Bge) otherwise nothing y1 y2
-condition_items given wanted otherwise nothing y = tested given wanted otherwise nothing y
+abbrev pub condition_items : Places → (wanted : Bool) → (otherwise nothing : ℕ) → Yielder → List Item
+condition_items places wanted otherwise nothing (TruthLiteral t) = literal_condition wanted t otherwise
+condition_items places wanted otherwise nothing (OnOne Not y) = condition_items places (not wanted) otherwise nothing y
+condition_items places wanted otherwise nothing (OnTwo Is y1 y2) = compared places (turned wanted Bne) otherwise nothing y1 y2
+condition_items places wanted otherwise nothing (OnTwo Less y1 y2) = compared places (turned wanted Bge) otherwise nothing y1 y2
+condition_items places wanted otherwise nothing y = tested places wanted otherwise nothing y

@@ -1,5 +1,6 @@
 pub mod Registers
 pub mod Holding
+pub mod Sources
 pub mod Fronts
 pub mod Calls
 pub mod Conditions

@@ -1,7 +1,7 @@
 -- How many registers a yielder needs, and those that its code uses.
 use Rattle.std.specs.Prelude.{◌≡◌, ℕ, ◌+◌, ◌<◌, min, max, Bool, true, false, ◌&&◌, ◌||◌, nat_eq, List, length, slice_index, slice_index_or, FitsSigned, if◌then◌else◌}
 use Rattle.std.specs.Int.{w64}
-use Rattle.action_terms.specs.Actions.{Two, Sum, Difference, Product, Quotient, Remainder, Negation, Yielder, NumberLiteral, TruthLiteral, Given, GivenAt, OnTwo, OnOne}
+use Rattle.action_terms.specs.Actions.{Two, Sum, Difference, Product, Quotient, Remainder, Negation, Yielder, NumberLiteral, TruthLiteral, Given, GivenAt, StoredIn, OnTwo, OnOne}
 use Rattle.action_terms.specs.Forms.{yielder_at, IsDatum}
 use Rattle.action_terms.specs.Numbering.{ListedYielder}
 
@@ -16,12 +16,13 @@ is_arithmetic Quotient = true
 is_arithmetic Remainder = true
 is_arithmetic _ = false
 
--- literals, what is given, and operations
+-- literals, what is given, what cells hold, and operations. What a token is bound to has code too, but it counts as built only once the code of nodes gives tokens their slots
 abbrev pub is_built : Yielder → Bool
 is_built (NumberLiteral z) = true
 is_built (TruthLiteral t) = true
 is_built (Given s) = true
 is_built (GivenAt s place) = true
+is_built (StoredIn s y) = is_built y
 is_built (OnTwo f y1 y2) = is_built y1 && is_built y2
 is_built (OnOne f y) = is_built y
 is_built _ = false
@@ -43,6 +44,7 @@ pub record AreIntegral (yielders : List ListedYielder) (known : List Bool) : Typ
 -- the operand that needs more registers comes first, so that the other one has all but one of them
 abbrev pub registers_needed : Yielder → ℕ
 registers_needed (OnTwo f y1 y2) = max (max (registers_needed y1) (registers_needed y2)) (min (registers_needed y1) (registers_needed y2) + 1)
+registers_needed (StoredIn s y) = registers_needed y
 registers_needed (OnOne f y) = registers_needed y
 registers_needed _ = 1
 
@@ -90,6 +92,7 @@ other_check = 28
 -- the numbers in a yielder are those of 64 bits
 abbrev pub HasWords : Yielder → Type 0
 HasWords (NumberLiteral z) = FitsSigned w64 z
+HasWords (StoredIn s y) = HasWords y
 HasWords (OnTwo f y1 y2) = HasWords y1 × HasWords y2
 HasWords (OnOne f y) = HasWords y
 HasWords _ = Unit {0}

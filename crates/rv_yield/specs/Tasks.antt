@@ -6,22 +6,24 @@ use Rattle.action_terms.specs.Forms.{yielder_at, two_viewed, one_viewed, IsDatum
 use Rattle.action_terms.specs.declared.view.Two.{Two as TwoView}
 use Rattle.action_terms.specs.Need.{yielder_count}
 use Rattle.action_terms.specs.Numbering.{ListedYielder}
+use Rattle.rv_yield.specs.Holding.{Places}
 use Rattle.rv_yield.specs.Registers.{is_built, registers_needed, HasWords, first_register, registers_end, addend, other_addend}
-use Rattle.rv_yield.specs.YielderCode.{value_items, operation_items, addition_items, one_items, second_constant, first_constant, of_literal, addend_for}
+use Rattle.rv_yield.specs.YielderCode.{value_items, operation_items, addition_items, one_items, content_items, second_constant, first_constant, of_literal, addend_for}
 use Rattle.rv_yield.specs.declared.tasks.Task.{Task}
 use Rattle.rv_yield.specs.declared.tasks.Task.TheVariants as task
 
 -- the items of a task
-abbrev pub task_items : List ListedYielder → (given : List ℕ) → (nothing : ℕ) → Task → List Item
-task_items ls given nothing (task.Value y to free) = value_items given to free nothing (yielder_at ls y)
-task_items ls given nothing (task.OnTwo f to a b) = operation_items (two_viewed f) to a b nothing
-task_items ls given nothing (task.Addition to a z) = addition_items to a z nothing
-task_items ls given nothing (task.OnOne f to a) = one_items (one_viewed f) to a nothing
+abbrev pub task_items : List ListedYielder → Places → (nothing : ℕ) → Task → List Item
+task_items ls places nothing (task.Value y to free) = value_items places to free nothing (yielder_at ls y)
+task_items ls places nothing (task.OnTwo f to a b) = operation_items (two_viewed f) to a b nothing
+task_items ls places nothing (task.Addition to a z) = addition_items to a z nothing
+task_items ls places nothing (task.OnOne f to a) = one_items (one_viewed f) to a nothing
+task_items ls places nothing (task.Content to a) = content_items to a nothing
 
 -- the items of all tasks, of which the last comes first
-abbrev pub items_of : List ListedYielder → (given : List ℕ) → (nothing : ℕ) → List Task → List Item
-items_of ls given nothing [] = []
-items_of ls given nothing (t ∷ ts) = items_of ls given nothing ts ++ task_items ls given nothing t
+abbrev pub items_of : List ListedYielder → Places → (nothing : ℕ) → List Task → List Item
+items_of ls places nothing [] = []
+items_of ls places nothing (t ∷ ts) = items_of ls places nothing ts ++ task_items ls places nothing t
 
 -- ---- the tasks of an operation, the last one first
 

@@ -1,5 +1,5 @@
 -- The code of yielders, as items of the assembler. A value goes to a register `to`, by way of the registers from `free` on;
--- where there is none the code goes to the label `nothing`. What is given stands at the offsets `given` of the frame.
+-- where there is none the code goes to the label `nothing`. Data are found at places of the frame.
 use Rattle.std.specs.Prelude.{ℕ, ◌+◌, ◌*◌, Bool, true, false, nat_eq, nat_lt, int_lt, if◌then◌else◌, List, [], ◌∷◌, ◌++◌, map, ℤ, pos, neg_ℤ, Option, Some, None}
 use Rattle.rv_code.specs.Encode.{has_bits}
 use Rattle.rv_code.specs.declared.instruction.Inst.{Inst}
@@ -14,8 +14,8 @@ use Rattle.rv_asm.specs.Conventions.{integer_word, truth_word, frame_register}
 use Rattle.rv_asm.specs.Pieces.{load_constant}
 use Rattle.rv_asm.specs.declared.item.Item.{Item}
 use Rattle.rv_asm.specs.declared.item.Item.TheVariants.{Plain, Jump, BranchTo}
-use Rattle.action_terms.specs.Actions.{Two, Sum, Difference, Product, Quotient, Remainder, Is, Less, BothOf, EitherOf, One, Negation, Not, Yielder, NumberLiteral, TruthLiteral, Given, GivenAt, OnTwo, OnOne}
-use Rattle.rv_yield.specs.Holding.{only_offset, nth_offset}
+use Rattle.action_terms.specs.Actions.{Two, Sum, Difference, Product, Quotient, Remainder, Is, Less, BothOf, EitherOf, One, Negation, Not, Yielder, NumberLiteral, TruthLiteral, Given, GivenAt, BoundTo, StoredIn, OnTwo, OnOne}
+use Rattle.rv_yield.specs.Holding.{Places, only_offset, nth_offset, slot_offset}
 use Rattle.rv_yield.specs.Registers.{registers_needed, first_register, addend, other_addend, check, other_check}
 
 -- ---- operations on the values of registers
@@ -125,6 +125,11 @@ abbrev pub placed_items : Option ℕ → (to nothing : ℕ) → List Item
 placed_items (Some offset) to nothing = map Plain (load_items to offset)
 placed_items None to nothing = Jump nothing ∷ []
 
+-- the word of what a cell holds, whose address is in `a`; where the cell is unset the code goes to a label
+abbrev pub content_items : (to a nothing : ℕ) → List Item
+content_items to a nothing =
+    Plain (Load Ld check a (pos 0)) ∷ BranchTo Beq check 0 nothing ∷ Plain (Load Ld to a (pos 8)) ∷ []
+
 -- the word in register 10 is stored at an offset, in words, of the frame
 abbrev pub store_items : (offset : ℕ) → List Inst
 store_items offset =
@@ -150,22 +155,24 @@ in_order true free first first_behind second second_behind last = second ++ (fir
 in_order false free first first_behind second second_behind last = first ++ (second_behind ++ last free (free + 1))
 
 -- the code that leaves a yielder's value in the register `to`
-abbrev pub value_items : (given : List ℕ) → (to free nothing : ℕ) → Yielder → List Item
-value_items given to free nothing (NumberLiteral z) = map Plain (load_constant to (integer_word z))
-value_items given to free nothing (TruthLiteral t) = map Plain (load_constant to (truth_word t))
-value_items given to free nothing (Given s) = placed_items (only_offset given) to nothing
-value_items given to free nothing (GivenAt s place) = placed_items (nth_offset given place) to nothing
-value_items given to free nothing (OnTwo f y1 y2) =
+abbrev pub value_items : Places → (to free nothing : ℕ) → Yielder → List Item
+value_items places to free nothing (NumberLiteral z) = map Plain (load_constant to (integer_word z))
+value_items places to free nothing (TruthLiteral t) = map Plain (load_constant to (truth_word t))
+value_items places to free nothing (Given s) = placed_items (only_offset places.given) to nothing
+value_items places to free nothing (GivenAt s place) = placed_items (nth_offset places.given place) to nothing
+value_items places to free nothing (BoundTo s t) = placed_items (slot_offset places.bound t) to nothing
+value_items places to free nothing (StoredIn s y) = value_items places free free nothing y ++ content_items to free nothing
+value_items places to free nothing (OnTwo f y1 y2) =
     either_adding (of_literal (second_constant f) y2) (of_literal (first_constant f) y1) to nothing
-    (value_items given (addend_for to) free nothing y1)
-    (value_items given (addend_for to) free nothing y2)
+    (value_items places (addend_for to) free nothing y1)
+    (value_items places (addend_for to) free nothing y2)
     (in_order (nat_lt (registers_needed y1) (registers_needed y2)) free
-    (value_items given free free nothing y1) (value_items given (free + 1) (free + 1) nothing y1)
-    (value_items given free free nothing y2) (value_items given (free + 1) (free + 1) nothing y2)
+    (value_items places free free nothing y1) (value_items places (free + 1) (free + 1) nothing y1)
+    (value_items places free free nothing y2) (value_items places (free + 1) (free + 1) nothing y2)
     (λ a b. operation_items f to a b nothing))
-value_items given to free nothing (OnOne f y) = value_items given free free nothing y ++ one_items f to free nothing
-value_items given to free nothing _ = []
+value_items places to free nothing (OnOne f y) = value_items places free free nothing y ++ one_items f to free nothing
+value_items places to free nothing _ = []
 
 -- the code that leaves the yielder's value at an offset of the frame
-abbrev pub stored_items : (given : List ℕ) → (offset nothing : ℕ) → Yielder → List Item
-stored_items given offset nothing y = value_items given first_register first_register nothing y ++ map Plain (store_items offset)
+abbrev pub stored_items : Places → (offset nothing : ℕ) → Yielder → List Item
+stored_items places offset nothing y = value_items places first_register first_register nothing y ++ map Plain (store_items offset)

@@ -12,6 +12,7 @@ ghost use Rattle.rv_yield.specs.Conditions.{turned, literal_condition, compared,
 ghost use Rattle.rv_yield.specs.Evaluates.{Decides};
 ghost use Rattle.rv_yield.specs.Fronts.{extended, AppendsFrontOf};
 ghost use Rattle.rv_yield.specs.Registers.{HasWords, is_built};
+ghost use Rattle.rv_yield.specs.Sources.{places_of};
 
 use crate::source::Source;
 use crate::values::value_code;
@@ -89,12 +90,12 @@ fn append_comparison(
         + yielder_count (yielder_at source.now.graph.now.yielders operands.1) + 1 < node_limit }
     requires label { source.now.nothing < asm.old.labels }
     requires otherwise { otherwise < asm.old.labels }
-    ensures ok { OnOk result (asm.new ≡ extended asm.old (compared source.now.given.now op
+    ensures ok { OnOk result (asm.new ≡ extended asm.old (compared (places_of source.now) op
         otherwise source.now.nothing (yielder_at source.now.graph.now.yielders operands.0)
         (yielder_at source.now.graph.now.yielders operands.1))) }
     ensures words { OnOk result (HasWords (yielder_at source.now.graph.now.yielders operands.0)
         × HasWords (yielder_at source.now.graph.now.yielders operands.1)) }
-    ensures err { OnErr result (AppendsFrontOf (compared source.now.given.now op otherwise
+    ensures err { OnErr result (AppendsFrontOf (compared (places_of source.now) op otherwise
         source.now.nothing (yielder_at source.now.graph.now.yielders operands.0)
         (yielder_at source.now.graph.now.yielders operands.1)) asm.old asm.new) }
 {
@@ -124,12 +125,12 @@ fn append_test(
         < node_limit }
     requires label { source.now.nothing < asm.old.labels }
     requires otherwise { otherwise < asm.old.labels }
-    ensures ok { OnOk result (asm.new ≡ extended asm.old (tested source.now.given.now
+    ensures ok { OnOk result (asm.new ≡ extended asm.old (tested (places_of source.now)
         wanted.value otherwise source.now.nothing
         (yielder_at source.now.graph.now.yielders wanted.yielder))) }
     ensures words { OnOk result (HasWords
         (yielder_at source.now.graph.now.yielders wanted.yielder)) }
-    ensures err { OnErr result (AppendsFrontOf (tested source.now.given.now wanted.value otherwise
+    ensures err { OnErr result (AppendsFrontOf (tested (places_of source.now) wanted.value otherwise
         source.now.nothing (yielder_at source.now.graph.now.yielders wanted.yielder))
         asm.old asm.new) }
 {
@@ -153,12 +154,12 @@ fn append_condition(
         ≢ OnOne Not y }
     requires label { source.now.nothing < asm.old.labels }
     requires otherwise { otherwise < asm.old.labels }
-    ensures ok { OnOk result (asm.new ≡ extended asm.old (condition_items source.now.given.now
+    ensures ok { OnOk result (asm.new ≡ extended asm.old (condition_items (places_of source.now)
         wanted.value otherwise source.now.nothing
         (yielder_at source.now.graph.now.yielders wanted.yielder))) }
     ensures words { OnOk result (HasWords
         (yielder_at source.now.graph.now.yielders wanted.yielder)) }
-    ensures err { OnErr result (AppendsFrontOf (condition_items source.now.given.now wanted.value
+    ensures err { OnErr result (AppendsFrontOf (condition_items (places_of source.now) wanted.value
         otherwise source.now.nothing
         (yielder_at source.now.graph.now.yielders wanted.yielder)) asm.old asm.new) }
 {
@@ -196,9 +197,9 @@ fn without_negations(source: &Source<'_>, yielder: u32) -> Wanted
         ≤ yielder_count (yielder_at source.now.graph.now.yielders yielder) }
     ensures words { HasWords (yielder_at source.now.graph.now.yielders result.yielder)
         → HasWords (yielder_at source.now.graph.now.yielders yielder) }
-    ensures items { (otherwise : ℕ) → condition_items source.now.given.now true otherwise
+    ensures items { (otherwise : ℕ) → condition_items (places_of source.now) true otherwise
         source.now.nothing (yielder_at source.now.graph.now.yielders yielder)
-        ≡ condition_items source.now.given.now result.value otherwise source.now.nothing
+        ≡ condition_items (places_of source.now) result.value otherwise source.now.nothing
         (yielder_at source.now.graph.now.yielders result.yielder) }
 {
     let mut wanted = Wanted {
@@ -233,16 +234,16 @@ pub fn condition_code(
     requires few { yielder_count (yielder_at source.now.graph.now.yielders yielder) < node_limit }
     requires label { source.now.nothing < asm.old.labels }
     requires otherwise { otherwise < asm.old.labels }
-    ensures items { OnOk result (asm.new ≡ extended asm.old (condition_items source.now.given.now
+    ensures items { OnOk result (asm.new ≡ extended asm.old (condition_items (places_of source.now)
         true otherwise source.now.nothing
         (yielder_at source.now.graph.now.yielders yielder))) }
-    ensures decides { OnOk result (Decides source.now.given.now otherwise source.now.nothing
+    ensures decides { OnOk result (Decides (places_of source.now) otherwise source.now.nothing
         (yielder_at source.now.graph.now.yielders yielder) asm.old asm.new) }
     ensures short { OnOk result (total asm.new.items ≤ total asm.old.items
         + 15 * yielder_count (yielder_at source.now.graph.now.yielders yielder)) }
     ensures placed { OnOk result ((l : ℕ) → is_placed asm.new.items l ≡ is_placed asm.old.items l) }
     ensures quiet { OnOk result (calls asm.new.items ≡ calls asm.old.items) }
-    ensures err { OnErr result (AppendsFrontOf (condition_items source.now.given.now true otherwise
+    ensures err { OnErr result (AppendsFrontOf (condition_items (places_of source.now) true otherwise
         source.now.nothing (yielder_at source.now.graph.now.yielders yielder)) asm.old asm.new) }
 {
     let wanted = without_negations(source, yielder);

@@ -46,6 +46,7 @@ fn need_at(graph: &Graph<'_>, needs: &[usize], k: usize) -> usize
         | YielderView::Truth(_)
         | YielderView::Given { .. }
         | YielderView::GivenAt { .. } => 1,
+        YielderView::StoredIn { cell, .. } => needs[cell as usize],
         YielderView::OnTwo { first, second, .. } => {
             need_of_both(needs[first as usize], needs[second as usize])
         }

@@ -6,13 +6,13 @@ ghost use Rattle.rv_asm.specs.declared.item.Item.TheVariants.{BranchTo};
 ghost use Rattle.action_terms.specs.Actions.{Is};
 ghost use Rattle.action_terms.specs.Forms.{two_viewed, one_viewed};
 ghost use Rattle.rv_yield.specs.Fronts.{extended, AppendsFrontOf};
-ghost use Rattle.rv_yield.specs.YielderCode.{sum_items, difference_items, product_items, quotient_items, remainder_items, addition_items, operation_items, one_items};
+ghost use Rattle.rv_yield.specs.YielderCode.{sum_items, difference_items, product_items, quotient_items, remainder_items, addition_items, operation_items, one_items, content_items};
 
 use crate::emitting::append_all;
 use acg_base::Memory;
 use action_terms::{One, Two};
 use rv_asm::{Asm, Label};
-use rv_code::{BranchOp, Inst, OpImmOp, OpOp, Reg, ShiftOp};
+use rv_code::{BranchOp, Inst, LoadOp, OpImmOp, OpOp, Reg, ShiftOp};
 
 const ZERO: Reg = Reg(0);
 
@@ -220,4 +220,28 @@ pub(crate) fn append_addition(
     } else {
         asm.branch(BranchOp::Blt, to, a, nothing)
     }
+}
+
+/// A load of the word at a distance of bytes from the address in a register.
+fn load(rd: Reg, rs1: Reg, imm: i32) -> Inst
+    ensures { result ≡ Inst.Load LoadOp.Ld rd rs1 imm }
+{
+    Inst::Load {
+        op: LoadOp::Ld,
+        rd,
+        rs1,
+        imm,
+    }
+}
+
+/// Appends what loads the word of what a cell holds, by the cell's address in a register, and goes
+/// to the label where the cell is unset.
+pub(crate) fn append_content(asm: &mut Asm, to: Reg, a: Reg, nothing: Label) -> Result<(), Memory>
+    requires { nothing < asm.old.labels }
+    ensures ok { OnOk result (asm.new ≡ extended asm.old (content_items to a nothing)) }
+    ensures err { OnErr result (AppendsFrontOf (content_items to a nothing) asm.old asm.new) }
+{
+    asm.emit(load(CHECK, a, 0))?;
+    asm.branch(BranchOp::Beq, CHECK, ZERO, nothing)?;
+    asm.emit(load(to, a, 8))
 }

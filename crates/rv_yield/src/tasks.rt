@@ -4,12 +4,13 @@
 ghost use Rattle.std.specs.Prelude.{◌≡◌, ℕ, ◌≢◌, ◌<◌, ◌≤◌, ◌+◌, ◌++◌, ◌∷◌, [], All, OnOk, IfSome, IfNone, IfOk, OnErr, IsTrue, None, true, length, slice_index};
 ghost use Rattle.action_terms.specs.Forms.{yielder_at, two_viewed, IsDatum};
 ghost use Rattle.rv_yield.specs.Fronts.{IsAppended, AppendsFrontOf};
-ghost use Rattle.rv_yield.specs.Holding.{only_offset, nth_offset};
+ghost use Rattle.rv_yield.specs.Holding.{only_offset, nth_offset, slot_offset, slots_of};
 ghost use Rattle.rv_yield.specs.Registers.{registers_needed, is_built, addend, other_addend};
+ghost use Rattle.rv_yield.specs.Sources.{places_of};
 ghost use Rattle.rv_yield.specs.YielderCode.{of_literal, second_constant, first_constant, small, addend_for};
 ghost use Rattle.rv_yield.specs.Tasks.{task_items, items_of, IsReady, addition_tasks, both_tasks, operand_tasks, HasTaskWords, HaveWords, task_turns, turns};
 
-use crate::operations::{append_addition, append_one, append_operation};
+use crate::operations::{append_addition, append_content, append_one, append_operation};
 use crate::source::Source;
 use crate::words::append_placed;
 use acg_base::Memory;
@@ -29,6 +30,8 @@ pub(crate) enum Task {
     Addition(Reg, Reg, i32),
     /// An operation on the value of a register goes to another.
     OnOne(One, Reg, Reg),
+    /// What a cell holds goes to a register, by the cell's address in another.
+    Content(Reg, Reg),
 }
 
 /// An integer, where it is one of 12 bits.
@@ -139,6 +142,16 @@ fn push_operands(
     push_both(tasks, operation, first_later, to, free, operands)
 }
 
+/// Has an operand's value in a register, and a task done behind it.
+fn push_behind(tasks: &mut Vec<Task>, free: Reg, operand: u32, task: Task) -> Result<(), Memory>
+    ensures { OnOk result (tasks.new.items ≡ tasks.old.items
+        ++ (task ∷ Task.Value operand free free ∷ [])) }
+{
+    tasks.push(task)?;
+    tasks.push(Task::Value(operand, free, free))?;
+    Ok(())
+}
+
 /// The offset of the only datum that is given.
 fn only_offset(given: &[u32]) -> Option<u32>
     ensures { result ≡ only_offset given.now }
@@ -159,6 +172,18 @@ fn nth_offset(given: &[u32], place: u32) -> Option<u32>
     given.get(place as usize - 1).copied()
 }
 
+/// The offset of what a token is bound to, where the token has a slot.
+fn slot_offset(bound: &[(&[u8], u32)], token: &[u8]) -> Option<u32>
+    ensures { result ≡ slot_offset (slots_of bound.now) token.now }
+{
+    for (bound_token, offset) in bound {
+        if *bound_token == token {
+            return Some(*offset);
+        }
+    }
+    None
+}
+
 /// Has the value of a yielder in a register, or puts off what it takes.
 fn append_value(
     asm: &mut Asm,
@@ -172,13 +197,13 @@ fn append_value(
     requires ready { IsReady source.now.graph.now.yielders (Task.Value yielder to free) }
     requires rest { All (IsReady source.now.graph.now.yielders) tasks.old.items }
     ensures items { OnOk result (IsAppended
-        (task_items source.now.graph.now.yielders source.now.given.now source.now.nothing
+        (task_items source.now.graph.now.yielders (places_of source.now) source.now.nothing
         (Task.Value yielder to free) ++ items_of source.now.graph.now.yielders
-        source.now.given.now source.now.nothing tasks.old.items)
-        (items_of source.now.graph.now.yielders source.now.given.now source.now.nothing
+        (places_of source.now) source.now.nothing tasks.old.items)
+        (items_of source.now.graph.now.yielders (places_of source.now) source.now.nothing
         tasks.new.items) asm.old asm.new) }
     ensures err { OnErr result (AppendsFrontOf (task_items source.now.graph.now.yielders
-        source.now.given.now source.now.nothing (Task.Value yielder to free))
+        (places_of source.now) source.now.nothing (Task.Value yielder to free))
         asm.old asm.new) }
     ensures ready { OnOk result
         (All (IsReady source.now.graph.now.yielders) tasks.new.items) }
@@ -198,6 +223,12 @@ fn append_value(
         YielderView::GivenAt { place, .. } => {
             append_placed(asm, nth_offset(source.given, place), to, source.nothing)
         }
+        YielderView::BoundTo { token, .. } => {
+            append_placed(asm, slot_offset(source.bound, token), to, source.nothing)
+        }
+        YielderView::StoredIn { cell, .. } => {
+            push_behind(tasks, free, cell, Task::Content(to, free))
+        }
         YielderView::OnTwo {
             operation,
             first,
@@ -206,11 +237,7 @@ fn append_value(
         YielderView::OnOne {
             operation,
             argument,
-        } => {
-            tasks.push(Task::OnOne(operation, to, free))?;
-            tasks.push(Task::Value(argument, free, free))?;
-            Ok(())
-        }
+        } => push_behind(tasks, free, argument, Task::OnOne(operation, to, free)),
         _ => unreachable!(),
     }
 }
@@ -226,12 +253,12 @@ pub(crate) fn append_task(
     requires ready { IsReady source.now.graph.now.yielders task }
     requires rest { All (IsReady source.now.graph.now.yielders) tasks.old.items }
     ensures items { OnOk result (IsAppended
-        (task_items source.now.graph.now.yielders source.now.given.now source.now.nothing task
-        ++ items_of source.now.graph.now.yielders source.now.given.now source.now.nothing
-        tasks.old.items) (items_of source.now.graph.now.yielders source.now.given.now
+        (task_items source.now.graph.now.yielders (places_of source.now) source.now.nothing task
+        ++ items_of source.now.graph.now.yielders (places_of source.now) source.now.nothing
+        tasks.old.items) (items_of source.now.graph.now.yielders (places_of source.now)
         source.now.nothing tasks.new.items) asm.old asm.new) }
     ensures err { OnErr result (AppendsFrontOf (task_items source.now.graph.now.yielders
-        source.now.given.now source.now.nothing task) asm.old asm.new) }
+        (places_of source.now) source.now.nothing task) asm.old asm.new) }
     ensures ready { OnOk result
         (All (IsReady source.now.graph.now.yielders) tasks.new.items) }
     ensures words { OnOk result (HaveWords source.now.graph.now.yielders tasks.new.items
@@ -247,5 +274,6 @@ pub(crate) fn append_task(
         Task::OnTwo(operation, to, a, b) => append_operation(asm, operation, to, a, b, nothing),
         Task::Addition(to, a, constant) => append_addition(asm, to, a, constant, nothing),
         Task::OnOne(operation, to, a) => append_one(asm, operation, to, a, nothing),
+        Task::Content(to, a) => append_content(asm, to, a, nothing),
     }
 }

@@ -8,7 +8,9 @@ ghost use Rattle.action_terms.specs.Numbering.{node_limit};
 ghost use Rattle.rv_yield.specs.Calls.{calls};
 ghost use Rattle.rv_yield.specs.Evaluates.{Evaluates, Stores};
 ghost use Rattle.rv_yield.specs.Fronts.{extended, AppendsFrontOf};
+ghost use Rattle.rv_yield.specs.Holding.{slots_of};
 ghost use Rattle.rv_yield.specs.Registers.{HasWords, registers_needed, is_built, first_register, registers_end};
+ghost use Rattle.rv_yield.specs.Sources.{places_of, places_in};
 ghost use Rattle.rv_yield.specs.YielderCode.{value_items, stored_items};
 
 use crate::needs::registers_needed;
@@ -30,7 +32,8 @@ const VALUE: Reg = Reg(10);
 pub struct Slots<'a> {
     /// Where the data that are given stand, one for each.
     pub given: &'a [u32],
-    /// Where what tokens are bound to stands, by the token's bytes. No code reads it yet.
+    /// Where what tokens are bound to stands, by the token's bytes. A token that isn't there counts
+    /// as not bound.
     pub bound: &'a [(&'a [u8], u32)],
     /// The word for the datum.
     pub target: u32,
@@ -54,10 +57,10 @@ pub fn value_code(
     requires room { register + registers_needed (yielder_at source.now.graph.now.yielders yielder)
         ≤ registers_end }
     requires label { source.now.nothing < asm.old.labels }
-    ensures items { OnOk result (asm.new ≡ extended asm.old (value_items source.now.given.now
+    ensures items { OnOk result (asm.new ≡ extended asm.old (value_items (places_of source.now)
         register register source.now.nothing
         (yielder_at source.now.graph.now.yielders yielder))) }
-    ensures evaluates { OnOk result (Evaluates source.now.given.now register source.now.nothing
+    ensures evaluates { OnOk result (Evaluates (places_of source.now) register source.now.nothing
         (yielder_at source.now.graph.now.yielders yielder) asm.old asm.new) }
     ensures short { OnOk result (total asm.new.items ≤ total asm.old.items
         + 12 * yielder_count (yielder_at source.now.graph.now.yielders yielder)) }
@@ -65,7 +68,7 @@ pub fn value_code(
     ensures quiet { OnOk result (calls asm.new.items ≡ calls asm.old.items) }
     ensures words { OnOk result (HasWords
         (yielder_at source.now.graph.now.yielders yielder)) }
-    ensures err { OnErr result (AppendsFrontOf (value_items source.now.given.now register register
+    ensures err { OnErr result (AppendsFrontOf (value_items (places_of source.now) register register
         source.now.nothing (yielder_at source.now.graph.now.yielders yielder)) asm.old asm.new) }
 {
     let mut tasks = Vec::new(alloc);
@@ -91,15 +94,15 @@ pub fn stored_code(
     requires few { yielder_count (yielder_at source.now.graph.now.yielders yielder) < node_limit }
     requires target { target < 33554432 }
     requires label { source.now.nothing < asm.old.labels }
-    ensures items { OnOk result (asm.new ≡ extended asm.old (stored_items source.now.given.now
+    ensures items { OnOk result (asm.new ≡ extended asm.old (stored_items (places_of source.now)
         target source.now.nothing (yielder_at source.now.graph.now.yielders yielder))) }
-    ensures stores { OnOk result (Stores source.now.given.now target source.now.nothing
+    ensures stores { OnOk result (Stores (places_of source.now) target source.now.nothing
         (yielder_at source.now.graph.now.yielders yielder) asm.old asm.new) }
     ensures short { OnOk result (total asm.new.items ≤ total asm.old.items
         + 22 * yielder_count (yielder_at source.now.graph.now.yielders yielder)) }
     ensures placed { OnOk result ((l : ℕ) → is_placed asm.new.items l ≡ is_placed asm.old.items l) }
     ensures quiet { OnOk result (calls asm.new.items ≡ calls asm.old.items) }
-    ensures err { OnErr result (AppendsFrontOf (stored_items source.now.given.now target
+    ensures err { OnErr result (AppendsFrontOf (stored_items (places_of source.now) target
         source.now.nothing (yielder_at source.now.graph.now.yielders yielder)) asm.old asm.new) }
 {
     value_code(alloc, asm, source, yielder, VALUE)?;
@@ -120,17 +123,18 @@ pub fn yield_code(
     requires built { is_built (yielder_at graph.now.yielders yielder) ≡ true }
     requires few { yielder_count (yielder_at graph.now.yielders yielder) < node_limit }
     requires given { All (λ offset. offset < 33554432) slots.now.given.now }
+    requires bound { All (λ slot. slot.offset < 33554432) (slots_of slots.now.bound.now) }
     requires target { slots.now.target < 33554432 }
     requires label { slots.now.nothing < asm.old.labels }
-    ensures items { OnOk result (asm.new ≡ extended asm.old (stored_items slots.now.given.now
+    ensures items { OnOk result (asm.new ≡ extended asm.old (stored_items (places_in slots.now)
         slots.now.target slots.now.nothing (yielder_at graph.now.yielders yielder))) }
-    ensures stores { OnOk result (Stores slots.now.given.now slots.now.target slots.now.nothing
+    ensures stores { OnOk result (Stores (places_in slots.now) slots.now.target slots.now.nothing
         (yielder_at graph.now.yielders yielder) asm.old asm.new) }
     ensures short { OnOk result (total asm.new.items ≤ total asm.old.items
         + 22 * yielder_count (yielder_at graph.now.yielders yielder)) }
     ensures placed { OnOk result ((l : ℕ) → is_placed asm.new.items l ≡ is_placed asm.old.items l) }
     ensures quiet { OnOk result (calls asm.new.items ≡ calls asm.old.items) }
-    ensures err { OnErr result (AppendsFrontOf (stored_items slots.now.given.now slots.now.target
+    ensures err { OnErr result (AppendsFrontOf (stored_items (places_in slots.now) slots.now.target
         slots.now.nothing (yielder_at graph.now.yielders yielder)) asm.old asm.new) }
 {
     let needs = registers_needed(alloc, graph)?;
@@ -138,6 +142,7 @@ pub fn yield_code(
         graph,
         needs: &needs,
         given: slots.given,
+        bound: slots.bound,
         nothing: slots.nothing,
     };
     stored_code(alloc, asm, &source, yielder, slots.target)

@@ -12,6 +12,7 @@ use Rattle.action_terms.specs.Yielding.{yields}
 use Rattle.action_terms.specs.declared.kinds.Sort.TheVariants as sort
 use Rattle.rv_yield.specs.Evaluates.{Finds, CanEvaluate}
 use Rattle.rv_yield.specs.Fronts.{extended}
+use Rattle.rv_yield.specs.Holding.{Places}
 use Rattle.rv_yield.specs.YielderCode.{value_items}
 
 -- no cell and no closure
@@ -25,16 +26,23 @@ state = record { pc = 65536; registers = λ k. 131072; words = 0 ∷ 7 ∷ 9 ∷
 abbrev data_given : Data
 data_given = Number (pos 9) ∷ Number (pos 7) ∷ []
 
+-- where the data stand; no token is bound
+abbrev offsets : Places
+offsets = record { given = 2 ∷ 1 ∷ []; bound = [] }
+
 -- the first datum stands in the third word
-pub two-found : Finds 131072 no_heap (2 ∷ 1 ∷ []) 0 state data_given
+pub two-found : Finds 131072 no_heap offsets 0 state data_given NoBinds []
 two-found = record {
   frame = record { aligned = refl; below = omega arith; frame = refl };
   inside = All-cons (λ o. 0 + o < 3) 2 (1 ∷ []) (omega arith) (All-cons (λ o. 0 + o < 3) 1 [] (omega arith) (All-nil (λ o. 0 + o < 3)));
+  slots_inside = All-nil (λ s. 0 + s.offset < 3);
   holds = ((refl, record { sfits = omega arith }), ((refl, record { sfits = omega arith }), tt));
   cells = record {
     inside = λ k p q. absurd (let e : None ≡ Some p = q in cc);
     apart = λ j k p q r. absurd (let e : None ≡ Some p = q in cc);
   };
+  binds = tt;
+  contents = record { many = refl; content = λ k p o q r. absurd (let e : None ≡ Some p = q in cc) };
 }
 
 abbrev first_is_less : Yielder
@@ -42,10 +50,6 @@ first_is_less = OnTwo Less (GivenAt sort.Integer 1) (GivenAt sort.Integer 2)
 
 pub less-suited : IsSuited first_is_less data_given NoBinds []
 less-suited = (refl, refl, (refl, refl))
-
--- where the data stand
-abbrev offsets : List ℕ
-offsets = 2 ∷ 1 ∷ []
 
 -- an assembler with a label, and nothing emitted
 abbrev empty : Listing
@@ -56,7 +60,7 @@ abbrev compared : Listing
 compared = extended empty (value_items offsets 10 10 0 first_is_less)
 
 pub less-ready : CanEvaluate offsets first_is_less empty compared [] 131072 0 no_heap data_given NoBinds [] state
-less-ready = record { near = omega arith; before = refl; finds = two-found; suited = less-suited }
+less-ready = record { near = omega arith; before = refl; finds = two-found; slots = (tt, tt); suited = less-suited }
 
 -- the comparison yields a truth-value, as is asked of a condition: 9 isn't less than 7
 pub less-decides : IsOfSort sort.Truth (yields first_is_less data_given NoBinds [])

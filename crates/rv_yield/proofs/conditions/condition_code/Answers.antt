@@ -1,6 +1,6 @@
 -- The code of the condition is that of what is behind its negations.
 use Rattle.std.proofs.Common.{Ok, Err, OnOk, true, ap, ◌∙◌, sym, subst, arith}
-use Rattle.std.proofs.lemmas.Result.{on_ok_weaker}
+use Rattle.std.proofs.lemmas.Result.{on_ok_weaker, on_err_weaker}
 use Rattle.std.specs.declared.result.Result.{Result}
 use Rattle.rv_asm.specs.Assembly.{total, is_placed}
 use Rattle.rv_asm.proofs.Labels.{total-append}
@@ -8,7 +8,8 @@ use Rattle.action_terms.specs.Forms.{yielder_at}
 use Rattle.rv_yield.specs.Calls.{calls}
 use Rattle.rv_yield.specs.Conditions.{condition_items}
 use Rattle.rv_yield.specs.Evaluates.{Decides}
-use Rattle.rv_yield.specs.Fronts.{extended}
+use Rattle.rv_yield.specs.Fronts.{extended, AppendsFrontOf}
+use Rattle.rv_yield.specs.Sources.{places_of}
 use Rattle.rv_yield.proofs.ConditionLaws.{condition-short}
 use Rattle.rv_yield.proofs.Decided.{decides}
 use Rattle.rv_yield.proofs.ItemLaws.{placed-unmarked, calls-unmarked}
@@ -27,8 +28,8 @@ returns-clause-decides c =
     on_ok_two c.append_condition.result
     (λ e w.
     let all = e ∙ ap (extended c.args.asm.now) (sym (c.without_negations-wanted.ensures.items o)) in
-    subst (Decides s.given.now o s.nothing y c.args.asm.now) (sym all)
-    (decides s.given.now o s.nothing y c.args.asm.now s.near c.requires.built (c.without_negations-wanted.ensures.words w) (registers-enough y c.requires.few)))
+    subst (Decides (places_of s) o s.nothing y c.args.asm.now) (sym all)
+    (decides (places_of s) o s.nothing y c.args.asm.now (record { given = s.near; bound = s.slots_near }) c.requires.built (c.without_negations-wanted.ensures.words w) (registers-enough y c.requires.few)))
     c.append_condition.ensures.ok c.append_condition.ensures.words
 
 pub returns-clause-short : goal.returns-clause-short
@@ -36,11 +37,11 @@ returns-clause-short c =
     let s = c.args.source.now in
     let o = c.args.otherwise in
     let y = yielder_at s.graph.now.yielders c.args.yielder in
-    let piece = condition_items s.given.now true o s.nothing y in
+    let piece = condition_items (places_of s) true o s.nothing y in
     on_ok_weaker c.append_condition.result
     (λ e.
     let all = e ∙ ap (extended c.args.asm.now) (sym (c.without_negations-wanted.ensures.items o)) in
-    omega (arith, ap (λ l. total l.items) all, total-append c.args.asm.now.items piece, (condition-short s.given.now o s.nothing y true).few))
+    omega (arith, ap (λ l. total l.items) all, total-append c.args.asm.now.items piece, (condition-short (places_of s) o s.nothing y true).few))
     c.append_condition.ensures.ok
 
 pub returns-clause-placed : goal.returns-clause-placed
@@ -48,11 +49,11 @@ returns-clause-placed c =
     let s = c.args.source.now in
     let o = c.args.otherwise in
     let y = yielder_at s.graph.now.yielders c.args.yielder in
-    let piece = condition_items s.given.now true o s.nothing y in
+    let piece = condition_items (places_of s) true o s.nothing y in
     on_ok_weaker c.append_condition.result
     (λ e l.
     let all = e ∙ ap (extended c.args.asm.now) (sym (c.without_negations-wanted.ensures.items o)) in
-    ap (λ i. is_placed i.items l) all ∙ placed-unmarked c.args.asm.now.items piece l (condition-short s.given.now o s.nothing y true).unmarked)
+    ap (λ i. is_placed i.items l) all ∙ placed-unmarked c.args.asm.now.items piece l (condition-short (places_of s) o s.nothing y true).unmarked)
     c.append_condition.ensures.ok
 
 pub returns-clause-quiet : goal.returns-clause-quiet
@@ -60,9 +61,15 @@ returns-clause-quiet c =
     let s = c.args.source.now in
     let o = c.args.otherwise in
     let y = yielder_at s.graph.now.yielders c.args.yielder in
-    let piece = condition_items s.given.now true o s.nothing y in
+    let piece = condition_items (places_of s) true o s.nothing y in
     on_ok_weaker c.append_condition.result
     (λ e.
     let all = e ∙ ap (extended c.args.asm.now) (sym (c.without_negations-wanted.ensures.items o)) in
-    ap (λ i. calls i.items) all ∙ calls-unmarked c.args.asm.now.items piece (condition-short s.given.now o s.nothing y true).unmarked)
+    ap (λ i. calls i.items) all ∙ calls-unmarked c.args.asm.now.items piece (condition-short (places_of s) o s.nothing y true).unmarked)
     c.append_condition.ensures.ok
+
+pub returns-clause-err : goal.returns-clause-err
+returns-clause-err c =
+    on_err_weaker c.append_condition.result
+    (λ f. subst (λ i. AppendsFrontOf i c.args.asm.now c.append_condition.new.asm) (sym (c.without_negations-wanted.ensures.items c.args.otherwise)) f)
+    c.append_condition.ensures.err

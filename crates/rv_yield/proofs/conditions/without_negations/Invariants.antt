@@ -4,6 +4,7 @@ use Rattle.action_terms.specs.Forms.{yielder_at, IsDatum}
 use Rattle.action_terms.specs.Need.{yielder_count}
 use Rattle.rv_yield.specs.Conditions.{condition_items}
 use Rattle.rv_yield.specs.Registers.{HasWords, is_built}
+use Rattle.rv_yield.specs.Sources.{places_of}
 use Rattle.rv_yield.proofs.conditions.without_negations.Given as goal
 
 abbrev pub invariant-loop-argument : goal.invariant-loop-argument
@@ -14,8 +15,8 @@ invariant-loop-argument l = record {
   words : HasWords (yielder_at l.source.graph.now.yielders l.wanted.yielder) → HasWords (yielder_at l.source.graph.now.yielders l.fn.yielder);
   items :
       (otherwise : ℕ) →
-      condition_items l.source.given.now true otherwise l.source.nothing (yielder_at l.source.graph.now.yielders l.fn.yielder)
-      ≡ condition_items l.source.given.now l.wanted.value otherwise l.source.nothing (yielder_at l.source.graph.now.yielders l.wanted.yielder);
+      condition_items (places_of l.source) true otherwise l.source.nothing (yielder_at l.source.graph.now.yielders l.fn.yielder)
+      ≡ condition_items (places_of l.source) l.wanted.value otherwise l.source.nothing (yielder_at l.source.graph.now.yielders l.wanted.yielder);
 }
 
 abbrev pub decreases-loop-argument : goal.decreases-loop-argument

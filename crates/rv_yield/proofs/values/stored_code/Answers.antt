@@ -10,6 +10,7 @@ use Rattle.rv_yield.specs.Calls.{calls}
 use Rattle.rv_yield.specs.Evaluates.{Stores}
 use Rattle.rv_yield.specs.Fronts.{extended}
 use Rattle.rv_yield.specs.YielderCode.{value_items, store_items}
+use Rattle.rv_yield.specs.Sources.{places_of}
 use Rattle.rv_yield.proofs.Fronts.{extended-twice, front-first, front-second}
 use Rattle.rv_yield.proofs.ItemLaws.{placed-unmarked, calls-unmarked, unmarked-plain, quiet-store}
 use Rattle.rv_yield.proofs.NeedLaws.{registers-enough}
@@ -25,20 +26,20 @@ pub returns-in_err-value_code-clause-err : goal.returns-in_err-value_code-clause
 returns-in_err-value_code-clause-err c =
     let s = c.args.source.now in
     let y = yielder_at c.args.source.now.graph.now.yielders c.args.yielder in
-    let front = front-first (value_items s.given.now 10 10 s.nothing y) (map Plain (store_items c.args.target)) c.args.asm.now c.value_code.new.asm c.in_err-value_code.ensures.err in
+    let front = front-first (value_items (places_of s) 10 10 s.nothing y) (map Plain (store_items c.args.target)) c.args.asm.now c.value_code.new.asm c.in_err-value_code.ensures.err in
     search rules
 
 pub returns-clause-stores : goal.returns-clause-stores
 returns-clause-stores c =
     let s = c.args.source.now in
     let y = yielder_at c.args.source.now.graph.now.yielders c.args.yielder in
-    let value = value_items s.given.now 10 10 s.nothing y in
+    let value = value_items (places_of s) 10 10 s.nothing y in
     let store = map Plain (store_items c.args.target) in
     on_ok_weaker c.append_store.result
     (λ e.
     let all = e ∙ ap (λ i. extended i store) c.in_ok-value_code.ensures.items ∙ extended-twice c.args.asm.now value store in
-    subst (Stores s.given.now c.args.target s.nothing y c.args.asm.now) (sym all)
-    (stores s.given.now c.args.target s.nothing y c.args.asm.now s.near c.requires.built c.in_ok-value_code.ensures.words (registers-enough y c.requires.few) c.requires.target))
+    subst (Stores (places_of s) c.args.target s.nothing y c.args.asm.now) (sym all)
+    (stores (places_of s) c.args.target s.nothing y c.args.asm.now (record { given = s.near; bound = s.slots_near }) c.requires.built c.in_ok-value_code.ensures.words (registers-enough y c.requires.few) c.requires.target))
     c.append_store.ensures.ok
 
 pub returns-clause-short : goal.returns-clause-short
@@ -72,5 +73,5 @@ returns-clause-err c =
     let s = c.args.source.now in
     let y = yielder_at c.args.source.now.graph.now.yielders c.args.yielder in
     on_err_weaker c.append_store.result
-    (λ f. front-second (value_items s.given.now 10 10 s.nothing y) (map Plain (store_items c.args.target)) c.args.asm.now c.value_code.new.asm c.append_store.new.asm c.in_ok-value_code.ensures.items f)
+    (λ f. front-second (value_items (places_of s) 10 10 s.nothing y) (map Plain (store_items c.args.target)) c.args.asm.now c.value_code.new.asm c.append_store.new.asm c.in_ok-value_code.ensures.items f)
     c.append_store.ensures.err

@@ -6,14 +6,15 @@ use Rattle.rv_yield.specs.Fronts.{IsAppended}
 use Rattle.rv_yield.specs.Registers.{HasWords}
 use Rattle.rv_yield.specs.YielderCode.{value_items}
 use Rattle.rv_yield.specs.Tasks.{items_of, IsReady, HaveWords, turns}
+use Rattle.rv_yield.specs.Sources.{places_of}
 use Rattle.rv_yield.proofs.values.value_code.Given as goal
 
 abbrev pub invariant-loop-task : goal.invariant-loop-task
 invariant-loop-task l = record {
   labels : l.asm.labels ≡ l.initial.asm.labels;
   items :
-      IsAppended (value_items l.source.given.now l.fn.register l.fn.register l.source.nothing (yielder_at l.source.graph.now.yielders l.yielder))
-      (items_of l.source.graph.now.yielders l.source.given.now l.source.nothing l.tasks.items) l.initial.asm l.asm;
+      IsAppended (value_items (places_of l.source) l.fn.register l.fn.register l.source.nothing (yielder_at l.source.graph.now.yielders l.yielder))
+      (items_of l.source.graph.now.yielders (places_of l.source) l.source.nothing l.tasks.items) l.initial.asm l.asm;
   ready : All (IsReady l.source.graph.now.yielders) l.tasks.items;
   words : HaveWords l.source.graph.now.yielders l.tasks.items → HasWords (yielder_at l.source.graph.now.yielders l.yielder);
 }
