@@ -1,5 +1,7 @@
 //! What tokens are bound to and what cells hold, by the code of yielders.
 
+ghost use Rattle.std.specs.Prelude.{◌<◌};
+
 use crate::programs::{Bound, Placed, REGION, truth_bound, truth_of, value_bound, value_of};
 use action_terms::{Sort, YKind};
 use std::test::Fail;

@@ -193,12 +193,12 @@ fn append_asked(
 }
 
 // The code of a program of a yielder.
-fn assembled(
+fn assembled<'a>(
     alloc: Global,
-    graph: &Graph<'_>,
-    needs: &[usize],
+    graph: &'a Graph<'a>,
+    needs: &'a [usize],
     yielder: u32,
-    offsets: &[u32],
+    offsets: &'a [u32],
     given: &[Placed],
     bound: Bound,
     asked: Asked,
