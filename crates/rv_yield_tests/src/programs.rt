@@ -5,6 +5,7 @@ ghost use Rattle.rv_asm.specs.Assembly.{total};
 ghost use Rattle.action_terms.specs.Forms.{IsDatum, yielder_at};
 ghost use Rattle.action_terms.specs.Need.{yielder_count};
 ghost use Rattle.action_terms.specs.Numbering.{node_limit};
+ghost use Rattle.rv_yield.specs.Holding.{slots_of};
 ghost use Rattle.rv_yield.specs.Registers.{AreNeeds, is_built};
 
 use acg_base::{LIMIT_NODES, ListSink, Memory};
@@ -199,8 +200,8 @@ fn assembled<'a>(
     needs: &'a [usize],
     yielder: u32,
     offsets: &'a [u32],
+    slots: &'a [(&'a [u8], u32)],
     given: &[Placed],
-    bound: Bound,
     asked: Asked,
 ) -> Result<Code, Memory>
     requires datum { IsDatum graph.now.yielders yielder }
@@ -209,7 +210,7 @@ fn assembled<'a>(
     requires needs { AreNeeds graph.now.yielders needs.now }
     requires near { All (λ offset. offset < 33554432) offsets.now }
     requires given { length given.now ≤ 8 }
-    requires bound { (bound.x < 1024) × (bound.y < 1024) }
+    requires slots { All (λ slot. slot.offset < 33554432) (slots_of slots.now) }
 {
     let mut asm = Asm::new(alloc)?;
     let start = asm.label()?;
@@ -218,12 +219,11 @@ fn assembled<'a>(
     append_failures(&mut asm, start, nothing, otherwise)?;
     append_start(&mut asm)?;
     append_words(&mut asm, given)?;
-    let slots: [(&[u8], u32); 2] = [(b"y", bound.y), (b"x", bound.x)];
     let source = Source {
         graph,
         needs,
         given: offsets,
-        bound: &slots,
+        bound: slots,
         nothing,
     };
     append_asked(alloc, &mut asm, &source, yielder, asked, otherwise)?;
@@ -255,7 +255,10 @@ fn code_of(
     {
         return Err("no code".into());
     }
-    Ok(assembled(alloc, graph, &needs, yielder, &offsets, given, bound, asked)?)
+    let slots: [(&[u8], u32); 2] = [(b"y", bound.y), (b"x", bound.x)];
+    Ok(assembled(
+        alloc, graph, &needs, yielder, &offsets, &slots, given, asked,
+    )?)
 }
 
 // The image of code, with a region far behind it.
