@@ -4,6 +4,8 @@
 #[cfg(test)]
 mod evaluation;
 #[cfg(test)]
+mod lookups;
+#[cfg(test)]
 mod programs;
 #[cfg(test)]
 mod truths;

@@ -5,6 +5,7 @@ ghost use Rattle.rv_asm.specs.Assembly.{total};
 ghost use Rattle.action_terms.specs.Forms.{IsDatum, yielder_at};
 ghost use Rattle.action_terms.specs.Need.{yielder_count};
 ghost use Rattle.action_terms.specs.Numbering.{node_limit};
+ghost use Rattle.rv_yield.specs.Holding.{slots_of};
 ghost use Rattle.rv_yield.specs.Registers.{AreNeeds, is_built};
 
 use acg_base::{LIMIT_NODES, ListSink, Memory};
@@ -24,7 +25,7 @@ use std::process::Abort;
 use std::test::Fail;
 
 /// The address of the region, behind all code, at which the frame begins.
-const REGION: u64 = 33554432;
+pub(crate) const REGION: u64 = 33554432;
 
 /// The bytes of the region.
 const REGION_SIZE: u64 = 8192;
@@ -42,8 +43,28 @@ pub(crate) enum Asked {
     Condition,
 }
 
-fn push(builder: &mut GraphBuilder<'_>, kind: YKind) -> Result<(), Fail> {
-    let _number = builder.push_yielder(NewYielder { kind, token: b"" })?;
+/// The token that each `bound to` names, and where the tokens `x` and `y` have their slots; no other
+/// token has one.
+#[derive(Clone, Copy)]
+pub(crate) struct Bound {
+    pub(crate) token: &'static [u8],
+    pub(crate) x: u32,
+    pub(crate) y: u32,
+}
+
+/// The tokens have slots at the front of the frame, and none is named.
+const NONE_BOUND: Bound = Bound {
+    token: b"",
+    x: 0,
+    y: 1,
+};
+
+fn push(builder: &mut GraphBuilder<'_>, kind: YKind, named: &'static [u8]) -> Result<(), Fail> {
+    let token = match kind {
+        YKind::Bound { .. } => named,
+        _ => b"",
+    };
+    let _number = builder.push_yielder(NewYielder { kind, token })?;
     Ok(())
 }
 
@@ -162,7 +183,7 @@ fn append_asked(
         Asked::Value(offset) => {
             let slots = Slots {
                 given: source.given,
-                bound: &[],
+                bound: source.bound,
                 target: offset % 1024,
                 nothing: source.nothing,
             };
@@ -173,12 +194,13 @@ fn append_asked(
 }
 
 // The code of a program of a yielder.
-fn assembled(
+fn assembled<'a>(
     alloc: Global,
-    graph: &Graph<'_>,
-    needs: &[usize],
+    graph: &'a Graph<'a>,
+    needs: &'a [usize],
     yielder: u32,
-    offsets: &[u32],
+    offsets: &'a [u32],
+    slots: &'a [(&'a [u8], u32)],
     given: &[Placed],
     asked: Asked,
 ) -> Result<Code, Memory>
@@ -188,6 +210,7 @@ fn assembled(
     requires needs { AreNeeds graph.now.yielders needs.now }
     requires near { All (λ offset. offset < 33554432) offsets.now }
     requires given { length given.now ≤ 8 }
+    requires slots { All (λ slot. slot.offset < 33554432) (slots_of slots.now) }
 {
     let mut asm = Asm::new(alloc)?;
     let start = asm.label()?;
@@ -200,6 +223,7 @@ fn assembled(
         graph,
         needs,
         given: offsets,
+        bound: slots,
         nothing,
     };
     append_asked(alloc, &mut asm, &source, yielder, asked, otherwise)?;
@@ -207,12 +231,21 @@ fn assembled(
 }
 
 // The code of a program of the only yielder of an action.
-fn code_of(alloc: Global, graph: &Graph<'_>, given: &[Placed], asked: Asked) -> Result<Code, Fail> {
+fn code_of(
+    alloc: Global,
+    graph: &Graph<'_>,
+    given: &[Placed],
+    bound: Bound,
+    asked: Asked,
+) -> Result<Code, Fail> {
     let needs = registers_needed(alloc, graph)?;
     let counts = yielder_counts(alloc, graph)?;
     let offsets = offsets_of(alloc, given)?;
     if graph.nodes().is_empty() || given.len() > 8 {
         return Err("no node".into());
+    }
+    if bound.x >= 1024 || bound.y >= 1024 {
+        return Err("far".into());
     }
     let NodeView::Simple(PrimitiveView::Send { yielder }) = graph.view(0) else {
         return Err("no send".into());
@@ -222,7 +255,10 @@ fn code_of(alloc: Global, graph: &Graph<'_>, given: &[Placed], asked: Asked) -> 
     {
         return Err("no code".into());
     }
-    Ok(assembled(alloc, graph, &needs, yielder, &offsets, given, asked)?)
+    let slots: [(&[u8], u32); 2] = [(b"y", bound.y), (b"x", bound.x)];
+    Ok(assembled(
+        alloc, graph, &needs, yielder, &offsets, &slots, given, asked,
+    )?)
 }
 
 // The image of code, with a region far behind it.
@@ -258,11 +294,12 @@ fn ended(
     alloc: Global,
     kinds: &[YKind],
     given: &[Placed],
+    bound: Bound,
     asked: Asked,
 ) -> Result<(Run, Option<i64>), Fail> {
     let arena = Bump::new(alloc);
-    let graph = graph_of(rt, alloc, &arena, kinds)?;
-    let code = code_of(alloc, &graph, given, asked)?;
+    let graph = graph_of(rt, alloc, &arena, kinds, bound.token)?;
+    let code = code_of(alloc, &graph, given, bound, asked)?;
     let image = image_of(rt, alloc, code.words.as_slice())?;
     let mut machine = Machine::load(alloc, image).ok().ok_or("memory")?;
     let mut input = Input { bytes: b"", at: 0 };
@@ -284,6 +321,7 @@ fn graph_of<'a>(
     alloc: Global,
     arena: &'a Bump,
     kinds: &[YKind],
+    named: &'static [u8],
 ) -> Result<Graph<'a>, Fail> {
     let mut builder = GraphBuilder::new(alloc, arena)?;
     let _root = builder.push_action(NewAction {
@@ -292,7 +330,7 @@ fn graph_of<'a>(
         token: b"",
     })?;
     for kind in kinds {
-        push(&mut builder, *kind)?;
+        push(&mut builder, *kind, named)?;
     }
     assert!(rt; builder.is_whole());
     Ok(builder.seal()?)
@@ -307,7 +345,19 @@ pub(crate) fn value_of(
     given: &[Placed],
     offset: u32,
 ) -> Result<Option<i64>, Fail> {
-    let (end, word) = ended(rt, alloc, kinds, given, Asked::Value(offset))?;
+    value_bound(rt, alloc, kinds, given, NONE_BOUND, offset)
+}
+
+/// The same, where tokens are bound.
+pub(crate) fn value_bound(
+    rt: &impl Abort,
+    alloc: Global,
+    kinds: &[YKind],
+    given: &[Placed],
+    bound: Bound,
+    offset: u32,
+) -> Result<Option<i64>, Fail> {
+    let (end, word) = ended(rt, alloc, kinds, given, bound, Asked::Value(offset))?;
     if end == (Run::Exited { code: 1 }) {
         assert!(rt; word.is_none());
     } else {
@@ -324,7 +374,18 @@ pub(crate) fn truth_of(
     kinds: &[YKind],
     given: &[Placed],
 ) -> Result<Option<bool>, Fail> {
-    let (end, word) = ended(rt, alloc, kinds, given, Asked::Condition)?;
+    truth_bound(rt, alloc, kinds, given, NONE_BOUND)
+}
+
+/// The same, where tokens are bound.
+pub(crate) fn truth_bound(
+    rt: &impl Abort,
+    alloc: Global,
+    kinds: &[YKind],
+    given: &[Placed],
+    bound: Bound,
+) -> Result<Option<bool>, Fail> {
+    let (end, word) = ended(rt, alloc, kinds, given, bound, Asked::Condition)?;
     assert!(rt; word.is_none());
     match end {
         Run::Exited { code: 3 } => Ok(Some(true)),
