@@ -1,15 +1,10 @@
-//! What tokens are bound to and what cells hold, by the code of yielders.
+//! What cells hold, by the code of yielders.
 
 ghost use Rattle.std.specs.Prelude.{◌<◌};
 
-use crate::programs::{Bound, Placed, REGION, truth_bound, truth_of, value_bound, value_of};
+use crate::programs::{Placed, REGION, truth_of, value_of};
 use action_terms::{Sort, YKind};
 use std::test::Fail;
-
-/// The datum of a token.
-const BOUND: YKind = YKind::Bound {
-    sort: Sort::Integer,
-};
 
 /// What a cell holds.
 const STORED: YKind = YKind::Stored {
@@ -27,54 +22,6 @@ fn cell_at(offset: u32) -> i64
     requires { offset < 1024 }
 {
     (REGION + 8 * u64::from(offset)) as i64
-}
-
-// Near the frame, at the last offset that is near, at the first that is far, and behind it; the
-// slots beside it hold other words.
-#[test]
-fn bound_tokens(rt: HostRuntime) -> Result<(), Fail> {
-    for offset in [32, 255, 256, 300] {
-        let words: [Placed; 3] = [(offset - 1, 1), (offset, -70000), (offset + 1, 3)];
-        let x = Bound {
-            token: b"x",
-            x: offset,
-            y: offset + 1,
-        };
-        let y = Bound { token: b"y", ..x };
-        let sum = [YKind::Sum, BOUND, BOUND];
-        assert_eq!(rt;
-            value_bound(&rt, rt.alloc(), &[BOUND], &words, x, 7)?,
-            Some(-70000)
-        );
-        assert_eq!(rt;
-            value_bound(&rt, rt.alloc(), &[BOUND], &words, y, 7)?,
-            Some(3)
-        );
-        assert_eq!(rt;
-            value_bound(&rt, rt.alloc(), &sum, &words, x, 7)?,
-            Some(-140000)
-        );
-    }
-    Ok(())
-}
-
-#[test]
-fn a_token_without_a_slot(rt: HostRuntime) -> Result<(), Fail> {
-    let words: [Placed; 2] = [(4, 1), (5, 1)];
-    let z = Bound {
-        token: b"z",
-        x: 4,
-        y: 5,
-    };
-    let longer = Bound { token: b"xx", ..z };
-    let condition = [YKind::Bound { sort: Sort::Truth }];
-    assert_eq!(rt; value_bound(&rt, rt.alloc(), &[BOUND], &words, z, 7)?, None);
-    assert_eq!(rt;
-        value_bound(&rt, rt.alloc(), &[BOUND], &words, longer, 7)?,
-        None
-    );
-    assert_eq!(rt; truth_bound(&rt, rt.alloc(), &condition, &words, z)?, None);
-    Ok(())
 }
 
 // A cell's unit has a flag and a word: the word of an unset cell isn't read.
@@ -109,23 +56,12 @@ fn a_cell_within_a_cell(rt: HostRuntime) -> Result<(), Fail> {
     Ok(())
 }
 
-// A condition that a cell holds, or that a token is bound to, also under a negation.
+// A condition that a cell holds, also under a negation.
 #[test]
 fn conditions_that_are_looked_up(rt: HostRuntime) -> Result<(), Fail> {
     let stored = YKind::Stored { sort: Sort::Truth };
-    let bound = YKind::Bound { sort: Sort::Truth };
     for value in [false, true] {
-        let words: [Placed; 4] = [
-            (2, cell_at(500)),
-            (500, 1),
-            (501, i64::from(value)),
-            (300, i64::from(value)),
-        ];
-        let x = Bound {
-            token: b"x",
-            x: 300,
-            y: 2,
-        };
+        let words: [Placed; 3] = [(2, cell_at(500)), (500, 1), (501, i64::from(value))];
         assert_eq!(rt;
             truth_of(&rt, rt.alloc(), &[stored, CELL], &words)?,
             Some(value)
@@ -133,10 +69,6 @@ fn conditions_that_are_looked_up(rt: HostRuntime) -> Result<(), Fail> {
         assert_eq!(rt;
             truth_of(&rt, rt.alloc(), &[YKind::Not, stored, CELL], &words)?,
             Some(!value)
-        );
-        assert_eq!(rt;
-            truth_bound(&rt, rt.alloc(), &[bound], &words, x)?,
-            Some(value)
         );
     }
     let unset: [Placed; 2] = [(2, cell_at(500)), (501, 1)];
