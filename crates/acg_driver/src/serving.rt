@@ -36,7 +36,9 @@ fn carry_out<S: Store, K: Sink>(
 
 /// Does what a command line asks for.
 ///
-/// `act ACTION` reads the action text that the store has at the name ACTION, compiles it, and runs its image on no input.
+/// `act ACTION` reads the action text that the store has at the name ACTION, compiles it, and runs its image. Options before
+/// ACTION say the room of the run, `stack=N` and `units=N`, and the most instructions, `budget=N`. Its input is empty, or with
+/// `act ACTION INPUT` the file INPUT.
 /// `run IMAGE` reads the file of an image at the name IMAGE, and runs it for at most 10000000
 /// instructions, or as many as an option `budget=N` before it says. Its input is empty, or with
 /// `run IMAGE INPUT` the file INPUT.
