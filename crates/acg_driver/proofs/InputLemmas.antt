@@ -34,4 +34,3 @@ input-performs contents (Some input) [] bytes line given is within not unread = 
 input-performs contents (Some input) (taken ∷ []) bytes line given is within not refused =
     bytes-perform bytes taken line (given-is contents input bytes taken LIMIT_INPUT is given.0) within refused
 input-performs contents (Some input) (taken ∷ more ∷ others) bytes line given is within not refused = absurd refused
-

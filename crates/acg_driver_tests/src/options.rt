@@ -37,7 +37,13 @@ fn capacities(rt: HostRuntime) -> Result<(), Fail> {
     assert!(rt;
         answers(
             alloc,
-            &["act", "stack=16777216", "units=4194304", "budget=1000000000", "a"],
+            &[
+                "act",
+                "stack=16777216",
+                "units=4194304",
+                "budget=1000000000",
+                "a"
+            ],
             b"send 42",
             b"",
             b"stack 16777216 units 4194304 factor 448\n42\ncompleted\n",
@@ -95,16 +101,43 @@ fn refused_options(rt: HostRuntime) -> Result<(), Fail> {
 fn inputs(rt: HostRuntime) -> Result<(), Fail> {
     let alloc = rt.alloc();
     let sent = b"stack 1048576 units 262144 factor 448\n42\ncompleted\n";
-    assert!(rt; answers(alloc, &["act", "a", "i"], b"send 42", b"1234", sent, Status::Done)?);
+    assert!(rt;
+        answers(
+            alloc,
+            &["act", "a", "i"],
+            b"send 42",
+            b"1234",
+            sent,
+            Status::Done
+        )?
+    );
     let absent = ["act", "a", "absent"];
     let fault = b"read fault absent\n";
     assert!(rt; answers(alloc, &absent, b"send 42", b"", fault, Status::ReadFault)?);
     let stray = b"stray unfold 0\n";
     assert!(rt; answers(alloc, &absent, b"unfold", b"", stray, Status::Action)?);
     let ill_sorted = b"ill-sorted 0\n";
-    assert!(rt; answers(alloc, &absent, b"send true", b"", ill_sorted, Status::IllSorted)?);
+    assert!(rt;
+        answers(
+            alloc,
+            &absent,
+            b"send true",
+            b"",
+            ill_sorted,
+            Status::IllSorted
+        )?
+    );
     let long = vec![in alloc; 0; 8388609]?;
     let limit = b"limit input 8388608\n";
-    assert!(rt; answers(alloc, &["act", "a", "i"], b"send 42", &long, limit, Status::Limit)?);
+    assert!(rt;
+        answers(
+            alloc,
+            &["act", "a", "i"],
+            b"send 42",
+            &long,
+            limit,
+            Status::Limit
+        )?
+    );
     Ok(())
 }
